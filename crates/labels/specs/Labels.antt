@@ -1,0 +1,31 @@
+-- Sets of labels, as numbers: "bit k (worth 2 to the k) stands for label k".
+use mathlib.Core.Bool.{Bool}
+use Prim.Native.Nat.{ℕ, _-_, _/_, _%_, _^_}
+use lib.Dec.{eqb}
+use lib.Bits.{bitAnd, bitOr}
+
+-- label k is in d
+abbrev pub member : ℕ → ℕ → Bool
+member d k = eqb (d / 2 ^ k % 2) 1
+
+-- s lies within d
+abbrev pub subset : ℕ → ℕ → Bool
+subset s d = eqb (bitAnd s d) s
+
+-- d holds nothing, or just label k
+abbrev pub isEmpty : ℕ → Bool
+isEmpty d = eqb d 0
+
+abbrev pub isJust : ℕ → ℕ → Bool
+isJust d k = eqb d (2 ^ k)
+
+-- d with label k
+abbrev pub insert : ℕ → ℕ → ℕ
+insert d k = bitOr d (2 ^ k)
+
+-- d less what it shares with s, and d less label k
+abbrev pub without : ℕ → ℕ → ℕ
+without d s = d - bitAnd d s
+
+abbrev pub remove : ℕ → ℕ → ℕ
+remove d k = without d (2 ^ k)

@@ -1,0 +1,1 @@
+// Sets of labels. specs/ has the definitions.

@@ -1,0 +1,178 @@
+-- What a call answers, by its first failing check; and refusals.
+use mathlib.Core.Path.{_≡_, refl, sym, ap, subst, _∙_}
+use mathlib.Core.List.{List, [], _∷_}
+use mathlib.Core.Option.{Option, none, some}
+use mathlib.Core.Bool.{Bool, true, false}
+use Prim.Native.Nat.{ℕ, _≤_, _<_}
+use native.Mathlib.Omega.{arith}
+use lib.ListN.{length}
+use Rattle.logic.specs.declared.Interval.{Interval}
+use Rattle.logic.proofs.Tests.{no-truth}
+use Rattle.request.specs.declared.Kind.the-variants.{Linear, Unrestricted}
+use Rattle.request.specs.Request.{Step, Request, word, issue, withdraw, book, tally}
+use Rattle.request.specs.Read.{requestOf}
+use Rattle.steps.specs.Check.{Outcome, done, stopped, checkOf}
+use Rattle.steps.proofs.Outcomes.{Sane, check-sane}
+use Rattle.ledger.specs.declared.Credential.{Credential}
+use Rattle.ledger.specs.declared.Answer.{Answer}
+use Rattle.ledger.specs.declared.Answer.the-variants.{Accepted, Counted, Refused}
+use Rattle.ledger.specs.Ledger.{Ledger, row, isNone}
+use Rattle.ledger.specs.Checks.{Refusal, Check, _if_, first, readLabel, writeLabel, verdict, steps, checks}
+use Rattle.ledger.specs.Checks.{readChecks, checksOf}
+use Rattle.ledger.specs.Calls.{Reply, accept, decide, call}
+use Rattle.ledger.specs.Statements.{Refusals, RefusalLeaves}
+
+-- every check passes
+abbrev pub Pass : List Check → Type 0
+Pass [] = Unit {0}
+Pass (c ∷ cs) = (c ≡ none) × Pass cs
+
+abbrev IsSome : {A : Type 0} → Option A → Type 0
+IsSome none = ⊥
+IsSome (some a) = Unit {0}
+
+pub some-none : {A : Type 0} {a : A} → some a ≡ none → ⊥
+some-none e = subst IsSome e tt
+
+pub some-inj : {A : Type 0} {x y : A} → some x ≡ some y → x ≡ y
+some-inj e = cc
+
+-- a check that passes has a test that is false
+pub if-none : (n : ℕ) (b : Bool) → (n if b) ≡ none → b ≡ false
+unfolding _if_
+if-none n true e = absurd (some-none e)
+if-none n false e = refl
+
+pub first-passes : (cs : List Check) → first cs ≡ none → Pass cs
+unfolding first
+first-passes [] e = tt
+first-passes (none ∷ cs) e = (refl, first-passes cs e)
+first-passes (some r ∷ cs) e = absurd (some-none e)
+
+-- What a call does: no check fails only where the bytes read as a request.
+pub data Does (t : Ledger) (b : List ℕ) : Type 0 where
+  refuses : (f : Refusal) → first (checksOf t b) ≡ some f
+      → call t b ≡ record { answer = Refused (f .number) (f .step); ledger = t } → Does t b
+  accepts : (r : Request) → requestOf b ≡ some r → Pass (checksOf t b) → Pass (readChecks t (some r))
+      → call t b ≡ accept t r → Does t b
+
+pub does : (t : Ledger) (b : List ℕ) → Does t b
+unfolding call decide checksOf
+does t b = go (first (checksOf t b)) refl (requestOf b) refl
+  where
+    go : (f : Option Refusal) → first (checksOf t b) ≡ f → (o : Option Request) → requestOf b ≡ o → Does t b
+    go (some f) e o q = refuses f e (ap (λ (x : Option Refusal). decide t x (requestOf b)) e)
+    go none e (some r) q =
+        let p = first-passes (checksOf t b) e in
+        accepts r q p (subst (λ (x : Option Request). Pass (readChecks t x)) q (p .1 .1))
+        (ap (λ (x : Option Refusal). decide t x (requestOf b)) e ∙ ap (decide t none) q)
+    go none e none q =
+        absurd (no-truth (sym (if-none 2 _ (first-passes (checksOf t b) e .1 .0)) ∙ ap isNone q))
+
+-- an answer that is no refusal
+abbrev pub IsAccepted : Answer → Type 0
+IsAccepted (Accepted n) = Unit {0}
+IsAccepted (Counted o s p) = Unit {0}
+IsAccepted (Refused n k) = ⊥
+
+pub accept-accepts : (t : Ledger) (r : Request) → IsAccepted (accept t r .answer)
+unfolding accept
+accept-accepts t (word l) = tt
+accept-accepts t (issue k n i) = tt
+accept-accepts t (withdraw n) = tt
+accept-accepts t (book b) = tt
+accept-accepts t (tally s m) = tt
+
+-- a refusal with its step: from 1 for 40 to 42, else 0
+record Stepped (n k : ℕ) : Type 0 where
+  early : n < 40 → k ≡ 0
+  late : 42 < n → k ≡ 0
+  step : 40 ≤ n → n ≤ 42 → 1 ≤ k
+
+abbrev Proper : Check → Type 0
+Proper none = Unit {0}
+Proper (some f) = Stepped (f .number) (f .step)
+
+abbrev AllProper : List Check → Type 0
+AllProper [] = Unit {0}
+AllProper (c ∷ cs) = Proper c × AllProper cs
+
+-- a row with a number below 40
+low : (n : ℕ) (b : Bool) → n < 40 → Proper (n if b)
+unfolding _if_
+low n true h = record { early = λ l. refl; late = λ l. refl; step = λ l m. absurd (omega arith) }
+low n false h = tt
+
+verdict-proper : {T : Type 0} (total left : ℕ) (o : Outcome T) → Sane total left o → Proper (verdict o)
+unfolding verdict
+verdict-proper total left (done ss t next) s = tt
+verdict-proper total left (stopped c n) s = record {
+  early = λ l. absurd (omega (arith, s .low));
+  late = λ l. absurd (omega (arith, s .high));
+  step = λ l m. s .counted;
+}
+
+steps-proper : (t : Ledger) (cs : List Credential) (n : ℕ) (i : Interval) (ss : List Step) → Proper (steps t cs n i ss)
+unfolding steps
+steps-proper t cs n i ss =
+    verdict-proper (length ss) (length ss) (checkOf (row t) readLabel writeLabel (length ss) ss _ _ _)
+    (check-sane (row t) readLabel writeLabel (length ss) ss _ _ _ (omega arith))
+
+checks-proper : (t : Ledger) (r : Request) → AllProper (checks t r)
+unfolding checks
+checks-proper t (word l) =
+    (low 10 _ (omega arith), (low 12 _ (omega arith), (low 13 _ (omega arith), (low 14 _ (omega arith), tt))))
+checks-proper t (issue Linear n i) =
+    (low 10 _ (omega arith), (low 20 _ (omega arith), (low 22 _ (omega arith), (low 23 _ (omega arith), tt))))
+checks-proper t (issue Unrestricted n i) =
+    (low 10 _ (omega arith), (low 21 _ (omega arith), (low 22 _ (omega arith), (low 23 _ (omega arith), tt))))
+checks-proper t (withdraw n) = (low 24 _ (omega arith), tt)
+checks-proper t (book b) = (
+  low 10 _ (omega arith),
+  (
+    low 20 _ (omega arith),
+    (
+      low 30 _ (omega arith),
+      (
+        low 24 _ (omega arith),
+        (low 31 _ (omega arith), (steps-proper t _ _ _ _, (low 22 _ (omega arith), (low 23 _ (omega arith), tt)))),
+      ),
+    ),
+  ),
+)
+checks-proper t (tally s m) = tt
+
+read-proper : (t : Ledger) (o : Option Request) → AllProper (readChecks t o)
+read-proper t none = tt
+read-proper t (some r) = (low 3 _ (omega arith), checks-proper t r)
+
+all-proper : (t : Ledger) (b : List ℕ) → AllProper (checksOf t b)
+unfolding checksOf
+all-proper t b = (low 1 _ (omega arith), (low 2 _ (omega arith), read-proper t (requestOf b)))
+
+first-proper : (cs : List Check) {f : Refusal} → AllProper cs → first cs ≡ some f → Stepped (f .number) (f .step)
+unfolding first
+first-proper [] p e = absurd (some-none (sym e))
+first-proper (none ∷ cs) p e = first-proper cs (p .1) e
+first-proper (some g ∷ cs) p e = subst (λ (x : Refusal). Stepped (x .number) (x .step)) (some-inj e) (p .0)
+
+-- the refusal of an answer
+abbrev refusalOf : Answer → Refusal
+refusalOf (Accepted n) = record { number = 0; step = 0 }
+refusalOf (Counted o s p) = record { number = 0; step = 0 }
+refusalOf (Refused n k) = record { number = n; step = k }
+
+pub refusals : Refusals
+refusals t b n k h = go (does t b)
+  where
+    leaves : call t b .ledger ≡ t → Stepped n k → RefusalLeaves t b n k
+    leaves e s = record { same = e; early = s .early; late = s .late; step = s .step }
+
+    go : Does t b → RefusalLeaves t b n k
+    go (refuses f e q) =
+        let r : f ≡ record { number = n; step = k } =
+        ap refusalOf (sym (ap (λ (d : Reply). d .answer) q) ∙ h) in
+        leaves (ap (λ (d : Reply). d .ledger) q)
+        (subst (λ (x : Refusal). Stepped (x .number) (x .step)) r (first-proper (checksOf t b) (all-proper t b) e))
+    go (accepts r o p c q) =
+        absurd (subst IsAccepted (sym (ap (λ (d : Reply). d .answer) q) ∙ h) (accept-accepts t r))

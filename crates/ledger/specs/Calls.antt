@@ -1,0 +1,104 @@
+-- What an accepted request does and answers, the one call that tells requests apart, and lists of calls.
+use mathlib.Core.List.{List, [], _∷_, _++_}
+use mathlib.Core.Option.{Option, none, some}
+use mathlib.Core.Bool.{Bool, true, false, not}
+use Prim.Native.Nat.{ℕ, _+_}
+use lib.ListN.{length}
+use Rattle.logic.specs.declared.Interval.{Interval}
+use Rattle.logic.specs.Interval.{has}
+use Rattle.logic.specs.Formula.{seats, places}
+use Rattle.logic.specs.Multiset.{sum}
+use Rattle.request.specs.declared.Kind.{Kind}
+use Rattle.request.specs.declared.Kind.the-variants.{Linear}
+use Rattle.request.specs.Request.{Line, Request, word, issue, withdraw, book, tally}
+use Rattle.request.specs.Read.{requestOf}
+use Rattle.ledger.specs.declared.Credential.{Credential}
+use Rattle.ledger.specs.declared.Answer.{Answer}
+use Rattle.ledger.specs.declared.Answer.the-variants.{Accepted, Counted, Refused}
+use Rattle.ledger.specs.Ledger.{Ledger, formula, by, without, held, spend}
+use Rattle.ledger.specs.Checks.{Refusal, first, checksOf}
+
+-- an answer and the ledger after the call
+pub record Reply : Type 0 where
+  pub answer : Answer
+  pub ledger : Ledger
+
+abbrev pub reply : Answer → Ledger → Reply
+reply a t = record { answer = a; ledger = t }
+
+-- What `tillrun` prints of an answer: `ok,` and its values, or `no,` with refusal and step.
+pub data Told : Type 0 where
+  ok : List ℕ → Told
+  no : ℕ → ℕ → Told
+
+abbrev pub told : Answer → Told
+told (Accepted n) = ok (n ∷ [])
+told (Counted o s p) = ok (o ∷ s ∷ p ∷ [])
+told (Refused n k) = Told.no n k
+
+-- one formula line more
+abbrev pub withLine : Ledger → Line → Ledger
+withLine t l = record { lines = t .lines ++ (l ∷ []); live = t .live; next = t .next }
+
+-- other live credentials
+abbrev pub withLive : Ledger → List Credential → Ledger
+withLive t cs = record { lines = t .lines; live = cs; next = t .next }
+
+-- one credential more, with the next serial
+abbrev pub given : Ledger → Kind → ℕ → Interval → Ledger
+given t k n i = record {
+  lines = t .lines;
+  live = t .live ++ (record { serial = t .next; kind = k; formula = n; interval = i } ∷ []);
+  next = t .next + 1;
+}
+
+-- "Tally: over live singles, open = seats of the session in coupons whose window has the minute, shut = the other
+-- seats, placed = places."
+abbrev pub only : Bool → ℕ → ℕ
+only true n = n
+only false n = 0
+
+abbrev pub seatsOf : Ledger → ℕ → Credential → ℕ
+seatsOf t s c = by (c .kind) (seats s (formula t (c .formula))) 0
+
+abbrev pub placesOf : Ledger → ℕ → Credential → ℕ
+placesOf t s c = by (c .kind) (places s (formula t (c .formula))) 0
+
+unfoldable pub openSeats : Ledger → ℕ → ℕ → ℕ
+openSeats t s m = sum (λ c. only (has (c .interval) m) (seatsOf t s c)) (t .live)
+
+unfoldable pub shutSeats : Ledger → ℕ → ℕ → ℕ
+shutSeats t s m = sum (λ c. only (not (has (c .interval) m)) (seatsOf t s c)) (t .live)
+
+unfoldable pub placed : Ledger → ℕ → ℕ
+placed t s = sum (placesOf t s) (t .live)
+
+unfoldable pub accept : Ledger → Request → Reply
+-- "The till numbers them from 0"
+accept t (word l) = reply (Accepted (length (t .lines))) (withLine t l)
+-- "An accepted issue adds one, a withdraw removes it."
+accept t (issue k n i) = reply (Accepted (t .next)) (given t k n i)
+accept t (withdraw n) = reply (Accepted n) (withLive t (without (t .live) n))
+-- "An accepted booking removes the single-use holds and adds the goal as one single-use coupon with the next serial."
+accept t (book b) =
+    reply (Accepted (t .next))
+    (given (withLive t (spend (t .live) (held (t .live) (b .holds)))) Linear (b .formula) (b .interval))
+accept t (tally s m) = reply (Counted (openSeats t s m) (shutSeats t s m) (placed t s)) t
+
+-- "Any refusal returns these two numbers and the till as before."
+unfoldable pub decide : Ledger → Option Refusal → Option Request → Reply
+decide t (some f) r = reply (Refused (f .number) (f .step)) t
+decide t none (some r) = accept t r
+decide t none none = reply (Refused 2 0) t  -- does not occur: check 2 has failed
+
+unfoldable pub call : Ledger → List ℕ → Reply
+call t bytes = decide t (first (checksOf t bytes)) (requestOf bytes)
+
+-- A list of calls, each at the ledger that the one before left: the ledger after it, and the answers.
+unfoldable pub after : Ledger → List (List ℕ) → Ledger
+after t [] = t
+after t (b ∷ bs) = after (call t b .ledger) bs
+
+unfoldable pub answers : Ledger → List (List ℕ) → List Answer
+answers t [] = []
+answers t (b ∷ bs) = let r = call t b in r .answer ∷ answers (r .ledger) bs

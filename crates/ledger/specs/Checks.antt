@@ -1,0 +1,180 @@
+-- Document 01's section "Where a sheet is stopped": the checks of a request, in the table's order, for each kind.
+-- `n if test` is a row of the table: refusal n, "given exactly if" the test is true.
+use mathlib.Core.List.{List, [], _∷_, map}
+use mathlib.Core.Option.{Option, none, some}
+use mathlib.Core.Bool.{Bool, true, false, _&&_, _||_, not}
+use Prim.Native.Nat.{ℕ, suc, _-_}
+use lib.Dec.{eqb, leb, ltb}
+use lib.ListN.{length}
+use Rattle.logic.specs.declared.Interval.{Interval}
+use Rattle.logic.specs.Interval.{span, has, reversed}
+use Rattle.logic.specs.Formula.{size, plain}
+use Rattle.logic.specs.Counts.{balanced}
+use Rattle.request.specs.declared.Kind.the-variants.{Linear, Unrestricted}
+use Rattle.request.specs.Range.{serial, maxBytes}
+use Rattle.request.specs.Request.{Line, Step, Booking, Request, word, issue, withdraw, book, tally, intervals}
+use Rattle.request.specs.Read.{requestOf}
+use Rattle.labels.specs.Labels.{insert}
+use Rattle.steps.specs.declared.Row.{Row}
+use Rattle.steps.specs.declared.Hypothesis.{Hypothesis}
+use Rattle.steps.specs.declared.Goal.the-variants.{Holds}
+use Rattle.steps.specs.declared.Sequent.{Sequent}
+use Rattle.steps.specs.Check.{Outcome, done, stopped, checkOf}
+use Rattle.ledger.specs.declared.Credential.{Credential}
+use Rattle.ledger.specs.Table.{form, names, rowOf}
+use Rattle.ledger.specs.Ledger.{Ledger, formula, row, by, find, isNone, held, linears}
+
+-- A check passes (none) or answers its refusal: "with its step (from 1) for 40 to 42, else 0".
+pub record Refusal : Type 0 where
+  pub number : ℕ
+  pub step : ℕ
+
+abbrev pub Check : Type 0
+Check = Option Refusal
+
+infix 5 _if_
+unfoldable pub _if_ : ℕ → Bool → Check
+n if true = some (record { number = n; step = 0 })
+n if false = none
+
+-- "Checks run in this order; the first to fail answers"
+unfoldable pub first : List Check → Option Refusal
+first [] = none
+first (none ∷ cs) = first cs
+first (some r ∷ cs) = some r
+
+unfoldable pub any : {A : Type 0} → (A → Bool) → List A → Bool
+any f [] = false
+any f (x ∷ xs) = f x || any f xs
+
+-- The tests
+
+-- "Size: .. at most 64"; "holds at most 200"; "At most 512 are live"
+abbrev pub maxSize : ℕ
+maxSize = 64
+
+abbrev pub maxFormulas : ℕ
+maxFormulas = 200
+
+abbrev pub maxLive : ℕ
+maxLive = 512
+
+-- the number names no formula of the ledger
+abbrev pub missing : Ledger → ℕ → Bool
+missing t n = leb (length (t .lines)) n
+
+abbrev pub oversize : Ledger → Line → Bool
+oversize t l = ltb maxSize (size (form (formula t) l))
+
+-- "no two lines equal": the letters and all fields are
+unfoldable pub sameRow : Row → Row → Bool
+sameRow x y =
+    eqb (x .letter) (y .letter)
+    && (eqb (x .a) (y .a) && (eqb (x .b) (y .b) && (eqb (x .c) (y .c) && eqb (x .d) (y .d))))
+
+abbrev pub sameLine : Line → Line → Bool
+sameLine l m = sameRow (rowOf l) (rowOf m)
+
+-- "serial not live"
+abbrev pub dead : Ledger → ℕ → Bool
+dead t n = isNone (find (t .live) n)
+
+-- "serial held twice"
+unfoldable pub twice : List ℕ → Bool
+twice [] = false
+twice (n ∷ ns) = any (eqb n) ns || twice ns
+
+-- "live, less singles held, is 512 or more"
+abbrev pub full : Ledger → ℕ → Bool
+full t singles = leb maxLive (length (t .live) - singles)
+
+-- "serial 999,999 was given"
+abbrev pub usedUp : Ledger → Bool
+usedUp t = ltb (serial .last) (t .next)
+
+-- The steps of a booking
+
+-- the table of labels, as a function
+abbrev pub Labels : Type 0
+Labels = ℕ → Hypothesis
+
+abbrev pub noLabels : Labels
+noLabels k = record { formula = 0; interval = span 0 0 }
+
+abbrev pub readLabel : Labels → ℕ → Hypothesis
+readLabel f k = f k
+
+abbrev pub writeLabel : Labels → ℕ → Hypothesis → Labels
+writeLabel f n h = λ k. elim (eqb k n) [ true ↦ h | false ↦ f k ]
+
+-- a table with labels below `next`, and which of them are unrestricted and linear
+pub record Start (T : Type 0) : Type 0 where
+  pub table : T
+  pub next : ℕ
+  pub unrestricted : ℕ
+  pub linear : ℕ
+
+-- "Holds take labels 0, 1, .. in order."
+unfoldable pub started : {T : Type 0} → (T → ℕ → Hypothesis → T) → Start T → List Credential → Start T
+started put s [] = s
+started put s (c ∷ cs) = started put (record {
+  table = put (s .table) (s .next) (record { formula = c .formula; interval = c .interval });
+  next = suc (s .next);
+  unrestricted = by (c .kind) (s .unrestricted) (insert (s .unrestricted) (s .next));
+  linear = by (c .kind) (insert (s .linear) (s .next)) (s .linear);
+}) cs
+
+unfoldable pub verdict : {T : Type 0} → Outcome T → Check
+verdict (done ss t next) = none
+verdict (stopped c n) = some (record { number = c; step = n })
+
+-- "40 to 42 are found step by step": the goal is formula n at i, from the credentials held.
+unfoldable pub steps : Ledger → List Credential → ℕ → Interval → List Step → Check
+steps t cs n i ss =
+    let s = started writeLabel (record { table = noLabels; next = 0; unrestricted = 0; linear = 0 }) cs in
+    verdict (checkOf (row t) readLabel writeLabel (length ss) ss (s .table) (s .next)
+    (record { unrestricted = s .unrestricted; linear = s .linear; goal = Holds n i }))
+
+-- The table, for each kind of request
+
+unfoldable pub checks : Ledger → Request → List Check
+checks t (word l) =
+    (10 if any (missing t) (names l)) ∷
+    (12 if oversize t l) ∷
+    (13 if any (sameLine l) (t .lines)) ∷
+    (14 if leb maxFormulas (length (t .lines))) ∷ []
+checks t (issue Linear n i) =
+    (10 if missing t n) ∷
+    (20 if not (plain (formula t n))) ∷
+    (22 if full t 0) ∷
+    (23 if usedUp t) ∷ []
+checks t (issue Unrestricted n i) =
+    (10 if missing t n) ∷
+    (21 if not (balanced (formula t n))) ∷
+    (22 if full t 0) ∷
+    (23 if usedUp t) ∷ []
+checks t (withdraw n) =
+    (24 if dead t n) ∷ []
+checks t (book b) =
+    let cs = held (t .live) (b .holds) in
+    (10 if missing t (b .formula)) ∷
+    (20 if not (plain (formula t (b .formula)))) ∷
+    (30 if not (has (b .interval) (b .now))) ∷
+    (24 if any (dead t) (b .holds)) ∷
+    (31 if twice (b .holds)) ∷
+    steps t cs (b .formula) (b .interval) (b .steps) ∷
+    (22 if full t (linears cs)) ∷
+    (23 if usedUp t) ∷ []
+checks t (tally s m) = []
+
+-- "any window field": from > to, in the head, or any step or formula
+abbrev pub readChecks : Ledger → Option Request → List Check
+readChecks t none = []
+readChecks t (some r) = (3 if any reversed (intervals r)) ∷ checks t r
+
+-- all checks of the bytes of a request
+unfoldable pub checksOf : Ledger → List ℕ → List Check
+checksOf t bytes =
+    (1 if ltb maxBytes (length bytes)) ∷
+    (2 if isNone (requestOf bytes)) ∷
+    readChecks t (requestOf bytes)

@@ -1,0 +1,110 @@
+-- The history of a list of calls, and what was issued and withdrawn, counted from it alone. "The history is the
+-- accepted sheets of the list with their answers."
+use mathlib.Core.List.{List, [], _∷_}
+use mathlib.Core.Option.{Option, none, some}
+use mathlib.Core.Bool.{true, false}
+use Prim.Native.Nat.{ℕ, _+_}
+use lib.Dec.{eqb}
+use Rattle.logic.specs.Formula.{Formula, one, seats, places}
+use Rattle.request.specs.declared.Kind.{Kind}
+use Rattle.request.specs.declared.Kind.the-variants.{Linear}
+use Rattle.request.specs.Request.{Request, word, issue, withdraw, book, tally}
+use Rattle.request.specs.Read.{requestOf}
+use Rattle.ledger.specs.declared.Answer.{Answer}
+use Rattle.ledger.specs.declared.Answer.the-variants.{Accepted, Counted, Refused}
+use Rattle.ledger.specs.Table.{form}
+use Rattle.ledger.specs.Ledger.{by, empty}
+use Rattle.ledger.specs.Calls.{answers}
+
+-- an accepted request and its answer
+pub record Event : Type 0 where
+  pub request : Request
+  pub answer : Answer
+
+-- the latest first
+abbrev pub History : Type 0
+History = List Event
+
+-- A refused call leaves no event: "A sheet that fits no form stands in the list as a refused call."
+abbrev pub note : Option Request → Answer → History → History
+note none a h = h
+note (some r) (Accepted n) h = record { request = r; answer = Accepted n } ∷ h
+note (some r) (Counted x y z) h = record { request = r; answer = Counted x y z } ∷ h
+note (some r) (Refused n k) h = h
+
+-- the history of requests and the answers they got, one by one, after h
+unfoldable pub noted : History → List (List ℕ) → List Answer → History
+noted h [] as′ = h
+noted h (b ∷ bs) [] = h
+noted h (b ∷ bs) (a ∷ more) = noted (note (requestOf b) a h) bs more
+
+-- of a list of calls from the empty ledger
+abbrev pub historyOf : List (List ℕ) → History
+historyOf bs = noted [] bs (answers empty bs)
+
+-- what f tells of the numbers answered before, and x of this one
+abbrev pub learn : {A : Type 0} → Answer → A → (ℕ → A) → ℕ → A
+learn (Accepted k) x f n = elim (eqb n k) [ true ↦ x | false ↦ f n ]
+learn (Counted o s p) x f n = f n
+learn (Refused c k) x f n = f n
+
+-- "wording n is the line that was answered n": its parts are those of the history before it
+abbrev pub formulaBy : Request → Answer → (ℕ → Formula) → ℕ → Formula
+formulaBy (word l) a T = learn a (form T l) T
+formulaBy (issue k n i) a T = T
+formulaBy (withdraw n) a T = T
+formulaBy (book b) a T = T
+formulaBy (tally s m) a T = T
+
+unfoldable pub formulaIn : History → ℕ → Formula
+formulaIn [] = λ n. one
+formulaIn (e ∷ h) = formulaBy (e .request) (e .answer) (formulaIn h)
+
+-- "a serial's coupon is the one issued, or the goal booked, by the issue or booking that answered that serial"
+pub record Given : Type 0 where
+  pub kind : Kind
+  pub formula : ℕ
+
+abbrev pub givenBy : Request → Answer → (ℕ → Option Given) → ℕ → Option Given
+givenBy (word l) a f = f
+givenBy (issue k n i) a f = learn a (some (record { kind = k; formula = n })) f
+givenBy (withdraw n) a f = f
+givenBy (book b) a f = learn a (some (record { kind = Linear; formula = b .formula })) f
+givenBy (tally s m) a f = f
+
+unfoldable pub givenIn : History → ℕ → Option Given
+givenIn [] = λ n. none
+givenIn (e ∷ h) = givenBy (e .request) (e .answer) (givenIn h)
+
+-- a formula's seats and places of a session
+abbrev pub stands : ℕ → Formula → ℕ
+stands s a = seats s a + places s a
+
+-- "Issued counts, for a session, its seats and places in the wordings of accepted `issue,s`"
+abbrev pub issuedBy : ℕ → History → Request → ℕ
+issuedBy s h (word l) = 0
+issuedBy s h (issue k n i) = by k (stands s (formulaIn h n)) 0
+issuedBy s h (withdraw n) = 0
+issuedBy s h (book b) = 0
+issuedBy s h (tally x m) = 0
+
+unfoldable pub issued : ℕ → History → ℕ
+issued s [] = 0
+issued s (e ∷ h) = issuedBy s h (e .request) + issued s h
+
+-- "withdrawn counts, for each accepted withdraw, those of the single coupon that the history gave that serial, and
+-- nothing for a standing one"
+abbrev pub standsIn : ℕ → History → Option Given → ℕ
+standsIn s h none = 0
+standsIn s h (some g) = by (g .kind) (stands s (formulaIn h (g .formula))) 0
+
+abbrev pub withdrawnBy : ℕ → History → Request → ℕ
+withdrawnBy s h (word l) = 0
+withdrawnBy s h (issue k n i) = 0
+withdrawnBy s h (withdraw n) = standsIn s h (givenIn h n)
+withdrawnBy s h (book b) = 0
+withdrawnBy s h (tally x m) = 0
+
+unfoldable pub withdrawn : ℕ → History → ℕ
+withdrawn s [] = 0
+withdrawn s (e ∷ h) = withdrawnBy s h (e .request) + withdrawn s h

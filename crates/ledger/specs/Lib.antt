@@ -1,0 +1,7 @@
+pub mod Table
+pub mod Ledger
+pub mod Checks
+pub mod Calls
+pub mod History
+pub mod Statements
+pub mod Sessions

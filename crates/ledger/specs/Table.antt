@@ -1,0 +1,64 @@
+-- Formula lines (document 01: wordings): the formula that each stands for. "A wording refers to earlier wordings i, j
+-- by number"; "The till numbers them from 0".
+use mathlib.Core.List.{List, [], _∷_, _++_}
+use Prim.Native.Nat.{ℕ}
+use Prim.Native.Char.{code}
+use lib.ListN.{getD}
+use Rattle.logic.specs.Formula.{Formula, atom, one, tensor, with, plus, lolli, implies, bang, at, says, superset}
+use Rattle.request.specs.Request.{Line}
+use Rattle.steps.specs.declared.Row.{Row}
+
+-- the formula of a line, where T gives those of the numbers that it names
+abbrev pub form : (ℕ → Formula) → Line → Formula
+form T (Line.atom p s) = atom p s
+form T Line.one = one
+form T (Line.tensor i j) = tensor (T i) (T j)
+form T (Line.with i j) = with (T i) (T j)
+form T (Line.plus i j) = plus (T i) (T j)
+form T (Line.lolli i j) = lolli (T i) (T j)
+form T (Line.implies i j) = implies (T i) (T j)
+form T (Line.bang i) = bang (T i)
+form T (Line.at i w) = at (T i) w
+form T (Line.says k i) = says k (T i)
+form T (Line.superset v w) = superset v w
+
+-- the numbers that a line names
+abbrev pub names : Line → List ℕ
+names (Line.atom p s) = []
+names Line.one = []
+names (Line.tensor i j) = i ∷ j ∷ []
+names (Line.with i j) = i ∷ j ∷ []
+names (Line.plus i j) = i ∷ j ∷ []
+names (Line.lolli i j) = i ∷ j ∷ []
+names (Line.implies i j) = i ∷ j ∷ []
+names (Line.bang i) = i ∷ []
+names (Line.at i w) = i ∷ []
+names (Line.says k i) = i ∷ []
+names (Line.superset v w) = []
+
+-- a number that names no line reads as 1
+abbrev pub nth : List Formula → ℕ → Formula
+nth T i = getD T i one
+
+-- the formulas of lines, after those of earlier lines
+unfoldable pub build : List Formula → List Line → List Formula
+build earlier [] = earlier
+build earlier (l ∷ more) = build (earlier ++ (form (nth earlier) l ∷ [])) more
+
+-- the formulas of a table of lines, in order
+unfoldable pub formulas : List Line → List Formula
+formulas ls = build [] ls
+
+-- a line as a row of numbers: the byte of its letter, and its fields
+abbrev pub rowOf : Line → Row
+rowOf (Line.atom p s) = record { letter = code "a"; a = p; b = s; c = 0; d = 0 }
+rowOf Line.one = record { letter = code "o"; a = 0; b = 0; c = 0; d = 0 }
+rowOf (Line.tensor i j) = record { letter = code "t"; a = i; b = j; c = 0; d = 0 }
+rowOf (Line.with i j) = record { letter = code "w"; a = i; b = j; c = 0; d = 0 }
+rowOf (Line.plus i j) = record { letter = code "p"; a = i; b = j; c = 0; d = 0 }
+rowOf (Line.lolli i j) = record { letter = code "l"; a = i; b = j; c = 0; d = 0 }
+rowOf (Line.implies i j) = record { letter = code "u"; a = i; b = j; c = 0; d = 0 }
+rowOf (Line.bang i) = record { letter = code "b"; a = i; b = 0; c = 0; d = 0 }
+rowOf (Line.at i w) = record { letter = code "h"; a = i; b = w .from; c = w .to; d = 0 }
+rowOf (Line.says k i) = record { letter = code "s"; a = k; b = i; c = 0; d = 0 }
+rowOf (Line.superset v w) = record { letter = code "g"; a = v .from; b = v .to; c = w .from; d = w .to }

@@ -1,0 +1,20 @@
+// The ledger (document 01: the till): formulas and live credentials, and the answer to each request. This file has the
+// types that definitions and code share; specs/ has the definitions and what is proved of them, proofs/ the proofs.
+
+// A credential (document 01: a coupon): its serial, its kind, its formula's number (wording) and its interval (window).
+pub struct Credential {
+    pub serial: u32,
+    pub kind: request::Kind,
+    pub formula: u32,
+    pub interval: logic::Interval,
+}
+
+// The answer to a request; `told` in specs/Calls.antt gives document 01's values for each case.
+pub enum Answer {
+    // word: the formula's number; issue, withdraw, book: the serial
+    Accepted(u32),
+    // tally: open, shut, placed
+    Counted(u32, u32, u32),
+    // the refusal's number and its step
+    Refused(u32, u32),
+}

@@ -1,0 +1,6 @@
+pub mod Tests
+pub mod Intervals
+pub mod Multisets
+pub mod Weights
+pub mod Balance
+pub mod Conservation

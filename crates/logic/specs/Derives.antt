@@ -1,0 +1,115 @@
+-- Derivations: the ground rules of document 01 over hypotheses as multisets, in the form of Figure 1 of the report
+-- (source document 000), without labels, shares or tables. Names are those of the step letters.
+use mathlib.Core.List.{List, [], _∷_, _++_, List·Memᴰ}
+use Prim.Native.Nat.{ℕ, suc, _+_, _≤_}
+use Rattle.logic.specs.declared.Interval.{Interval}
+use Rattle.logic.specs.Interval.{_⊇_}
+use Rattle.logic.specs.Formula.{Formula, atom, one, tensor, with, plus, lolli, implies, bang, at, says}
+use Rattle.logic.specs.Formula.{superset}
+use Rattle.logic.specs.Multiset.{Perm}
+
+-- a hypothesis A[I]
+pub record Hyp : Type 0 where
+  pub formula : Formula
+  pub interval : Interval
+
+infix 90 _⟦_⟧
+abbrev pub _⟦_⟧ : Formula → Interval → Hyp
+_⟦_⟧ a i = record { formula = a; interval = i }
+
+-- The right side of a sequent (document 01: a goal): "A at I", or "K affirms A at I".
+pub data Judgment : Type 0 where
+  holds : Formula → Interval → Judgment
+  affirms : ℕ → Formula → Interval → Judgment
+
+-- Derives R D g: g from the unrestricted hypotheses R (document 01: standing), used as often as wanted, and the linear
+-- hypotheses D (single-use), each used just once. `same` leaves the order of hypotheses free and is no use of a rule.
+pub data Derives : List Hyp → List Hyp → Judgment → Type 0 where
+  same : {R S D E : List Hyp} {g : Judgment} → Perm R S → Perm D E → Derives R D g → Derives S E g
+  ax : {R : List Hyp} {p s : ℕ} {i j : Interval} → i ⊇ j → Derives R (atom p s ⟦ i ⟧ ∷ []) (holds (atom p s) j)
+  cp : {R D : List Hyp} {h : Hyp} {g : Judgment} → List·Memᴰ h R → Derives R (h ∷ D) g → Derives R D g
+  tr : {R D E : List Hyp} {a b : Formula} {i : Interval}
+      → Derives R D (holds a i) → Derives R E (holds b i) → Derives R (D ++ E) (holds (tensor a b) i)
+  tl : {R D : List Hyp} {a b : Formula} {i : Interval} {g : Judgment}
+      → Derives R (a ⟦ i ⟧ ∷ b ⟦ i ⟧ ∷ D) g → Derives R (tensor a b ⟦ i ⟧ ∷ D) g
+  or : {R : List Hyp} {i : Interval} → Derives R [] (holds one i)
+  ol : {R D : List Hyp} {i : Interval} {g : Judgment} → Derives R D g → Derives R (one ⟦ i ⟧ ∷ D) g
+  wr : {R D : List Hyp} {a b : Formula} {i : Interval}
+      → Derives R D (holds a i) → Derives R D (holds b i) → Derives R D (holds (with a b) i)
+  w1 : {R D : List Hyp} {a b : Formula} {i : Interval} {g : Judgment}
+      → Derives R (a ⟦ i ⟧ ∷ D) g → Derives R (with a b ⟦ i ⟧ ∷ D) g
+  w2 : {R D : List Hyp} {a b : Formula} {i : Interval} {g : Judgment}
+      → Derives R (b ⟦ i ⟧ ∷ D) g → Derives R (with a b ⟦ i ⟧ ∷ D) g
+  p1 : {R D : List Hyp} {a b : Formula} {i : Interval} → Derives R D (holds a i) → Derives R D (holds (plus a b) i)
+  p2 : {R D : List Hyp} {a b : Formula} {i : Interval} → Derives R D (holds b i) → Derives R D (holds (plus a b) i)
+  pl : {R D : List Hyp} {a b : Formula} {i : Interval} {g : Judgment}
+      → Derives R (a ⟦ i ⟧ ∷ D) g → Derives R (b ⟦ i ⟧ ∷ D) g → Derives R (plus a b ⟦ i ⟧ ∷ D) g
+  ll : {R D E : List Hyp} {a b : Formula} {i j : Interval} {g : Judgment}
+      → i ⊇ j → Derives R D (holds a j) → Derives R (b ⟦ j ⟧ ∷ E) g → Derives R (lolli a b ⟦ i ⟧ ∷ (D ++ E)) g
+  ul : {R D : List Hyp} {a b : Formula} {i j : Interval} {g : Judgment}
+      → i ⊇ j → Derives R [] (holds a j) → Derives R (b ⟦ j ⟧ ∷ D) g → Derives R (implies a b ⟦ i ⟧ ∷ D) g
+  br : {R : List Hyp} {a : Formula} {i : Interval} → Derives R [] (holds a i) → Derives R [] (holds (bang a) i)
+  bl : {R D : List Hyp} {a : Formula} {i : Interval} {g : Judgment}
+      → Derives (a ⟦ i ⟧ ∷ R) D g → Derives R (bang a ⟦ i ⟧ ∷ D) g
+  hr : {R D : List Hyp} {a : Formula} {i j : Interval} → Derives R D (holds a j) → Derives R D (holds (at a j) i)
+  hl : {R D : List Hyp} {a : Formula} {i j : Interval} {g : Judgment}
+      → Derives R (a ⟦ j ⟧ ∷ D) g → Derives R (at a j ⟦ i ⟧ ∷ D) g
+  sr : {R D : List Hyp} {k : ℕ} {a : Formula} {i : Interval}
+      → Derives R D (affirms k a i) → Derives R D (holds (says k a) i)
+  af : {R D : List Hyp} {k : ℕ} {a : Formula} {i : Interval}
+      → Derives R D (holds a i) → Derives R D (affirms k a i)
+  sl : {R D : List Hyp} {k : ℕ} {a b : Formula} {i j : Interval}
+      → i ⊇ j → Derives R (a ⟦ i ⟧ ∷ D) (affirms k b j) → Derives R (says k a ⟦ i ⟧ ∷ D) (affirms k b j)
+  gr : {R : List Hyp} {i j k : Interval} → i ⊇ j → Derives R [] (holds (superset i j) k)
+
+-- the uses of rules
+unfoldable pub uses : {R D : List Hyp} {g : Judgment} → Derives R D g → ℕ
+uses (Derives.same m n d) = uses d
+uses (Derives.ax c) = 1
+uses (Derives.cp m d) = suc (uses d)
+uses (Derives.tr d e) = suc (uses d + uses e)
+uses (Derives.tl d) = suc (uses d)
+uses Derives.or = 1
+uses (Derives.ol d) = suc (uses d)
+uses (Derives.wr d e) = suc (uses d + uses e)
+uses (Derives.w1 d) = suc (uses d)
+uses (Derives.w2 d) = suc (uses d)
+uses (Derives.p1 d) = suc (uses d)
+uses (Derives.p2 d) = suc (uses d)
+uses (Derives.pl d e) = suc (uses d + uses e)
+uses (Derives.ll c d e) = suc (uses d + uses e)
+uses (Derives.ul c d e) = suc (uses d + uses e)
+uses (Derives.br d) = suc (uses d)
+uses (Derives.bl d) = suc (uses d)
+uses (Derives.hr d) = suc (uses d)
+uses (Derives.hl d) = suc (uses d)
+uses (Derives.sr d) = suc (uses d)
+uses (Derives.af d) = suc (uses d)
+uses (Derives.sl c d) = suc (uses d)
+uses (Derives.gr c) = 1
+
+-- The labels taken: "Each part that replaces L, each copy and each part that joins R takes one."
+unfoldable pub taken : {R D : List Hyp} {g : Judgment} → Derives R D g → ℕ
+taken (Derives.same m n d) = taken d
+taken (Derives.ax c) = 0
+taken (Derives.cp m d) = 1 + taken d
+taken (Derives.tr d e) = taken d + taken e
+taken (Derives.tl d) = 2 + taken d
+taken Derives.or = 0
+taken (Derives.ol d) = taken d
+taken (Derives.wr d e) = taken d + taken e
+taken (Derives.w1 d) = 1 + taken d
+taken (Derives.w2 d) = 1 + taken d
+taken (Derives.p1 d) = taken d
+taken (Derives.p2 d) = taken d
+taken (Derives.pl d e) = 2 + (taken d + taken e)
+taken (Derives.ll c d e) = 1 + (taken d + taken e)
+taken (Derives.ul c d e) = 1 + (taken d + taken e)
+taken (Derives.br d) = taken d
+taken (Derives.bl d) = 1 + taken d
+taken (Derives.hr d) = taken d
+taken (Derives.hl d) = 1 + taken d
+taken (Derives.sr d) = taken d
+taken (Derives.af d) = taken d
+taken (Derives.sl c d) = 1 + taken d
+taken (Derives.gr c) = 0

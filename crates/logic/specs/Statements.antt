@@ -1,0 +1,43 @@
+-- What is proved of the logic (in proofs/).
+use mathlib.Core.Path.{_≡_}
+use mathlib.Core.Bool.{true}
+use mathlib.Core.Logic.{_↔_}
+use mathlib.Core.List.{List, [], _∷_}
+use Prim.Native.Nat.{ℕ}
+use lib.IntN.{ℤ, pos, _+ℤ_, _-ℤ_}
+use Rattle.logic.specs.Formula.{Formula, plain}
+use Rattle.logic.specs.Weight.{weight, WellWeighed, BalancedFor, Balanced}
+use Rattle.logic.specs.Multiset.{Every}
+use Rattle.logic.specs.Derives.{Hyp, Judgment, holds, affirms, Derives}
+use Rattle.logic.specs.Counts.{up, down, balanced}
+
+-- the formula of a goal
+abbrev pub subject : Judgment → Formula
+subject (holds a i) = a
+subject (affirms k a i) = a
+
+-- the weights of hypotheses, added up
+abbrev pub total : ℕ → List Hyp → ℤ
+total s [] = pos 0
+total s (h ∷ d) = weight s (h .formula) +ℤ total s d
+
+-- Conservation, for a session left general: a derivation whose unrestricted hypotheses are balanced and whose linear
+-- hypotheses and goal are well weighed has linear hypotheses whose weights add up to the goal's.
+abbrev pub Conservation : Type 0
+Conservation = (s : ℕ) (R D : List Hyp) (g : Judgment) → Derives R D g
+    → Every (λ h. BalancedFor s (h .formula)) R
+    → Every (λ h. WellWeighed s (h .formula)) D
+    → WellWeighed s (subject g)
+    → total s D ≡ weight s (subject g)
+
+-- Plain formulas are well weighed.
+abbrev pub PlainWeighed : Type 0
+PlainWeighed = (s : ℕ) (a : Formula) → plain a ≡ true → WellWeighed s a
+
+-- The test for balanced decides it for every session.
+abbrev pub BalancedTest : Type 0
+BalancedTest = (a : Formula) → (balanced a ≡ true) ↔ Balanced a
+
+-- The signed weight is what is added less what is taken away.
+abbrev pub WeightParts : Type 0
+WeightParts = (s : ℕ) (a : Formula) → weight s a ≡ pos (up s a) -ℤ pos (down s a)

@@ -1,0 +1,5 @@
+pub mod Range
+pub mod Text
+pub mod Reader
+pub mod Request
+pub mod Read

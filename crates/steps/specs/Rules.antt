@@ -1,0 +1,120 @@
+-- Document 01's section "Steps", as a computation on formula numbers and sets of labels: what each step asks of a
+-- sequent, and what it leaves.
+use mathlib.Core.Bool.{Bool, true, false, _&&_}
+use Prim.Native.Nat.{ℕ}
+use Prim.Native.Char.{Char, code}
+use lib.Dec.{eqb}
+use Rattle.logic.specs.declared.Interval.{Interval}
+use Rattle.logic.specs.Interval.{span, contains}
+use Rattle.request.specs.Request.{Step}
+use Rattle.labels.specs.Labels.{member, subset, isEmpty, isJust, remove, without}
+use Rattle.steps.specs.declared.Row.{Row}
+use Rattle.steps.specs.declared.Hypothesis.{Hypothesis}
+use Rattle.steps.specs.declared.Goal.{Goal}
+use Rattle.steps.specs.declared.Goal.the-variants.{Holds, Affirms}
+use Rattle.steps.specs.declared.Fresh.{Fresh}
+use Rattle.steps.specs.declared.Fresh.the-variants.{Nothing, Linear, Both, Unrestricted}
+use Rattle.steps.specs.declared.Premise.{Premise}
+use Rattle.steps.specs.declared.Plan.{Plan}
+use Rattle.steps.specs.declared.Plan.the-variants.{Refused, Closed, One, Two}
+
+-- the formula of a number at an interval
+infix 90 _at_
+abbrev pub _at_ : ℕ → Interval → Hypothesis
+n at i = record { formula = n; interval = i }
+
+-- a premise with the linear labels d, the goal g and what takes new labels
+abbrev pub premise : ℕ → Goal → Fresh → Premise
+premise d g f = record { linear = d; goal = g; fresh = f }
+
+-- a step that fails its test breaks its rule
+unfoldable pub when : Bool → Plan → Plan
+when true p = p
+when false p = Refused
+
+-- the row is that of a formula with this letter
+abbrev pub is : Row → Char → Bool
+is x c = eqb (x .letter) (code c)
+
+-- The sequent has unrestricted labels R, linear labels D and goal g; `label` tells what a label stands for, `row` the
+-- row of a formula's number.
+module _ (row : ℕ → Row) (label : ℕ → Hypothesis) (R D : ℕ) (g : Goal) where
+  -- "The right steps .. and `ax` need a goal without affirms": A at I, where A has the letter
+  unfoldable pub right : Goal → Char → (Row → Interval → Plan) → Plan
+  right (Holds n i) c k = when (is (row n) c) (k (row n) i)
+  right (Affirms p n i) c k = Refused
+
+  -- K affirms A at I
+  unfoldable pub affirmed : Goal → (ℕ → ℕ → Interval → Plan) → Plan
+  affirmed (Holds n i) k = Refused
+  affirmed (Affirms p n i) k = k p n i
+
+  -- "L is in D save at `cp`": and its formula has the letter
+  unfoldable pub left : ℕ → Char → (Interval → Row → Plan) → Plan
+  left l c k =
+      when (member D l && is (row (label l .formula)) c) (k (label l .interval) (row (label l .formula)))
+
+  -- L is an atom equal to that of the row, by predicate and session
+  abbrev pub sameAtom : ℕ → Row → Bool
+  sameAtom l x =
+      let y = row (label l .formula) in
+      is y "a" && (eqb (y .a) (x .a) && eqb (y .b) (x .b))
+
+  unfoldable pub planOf : Step → Plan
+  -- "D holds just L, an atom equal to the goal; L's window ⊇ goal's. Closes."
+  planOf (Step.ax l) =
+      right g "a" (λ x i. when (isJust D l && (sameAtom l x && contains (label l .interval) i)) Closed)
+  -- "L in R; a new single label of the same wording and window."
+  planOf (Step.cp l) = when (member R l) (One (premise D g (Linear (label l))))
+  -- "⊗; left from the share, right from the rest of D."
+  planOf (Step.tr s) =
+      right g "t" (λ x i. when (subset s D)
+      (Two (premise s (Holds (x .a) i) Nothing) (premise (without D s) (Holds (x .b) i) Nothing)))
+  -- "both parts"
+  planOf (Step.tl l) = left l "t" (λ i x. One (premise (remove D l) g (Both ((x .a) at i) ((x .b) at i))))
+  -- "1, D empty; closes."
+  planOf Step.or = right g "o" (λ x i. when (isEmpty D) Closed)
+  -- "drops L, a 1."
+  planOf (Step.ol l) = left l "o" (λ i x. One (premise (remove D l) g Nothing))
+  -- "&, both arms, each from all of D."
+  planOf Step.wr =
+      right g "w" (λ x i. Two (premise D (Holds (x .a) i) Nothing) (premise D (Holds (x .b) i) Nothing))
+  -- "that arm"
+  planOf (Step.w1 l) = left l "w" (λ i x. One (premise (remove D l) g (Linear ((x .a) at i))))
+  planOf (Step.w2 l) = left l "w" (λ i x. One (premise (remove D l) g (Linear ((x .b) at i))))
+  -- "⊕, that arm."
+  planOf Step.p1 = right g "p" (λ x i. One (premise D (Holds (x .a) i) Nothing))
+  planOf Step.p2 = right g "p" (λ x i. One (premise D (Holds (x .b) i) Nothing))
+  -- "a premise for each arm"
+  planOf (Step.pl l) =
+      left l "p" (λ i x.
+      Two (premise (remove D l) g (Linear ((x .a) at i))) (premise (remove D l) g (Linear ((x .b) at i))))
+  -- "A ⊸ B; L's window ⊇ J = from..to; A at J from the share, which must not have L; then the goal from the rest with
+  -- B at J for L."
+  planOf (Step.ll l s j) =
+      left l "l" (λ i x. when (contains i j && subset s (remove D l))
+      (Two (premise s (Holds (x .a) j) Nothing) (premise (without (remove D l) s) g (Linear ((x .b) at j)))))
+  -- "A ⊃ B; the same, but A from an empty D."
+  planOf (Step.ul l j) =
+      left l "u" (λ i x. when (contains i j)
+      (Two (premise 0 (Holds (x .a) j) Nothing) (premise (remove D l) g (Linear ((x .b) at j)))))
+  -- "!, D empty, then the part."
+  planOf Step.br = right g "b" (λ x i. when (isEmpty D) (One (premise D (Holds (x .a) i) Nothing)))
+  -- "the part joins R"
+  planOf (Step.bl l) = left l "b" (λ i x. One (premise (remove D l) g (Unrestricted ((x .a) at i))))
+  -- "A@J becomes A at J."
+  planOf Step.hr = right g "h" (λ x i. One (premise D (Holds (x .a) (span (x .b) (x .c))) Nothing))
+  -- "likewise for L"
+  planOf (Step.hl l) =
+      left l "h" (λ i x. One (premise (remove D l) g (Linear ((x .a) at (span (x .b) (x .c))))))
+  -- "⟨K⟩A becomes K affirms A."
+  planOf Step.sr = right g "s" (λ x i. One (premise D (Affirms (x .a) (x .b) i) Nothing))
+  -- "K affirms A becomes A."
+  planOf Step.af = affirmed g (λ k n i. One (premise D (Holds n i) Nothing))
+  -- "L is ⟨K⟩A and the goal K affirms B, same K; L's window ⊇ goal's."
+  planOf (Step.sl l) =
+      affirmed g (λ k n j. left l "s" (λ i x. when (eqb (x .a) k && contains i j)
+      (One (premise (remove D l) g (Linear ((x .b) at i))))))
+  -- "⊇ that holds, D empty; closes."
+  planOf Step.gr =
+      right g "g" (λ x i. when (isEmpty D && contains (span (x .a) (x .b)) (span (x .c) (x .d))) Closed)

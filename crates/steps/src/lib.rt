@@ -1,0 +1,54 @@
+// Steps: what a step line asks of a sequent and what it leaves. This file has the types that definitions and code
+// share; specs/ has the definitions.
+
+// A formula's line as a row of numbers: the letter's byte and its fields, 0 where it has none.
+pub struct Row {
+    pub letter: u32,
+    pub a: u32,
+    pub b: u32,
+    pub c: u32,
+    pub d: u32,
+}
+
+// A formula, by its number, at an interval: what a label stands for.
+pub struct Hypothesis {
+    pub formula: u32,
+    pub interval: logic::Interval,
+}
+
+// "A at I", or "K affirms A at I"; K comes first.
+pub enum Goal {
+    Holds(u32, logic::Interval),
+    Affirms(u32, u32, logic::Interval),
+}
+
+// A sequent (document 01: a judged line): the unrestricted labels (standing, R), the linear ones (single-use, D) and
+// the goal. Bit k of a set stands for label k.
+pub struct Sequent {
+    pub unrestricted: u64,
+    pub linear: u64,
+    pub goal: Goal,
+}
+
+// What takes new labels as a premise begins, and on which side.
+pub enum Fresh {
+    Nothing,
+    Linear(Hypothesis),
+    Both(Hypothesis, Hypothesis),
+    Unrestricted(Hypothesis),
+}
+
+// A premise before it takes its labels; the unrestricted labels of the step's sequent pass to it.
+pub struct Premise {
+    pub linear: u64,
+    pub goal: Goal,
+    pub fresh: Fresh,
+}
+
+// What a step does: it breaks its rule, closes the sequent, or leaves one premise or two.
+pub enum Plan {
+    Refused,
+    Closed,
+    One(Premise),
+    Two(Premise, Premise),
+}
