@@ -1,5 +1,6 @@
 -- Sets of labels, as numbers: "bit k (worth 2 to the k) stands for label k".
-use mathlib.Core.Bool.{Bool}
+use mathlib.Core.Path.{_≡_}
+use mathlib.Core.Bool.{Bool, true}
 use Prim.Native.Nat.{ℕ, _-_, _/_, _%_, _^_}
 use lib.Dec.{eqb}
 use lib.Bits.{bitAnd, bitOr}
@@ -29,3 +30,12 @@ without d s = d - bitAnd d s
 
 abbrev pub remove : ℕ → ℕ → ℕ
 remove d k = without d (2 ^ k)
+
+-- the same as propositions
+infix 40 _∋_
+abbrev pub _∋_ : ℕ → ℕ → Type 0
+d ∋ k = member d k ≡ true
+
+infix 40 _⊑_
+abbrev pub _⊑_ : ℕ → ℕ → Type 0
+s ⊑ d = subset s d ≡ true

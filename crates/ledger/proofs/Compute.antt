@@ -13,7 +13,7 @@ use Rattle.request.specs.Request.{stepsIntervals, intervals}
 use Rattle.request.specs.Read.{number, labelSet, interval, kind, part, parts, formulaLine, labelled, stepLine}
 use Rattle.request.specs.Read.{holdLine}
 use Rattle.request.specs.Read.{bookLine, firstLine, rest, requestLines, requestOf}
-use Rattle.steps.specs.Rules.{when, right, affirmed, left, planOf}
+use Rattle.steps.specs.Plans.{when, right, affirmed, left, planOf}
 use Rattle.steps.specs.Check.{maxLabels, begin, judged, onward, follow, premiseOf, finished, checkOf}
 use Rattle.ledger.specs.Table.{build, formulas}
 use Rattle.ledger.specs.Ledger.{empty, find, without, held, linears, spend}

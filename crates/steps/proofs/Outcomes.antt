@@ -11,7 +11,7 @@ use Rattle.steps.specs.declared.Hypothesis.{Hypothesis}
 use Rattle.steps.specs.declared.Sequent.{Sequent}
 use Rattle.steps.specs.declared.Plan.{Plan}
 use Rattle.steps.specs.declared.Plan.the-variants.{Refused, Closed, One, Two}
-use Rattle.steps.specs.Rules.{planOf}
+use Rattle.steps.specs.Plans.{planOf}
 use Rattle.steps.specs.Check.{Beginning, full, begun, Outcome, done, stopped, begin, Judge, judged, onward}
 use Rattle.steps.specs.Check.{follow}
 use Rattle.steps.specs.Check.{premiseOf, finished, checkOf}

@@ -15,7 +15,7 @@ use Rattle.steps.specs.declared.Fresh.the-variants.{Nothing, Linear, Bot
 use Rattle.steps.specs.declared.Premise.{Premise}
 use Rattle.steps.specs.declared.Plan.{Plan}
 use Rattle.steps.specs.declared.Plan.the-variants.{Refused, Closed, One, Two}
-use Rattle.steps.specs.Rules.{planOf}
+use Rattle.steps.specs.Plans.{planOf}
 
 -- labels 0 to 63
 unfoldable pub maxLabels : ℕ

@@ -1,2 +1,4 @@
-pub mod Rules
+pub mod Plans
 pub mod Check
+pub mod Rule
+pub mod Spells
