@@ -121,21 +121,21 @@ steps-proper t cs n i ss =
 checks-proper : (t : Ledger) (r : Request) → AllProper (checks t r)
 unfolding checks
 checks-proper t (word l) =
-    (low 10 _ (omega arith), (low 12 _ (omega arith), (low 13 _ (omega arith), (low 14 _ (omega arith), tt))))
+    (low _ _ (omega arith), (low _ _ (omega arith), (low _ _ (omega arith), (low _ _ (omega arith), tt))))
 checks-proper t (issue Linear n i) =
-    (low 10 _ (omega arith), (low 20 _ (omega arith), (low 22 _ (omega arith), (low 23 _ (omega arith), tt))))
+    (low _ _ (omega arith), (low _ _ (omega arith), (low _ _ (omega arith), (low _ _ (omega arith), tt))))
 checks-proper t (issue Unrestricted n i) =
-    (low 10 _ (omega arith), (low 21 _ (omega arith), (low 22 _ (omega arith), (low 23 _ (omega arith), tt))))
-checks-proper t (withdraw n) = (low 24 _ (omega arith), tt)
+    (low _ _ (omega arith), (low _ _ (omega arith), (low _ _ (omega arith), (low _ _ (omega arith), tt))))
+checks-proper t (withdraw n) = (low _ _ (omega arith), tt)
 checks-proper t (book b) = (
-  low 10 _ (omega arith),
+  low _ _ (omega arith),
   (
-    low 20 _ (omega arith),
+    low _ _ (omega arith),
     (
-      low 30 _ (omega arith),
+      low _ _ (omega arith),
       (
-        low 24 _ (omega arith),
-        (low 31 _ (omega arith), (steps-proper t _ _ _ _, (low 22 _ (omega arith), (low 23 _ (omega arith), tt)))),
+        low _ _ (omega arith),
+        (low _ _ (omega arith), (steps-proper t _ _ _ _, (low _ _ (omega arith), (low _ _ (omega arith), tt)))),
       ),
     ),
   ),
@@ -144,11 +144,11 @@ checks-proper t (tally s m) = tt
 
 read-proper : (t : Ledger) (o : Option Request) → AllProper (readChecks t o)
 read-proper t none = tt
-read-proper t (some r) = (low 3 _ (omega arith), checks-proper t r)
+read-proper t (some r) = (low _ _ (omega arith), checks-proper t r)
 
 all-proper : (t : Ledger) (b : List ℕ) → AllProper (checksOf t b)
 unfolding checksOf
-all-proper t b = (low 1 _ (omega arith), (low 2 _ (omega arith), read-proper t (requestOf b)))
+all-proper t b = (low _ _ (omega arith), (low _ _ (omega arith), read-proper t (requestOf b)))
 
 first-proper : (cs : List Check) {f : Refusal} → AllProper cs → first cs ≡ some f → Stepped (f .number) (f .step)
 unfolding first

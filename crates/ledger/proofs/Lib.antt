@@ -1,3 +1,4 @@
 pub mod Answers
 pub mod Compute
 pub mod Sessions
+pub mod Cases

@@ -5,3 +5,4 @@ pub mod Calls
 pub mod History
 pub mod Statements
 pub mod Sessions
+pub mod Cases

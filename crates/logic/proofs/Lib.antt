@@ -4,3 +4,4 @@ pub mod Multisets
 pub mod Weights
 pub mod Balance
 pub mod Conservation
+pub mod Examples
