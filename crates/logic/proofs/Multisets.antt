@@ -1,8 +1,9 @@
 -- Laws of permutations by insertion, and what they keep: sums and what every member has.
 use mathlib.Core.Path.{_≡_, refl, sym, ap, subst}
 use mathlib.Core.List.{List, [], _∷_, _++_, List·Memᴰ, List·Memᴰ·head, List·Memᴰ·tail}
-use Prim.Native.Nat.{ℕ, _+_}
+use Prim.Native.Nat.{ℕ, suc, _+_}
 use native.Mathlib.Omega.{arith}
+use lib.ListN.{length}
 use Rattle.logic.specs.Multiset.{Ins, here, there, Perm, none, more, Every, sum}
 
 module _ {A : Type 0} where
@@ -36,6 +37,10 @@ module _ {A : Type 0} where
   perm-sym none = none
   perm-sym (more i m) = ins-front i (perm-sym m)
 
+  pub ins-length : {x : A} {xs ys : List A} → Ins x xs ys → length ys ≡ suc (length xs)
+  ins-length (here p) = refl
+  ins-length (there i) = ap suc (ins-length i)
+
   module _ (f : A → ℕ) where
     pub ins-sum : {x : A} {xs ys : List A} → Ins x xs ys → sum f ys ≡ f x + sum f xs
     unfolding sum
@@ -52,7 +57,25 @@ module _ {A : Type 0} where
     append-sum [] ys = omega arith
     append-sum (x ∷ xs) ys = omega (arith, append-sum xs ys)
 
+    pub snoc-sum : (xs : List A) (x : A) → sum f (xs ++ (x ∷ [])) ≡ sum f xs + f x
+    unfolding sum
+    snoc-sum xs x = omega (arith, append-sum xs (x ∷ []))
+
   module _ (P : A → Type 0) where
+    -- sums of what is equal
+    pub same-sum : (f g : A → ℕ) (xs : List A) → ((x : A) → P x → f x ≡ g x) → Every P xs → sum f xs ≡ sum g xs
+    unfolding sum
+    same-sum f g [] e h = refl
+    same-sum f g (x ∷ xs) e h = omega (arith, e x (h .0), same-sum f g xs e (h .1))
+
+    pub every-out : {x : A} {xs ys : List A} → Ins x xs ys → Every P ys → P x × Every P xs
+    every-out (here e) h = (subst P (sym e) (h .0), h .1)
+    every-out (there i) h = let w = every-out i (h .1) in (w .0, (h .0, w .1))
+
+    pub every-snoc : (xs : List A) (x : A) → Every P xs → P x → Every P (xs ++ (x ∷ []))
+    every-snoc [] x h p = (p, tt)
+    every-snoc (y ∷ xs) x h p = (h .0, every-snoc xs x (h .1) p)
+
     pub ins-every : {x : A} {xs ys : List A} → Ins x xs ys → P x → Every P xs → Every P ys
     ins-every (here p) x a = (subst P p x, a)
     ins-every (there i) x a = (a .0, ins-every i x (a .1))

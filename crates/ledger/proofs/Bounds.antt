@@ -1,0 +1,175 @@
+-- What holds of every ledger that calls gave: the limits of document 01.
+use mathlib.Core.Path.{_≡_, refl, sym, subst}
+use mathlib.Core.List.{List, [], _∷_, _++_}
+use mathlib.Core.Bool.{Bool, true, false}
+use Prim.Native.Nat.{ℕ, _+_, _≤_, _<_}
+use native.Mathlib.Omega.{arith}
+use lib.Dec.{eqb}
+use lib.ListN.{length, length-append}
+use Rattle.logic.specs.Formula.{Formula, size}
+use Rattle.logic.specs.Multiset.{Every}
+use Rattle.logic.proofs.Multisets.{ins-length, every-out, every-snoc, every-map}
+use Rattle.request.specs.declared.Kind.{Kind}
+use Rattle.request.specs.declared.Kind.the-variants.{Linear, Unrestricted}
+use Rattle.request.specs.Range.{serial}
+use Rattle.request.specs.Request.{Request, word, issue, withdraw, book, tally}
+use Rattle.ledger.specs.declared.Credential.{Credential}
+use Rattle.ledger.specs.Table.{form, build, formulas}
+use Rattle.ledger.specs.Ledger.{Ledger, empty, formula, by, without, held, spend}
+use Rattle.ledger.specs.Checks.{maxSize, maxFormulas, maxLive, checks, readChecks}
+use Rattle.ledger.specs.Calls.{Reply, withLine, accept, call, after}
+use Rattle.ledger.proofs.Answers.{Pass, Does, refuses, accepts, does}
+use Rattle.ledger.proofs.Credentials.{take-out, splits}
+use Rattle.ledger.proofs.Tables.{formula-snoc, Tabled, line-tabled}
+use Rattle.ledger.proofs.Passed.{passed-word, passed-issue, passed-withdraw, passed-book}
+
+-- What holds at the start and is kept by each accepted request holds after every list of calls.
+module _ (P : Ledger → Type 0) (keeps : (t : Ledger) (r : Request) → Pass (checks t r) → P t → P (accept t r .ledger))
+  where
+    pub call-keeps : (t : Ledger) (b : List ℕ) → P t → P (call t b .ledger)
+    call-keeps t b h = go (does t b)
+      where
+        go : Does t b → P (call t b .ledger)
+        go (refuses f e q) = subst (λ (d : Reply). P (d .ledger)) (sym q) h
+        go (accepts r e c d q) = subst (λ (d : Reply). P (d .ledger)) (sym q) (keeps t r (d .1) h)
+
+    pub after-keeps : (t : Ledger) (bs : List (List ℕ)) → P t → P (after t bs)
+    unfolding after
+    after-keeps t [] h = h
+    after-keeps t (b ∷ bs) h = after-keeps (call t b .ledger) bs (call-keeps t b h)
+
+-- serials rise, from above lo
+abbrev pub Rises : ℕ → List Credential → Type 0
+Rises lo [] = Unit {0}
+Rises lo (c ∷ cs) = (lo < c .serial) × Rises (c .serial) cs
+
+abbrev pub Below : ℕ → List Credential → Type 0
+Below n = Every (λ c. c .serial < n)
+
+pub record Bounded (t : Ledger) : Type 0 where
+  pub tabled : Tabled t
+  pub rises : Rises 0 (t .live)
+  pub below : Below (t .next) (t .live)
+  pub lines : length (t .lines) ≤ maxFormulas
+  pub live : length (t .live) ≤ maxLive
+  pub first : 1 ≤ t .next
+  pub last : t .next ≤ serial .last + 1
+  pub sizes : (n : ℕ) → size (formula t n) ≤ maxSize
+
+one-more : (cs : List Credential) (c : Credential) {n : ℕ} → length cs < n → length (cs ++ (c ∷ [])) ≤ n
+one-more cs c h = omega (arith, length-append cs (c ∷ []))
+
+rises-lower : (lo hi : ℕ) (cs : List Credential) → lo ≤ hi → Rises hi cs → Rises lo cs
+rises-lower lo hi [] le r = tt
+rises-lower lo hi (c ∷ cs) le r = let h = r .0 in (omega arith, r .1)
+
+rises-without : (lo n : ℕ) (cs : List Credential) → Rises lo cs → Rises lo (without cs n)
+unfolding without
+rises-without lo n [] r = tt
+rises-without lo n (c ∷ cs) r = go (eqb (c .serial) n) (rises-without (c .serial) n cs (r .1))
+  where
+    go : (b : Bool) → Rises (c .serial) (without cs n)
+        → Rises lo (elim b as (λ z. List Credential) [ true ↦ cs | false ↦ c ∷ without cs n ])
+    go true h = let l = r .0 in rises-lower lo (c .serial) cs (omega arith) (r .1)
+    go false h = (r .0, h)
+
+rises-spend : (lo : ℕ) (cs hs : List Credential) → Rises lo cs → Rises lo (spend cs hs)
+unfolding spend
+rises-spend lo cs [] r = r
+rises-spend lo cs (h ∷ hs) r = rises-spend lo _ hs (go (h .kind))
+  where
+    go : (k : Kind) → Rises lo (by k (without cs (h .serial)) cs)
+    go Linear = rises-without lo (h .serial) cs r
+    go Unrestricted = r
+
+rises-snoc : (lo n : ℕ) (cs : List Credential) (c : Credential) → c .serial ≡ n → lo < n → Rises lo cs → Below n cs
+    → Rises lo (cs ++ (c ∷ []))
+rises-snoc lo n [] c e l r b = (omega arith, tt)
+rises-snoc lo n (d ∷ cs) c e l r b = (r .0, rises-snoc (d .serial) n cs c e (b .0) (r .1) (b .1))
+
+below-snoc : (n : ℕ) (cs : List Credential) (c : Credential) → c .serial ≡ n → Below n cs
+    → Below (n + 1) (cs ++ (c ∷ []))
+below-snoc n cs c e b =
+    every-snoc (λ c. c .serial < n + 1) cs c (every-map (λ d l. omega arith) cs b) (omega arith)
+
+same-table : (t : Ledger) (cs : List Credential) (n : ℕ) → Tabled t
+    → Tabled (record { lines = t .lines; live = cs; next = n })
+same-table t cs n h = record { reads = h .reads; refs = h .refs }
+
+accept-bounded : (t : Ledger) (r : Request) → Pass (checks t r) → Bounded t → Bounded (accept t r .ledger)
+unfolding accept
+accept-bounded t (word l) p b =
+    let q = passed-word t l p in
+    record {
+      tabled = line-tabled t l (b .tabled) (q .there);
+      rises = b .rises;
+      below = b .below;
+      lines = omega (arith, length-append (t .lines) (l ∷ []), q .room);
+      live = b .live;
+      first = b .first;
+      last = b .last;
+      sizes = λ n. subst (λ (a : Formula). size a ≤ maxSize) (sym (formula-snoc t l n))
+          (go (q .small) n (eqb n (length (t .lines))));
+    }
+  where
+    go : size (form (formula t) l) ≤ maxSize → (n : ℕ) (x : Bool)
+        → size (elim x as (λ z. Formula) [ true ↦ form (formula t) l | false ↦ formula t n ]) ≤ maxSize
+    go h n true = h
+    go h n false = b .sizes n
+accept-bounded t (issue k n i) p b =
+    let q = passed-issue t k n i p in
+    record {
+      tabled = same-table t _ _ (b .tabled);
+      rises = rises-snoc 0 (t .next) (t .live) _ refl (b .first) (b .rises) (b .below);
+      below = below-snoc (t .next) (t .live) _ refl (b .below);
+      lines = b .lines;
+      live = one-more (t .live) _ (omega (arith, q .room));
+      first = omega arith;
+      last = omega (arith, q .unused);
+      sizes = b .sizes;
+    }
+accept-bounded t (withdraw n) p b =
+    let q = passed-withdraw t n p in
+    let i = take-out (t .live) n (q .found) .1 in
+    record {
+      tabled = same-table t _ _ (b .tabled);
+      rises = rises-without 0 n (t .live) (b .rises);
+      below = every-out _ i (b .below) .1;
+      lines = b .lines;
+      live = omega (arith, b .live, ins-length i);
+      first = b .first;
+      last = b .last;
+      sizes = b .sizes;
+    }
+accept-bounded t (book x) p b =
+    let q = passed-book t x p in
+    let v = splits (λ c. c .serial < t .next) t (x .holds) (q .alive) (q .apart) (b .below) in
+    let hs = held (t .live) (x .holds) in
+    let cs = spend (t .live) hs in
+    record {
+      tabled = same-table t _ _ (b .tabled);
+      rises = rises-snoc 0 (t .next) cs _ refl (b .first) (rises-spend 0 (t .live) hs (b .rises)) (v .stay);
+      below = below-snoc (t .next) cs _ refl (v .stay);
+      lines = b .lines;
+      live = one-more cs _ (omega (arith, v .lengths, q .room));
+      first = omega arith;
+      last = omega (arith, q .unused);
+      sizes = b .sizes;
+    }
+accept-bounded t (tally s m) p b = b
+
+empty-bounded : Bounded empty
+unfolding build formulas size
+empty-bounded = record {
+  tabled = record { reads = λ n. refl; refs = λ n. tt };
+  rises = tt;
+  below = tt;
+  lines = omega arith;
+  live = omega arith;
+  first = omega arith;
+  last = omega arith;
+  sizes = λ n. omega arith;
+}
+
+pub bounded : (bs : List (List ℕ)) → Bounded (after empty bs)
+bounded bs = after-keeps Bounded accept-bounded empty bs empty-bounded
