@@ -19,7 +19,7 @@ use Rattle.steps.specs.declared.Row.{Row}
 use Rattle.steps.specs.declared.Hypothesis.{Hypothesis}
 use Rattle.steps.specs.declared.Goal.the-variants.{Holds}
 use Rattle.steps.specs.declared.Sequent.{Sequent}
-use Rattle.steps.specs.Check.{Outcome, done, stopped, checkOf}
+use Rattle.steps.specs.Check.{Outcome, done, stopped, puts, checkOf}
 use Rattle.ledger.specs.declared.Credential.{Credential}
 use Rattle.ledger.specs.Table.{form, names, rowOf}
 use Rattle.ledger.specs.Ledger.{Ledger, formula, row, by, find, isNone, held, linears}
@@ -107,22 +107,26 @@ readLabel f k = f k
 abbrev pub writeLabel : Labels → ℕ → Hypothesis → Labels
 writeLabel f n h = λ k. elim (eqb k n) [ true ↦ h | false ↦ f k ]
 
--- a table with labels below `next`, and which of them are unrestricted and linear
-pub record Start (T : Type 0) : Type 0 where
-  pub table : T
-  pub next : ℕ
-  pub unrestricted : ℕ
-  pub linear : ℕ
+-- "Holds take labels 0, 1, .. in order": what they stand for, and the sets, from label n on, of the linear ones and of
+-- the unrestricted ones
+abbrev pub hypothesis : Credential → Hypothesis
+hypothesis c = record { formula = c .formula; interval = c .interval }
 
--- "Holds take labels 0, 1, .. in order."
-unfoldable pub started : {T : Type 0} → (T → ℕ → Hypothesis → T) → Start T → List Credential → Start T
-started put s [] = s
-started put s (c ∷ cs) = started put (record {
-  table = put (s .table) (s .next) (record { formula = c .formula; interval = c .interval });
-  next = suc (s .next);
-  unrestricted = by (c .kind) (s .unrestricted) (insert (s .unrestricted) (s .next));
-  linear = by (c .kind) (insert (s .linear) (s .next)) (s .linear);
-}) cs
+unfoldable pub linearLabels : ℕ → List Credential → ℕ → ℕ
+linearLabels n [] d = d
+linearLabels n (c ∷ cs) d = linearLabels (suc n) cs (by (c .kind) (insert d n) d)
+
+unfoldable pub unrestrictedLabels : ℕ → List Credential → ℕ → ℕ
+unrestrictedLabels n [] d = d
+unrestrictedLabels n (c ∷ cs) d = unrestrictedLabels (suc n) cs (by (c .kind) d (insert d n))
+
+-- the sequent of a booking's first step: the goal is formula n at i
+abbrev pub bookingSequent : List Credential → ℕ → Interval → Sequent
+bookingSequent cs n i = record {
+  unrestricted = unrestrictedLabels 0 cs 0;
+  linear = linearLabels 0 cs 0;
+  goal = Holds n i;
+}
 
 unfoldable pub verdict : {T : Type 0} → Outcome T → Check
 verdict (done ss t next) = none
@@ -131,9 +135,8 @@ verdict (stopped c n) = some (record { number = c; step = n })
 -- "40 to 42 are found step by step": the goal is formula n at i, from the credentials held.
 unfoldable pub steps : Ledger → List Credential → ℕ → Interval → List Step → Check
 steps t cs n i ss =
-    let s = started writeLabel (record { table = noLabels; next = 0; unrestricted = 0; linear = 0 }) cs in
-    verdict (checkOf (row t) readLabel writeLabel (length ss) ss (s .table) (s .next)
-    (record { unrestricted = s .unrestricted; linear = s .linear; goal = Holds n i }))
+    verdict (checkOf (row t) readLabel writeLabel (length ss) ss
+    (puts writeLabel noLabels 0 (map hypothesis cs)) (length cs) (bookingSequent cs n i))
 
 -- The table, for each kind of request
 
