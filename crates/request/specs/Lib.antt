@@ -3,3 +3,6 @@ pub mod Text
 pub mod Reader
 pub mod Request
 pub mod Read
+pub mod Write
+pub mod InRange
+pub mod Statements

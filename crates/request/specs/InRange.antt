@@ -1,0 +1,76 @@
+-- The ranges that the fields of a request keep. Intervals may be reversed: that is a check of its own (refusal 3).
+use Prim.Native.Nat.{ℕ, _^_, _≤_, _<_}
+use mathlib.Core.List.{List}
+use lib.ListN.{length}
+use Rattle.logic.specs.declared.Interval.{Interval}
+use Rattle.logic.specs.Multiset.{Every}
+use Rattle.request.specs.Range.{Range, predicate, session, principal, minute, formulaNumber, serial, label}
+use Rattle.request.specs.Range.{holds, steps}
+use Rattle.request.specs.Request.{Line, Step, Booking, Request, word, issue, withdraw, book, tally}
+
+-- n is in the range
+infix 30 _∈_
+pub record _∈_ (n : ℕ) (r : Range) : Type 0 where
+  pub least : r .first ≤ n
+  pub most : n ≤ r .last
+
+-- a set of the labels 0 to 63
+abbrev pub LabelSet : ℕ → Type 0
+LabelSet s = s < 2 ^ 64
+
+pub record IntervalInRange (i : Interval) : Type 0 where
+  pub from : i .from ∈ minute
+  pub to : i .to ∈ minute
+
+abbrev pub LineInRange : Line → Type 0
+LineInRange (Line.atom p s) = record { predicate : p ∈ predicate; session : s ∈ session }
+LineInRange Line.one = Unit {0}
+LineInRange (Line.tensor i j) = record { left : i ∈ formulaNumber; right : j ∈ formulaNumber }
+LineInRange (Line.with i j) = record { left : i ∈ formulaNumber; right : j ∈ formulaNumber }
+LineInRange (Line.plus i j) = record { left : i ∈ formulaNumber; right : j ∈ formulaNumber }
+LineInRange (Line.lolli i j) = record { left : i ∈ formulaNumber; right : j ∈ formulaNumber }
+LineInRange (Line.implies i j) = record { left : i ∈ formulaNumber; right : j ∈ formulaNumber }
+LineInRange (Line.bang i) = i ∈ formulaNumber
+LineInRange (Line.at i w) = record { part : i ∈ formulaNumber; interval : IntervalInRange w }
+LineInRange (Line.says k i) = record { principal : k ∈ principal; part : i ∈ formulaNumber }
+LineInRange (Line.superset v w) = record { first : IntervalInRange v; second : IntervalInRange w }
+
+abbrev pub StepInRange : Step → Type 0
+StepInRange (Step.ax l) = l ∈ label
+StepInRange (Step.cp l) = l ∈ label
+StepInRange (Step.tr s) = LabelSet s
+StepInRange (Step.tl l) = l ∈ label
+StepInRange Step.or = Unit {0}
+StepInRange (Step.ol l) = l ∈ label
+StepInRange Step.wr = Unit {0}
+StepInRange (Step.w1 l) = l ∈ label
+StepInRange (Step.w2 l) = l ∈ label
+StepInRange Step.p1 = Unit {0}
+StepInRange Step.p2 = Unit {0}
+StepInRange (Step.pl l) = l ∈ label
+StepInRange (Step.ll l s j) = record { label : l ∈ label; share : LabelSet s; interval : IntervalInRange j }
+StepInRange (Step.ul l j) = record { label : l ∈ label; interval : IntervalInRange j }
+StepInRange Step.br = Unit {0}
+StepInRange (Step.bl l) = l ∈ label
+StepInRange Step.hr = Unit {0}
+StepInRange (Step.hl l) = l ∈ label
+StepInRange Step.sr = Unit {0}
+StepInRange Step.af = Unit {0}
+StepInRange (Step.sl l) = l ∈ label
+StepInRange Step.gr = Unit {0}
+
+pub record BookingInRange (b : Booking) : Type 0 where
+  pub now : b .now ∈ minute
+  pub formula : b .formula ∈ formulaNumber
+  pub interval : IntervalInRange (b .interval)
+  pub holdCount : length (b .holds) ∈ holds
+  pub stepCount : length (b .steps) ∈ steps
+  pub holds : Every (λ n. n ∈ serial) (b .holds)
+  pub steps : Every StepInRange (b .steps)
+
+abbrev pub InRange : Request → Type 0
+InRange (word l) = LineInRange l
+InRange (issue k n i) = record { formula : n ∈ formulaNumber; interval : IntervalInRange i }
+InRange (withdraw n) = n ∈ serial
+InRange (book b) = BookingInRange b
+InRange (tally s m) = record { session : s ∈ session; minute : m ∈ minute }

@@ -1,0 +1,33 @@
+-- What is proved of reading and writing requests (in proofs/).
+use mathlib.Core.Path.{_≡_}
+use mathlib.Core.List.{List}
+use mathlib.Core.Option.{some}
+use Prim.Native.Nat.{ℕ, _≤_}
+use lib.ListN.{length}
+use Rattle.request.specs.Range.{maxBytes}
+use Rattle.request.specs.Request.{Request}
+use Rattle.request.specs.Read.{requestOf}
+use Rattle.request.specs.Write.{write}
+use Rattle.request.specs.InRange.{InRange}
+
+-- A written request is read again.
+abbrev pub WriteRead : Type 0
+WriteRead = (r : Request) → InRange r → requestOf (write r) ≡ some r
+
+-- Whatever is read is in range.
+abbrev pub ReadInRange : Type 0
+ReadInRange = (b : List ℕ) (r : Request) → requestOf b ≡ some r → InRange r
+
+-- A request has one spelling: bytes that read as it are those that are written.
+abbrev pub ReadWrite : Type 0
+ReadWrite = (b : List ℕ) (r : Request) → requestOf b ≡ some r → write r ≡ b
+
+-- The longest request, a booking of 32 holds and 256 steps `ll`, has 40 + 32 * 12 + 256 * 39 bytes.
+abbrev pub longest : ℕ
+longest = 10408
+
+abbrev pub Longest : Type 0
+Longest = (r : Request) → InRange r → length (write r) ≤ longest
+
+abbrev pub WriteShort : Type 0
+WriteShort = (r : Request) → InRange r → length (write r) ≤ maxBytes
