@@ -20,12 +20,7 @@ use Rattle.ledger.specs.Ledger.{Ledger, row, isNone}
 use Rattle.ledger.specs.Checks.{Refusal, Check, _if_, first, readLabel, writeLabel, verdict, steps, checks}
 use Rattle.ledger.specs.Checks.{readChecks, checksOf}
 use Rattle.ledger.specs.Calls.{Reply, accept, decide, call}
-use Rattle.ledger.specs.Statements.{Refusals, RefusalLeaves}
-
--- every check passes
-abbrev pub Pass : List Check → Type 0
-Pass [] = Unit {0}
-Pass (c ∷ cs) = (c ≡ none) × Pass cs
+use Rattle.ledger.specs.Statements.{Pass, FirstFails, here, later, IsAccepted, Refusals, RefusalLeaves}
 
 abbrev IsSome : {A : Type 0} → Option A → Type 0
 IsSome none = ⊥
@@ -68,12 +63,6 @@ does t b = go (first (checksOf t b)) refl (requestOf b) refl
         (ap (λ (x : Option Refusal). decide t x (requestOf b)) e ∙ ap (decide t none) q)
     go none e none q =
         absurd (no-truth (sym (if-none 2 _ (first-passes (checksOf t b) e .1 .0)) ∙ ap isNone q))
-
--- an answer that is no refusal
-abbrev pub IsAccepted : Answer → Type 0
-IsAccepted (Accepted n) = Unit {0}
-IsAccepted (Counted o s p) = Unit {0}
-IsAccepted (Refused n k) = ⊥
 
 pub accept-accepts : (t : Ledger) (r : Request) → IsAccepted (accept t r .answer)
 unfolding accept

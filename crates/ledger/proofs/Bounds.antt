@@ -18,7 +18,8 @@ use Rattle.ledger.specs.Table.{form, build, formulas}
 use Rattle.ledger.specs.Ledger.{Ledger, empty, formula, by, without, held, spend}
 use Rattle.ledger.specs.Checks.{maxSize, maxFormulas, maxLive, checks, readChecks}
 use Rattle.ledger.specs.Calls.{Reply, withLine, accept, call, after}
-use Rattle.ledger.proofs.Answers.{Pass, Does, refuses, accepts, does}
+use Rattle.ledger.specs.Statements.{Pass}
+use Rattle.ledger.proofs.Answers.{Does, refuses, accepts, does}
 use Rattle.ledger.proofs.Credentials.{take-out, splits}
 use Rattle.ledger.proofs.Tables.{formula-snoc, Tabled, line-tabled}
 use Rattle.ledger.proofs.Passed.{passed-word, passed-issue, passed-withdraw, passed-book}

@@ -22,7 +22,8 @@ use Rattle.ledger.specs.Table.{form, names}
 use Rattle.ledger.specs.Ledger.{Ledger, formula, find, isNone, held, linears}
 use Rattle.ledger.specs.Checks.{any, maxSize, maxFormulas, maxLive, missing, sameLine, dead, twice, steps}
 use Rattle.ledger.specs.Checks.{checks}
-use Rattle.ledger.proofs.Answers.{Pass, if-none}
+use Rattle.ledger.specs.Statements.{Pass}
+use Rattle.ledger.proofs.Answers.{if-none}
 use Rattle.ledger.proofs.Credentials.{any-none}
 use Rattle.ledger.proofs.Tables.{There}
 

@@ -1,10 +1,29 @@
--- What is proved of the calls (in proofs/): refusals. Sessions.antt has the sessions M1 to M9.
+-- Refusals and acceptance, and what is proved of them (in proofs/). Sessions.antt and Cases.antt have the sessions.
 use mathlib.Core.Path.{_≡_}
-use mathlib.Core.List.{List}
+use mathlib.Core.List.{List, [], _∷_}
+use mathlib.Core.Option.{none, some}
 use Prim.Native.Nat.{ℕ, _≤_, _<_}
-use Rattle.ledger.specs.declared.Answer.the-variants.{Refused}
+use Rattle.ledger.specs.declared.Answer.{Answer}
+use Rattle.ledger.specs.declared.Answer.the-variants.{Accepted, Counted, Refused}
 use Rattle.ledger.specs.Ledger.{Ledger}
+use Rattle.ledger.specs.Checks.{Refusal, Check}
 use Rattle.ledger.specs.Calls.{call}
+
+-- every check passes
+abbrev pub Pass : List Check → Type 0
+Pass [] = Unit {0}
+Pass (c ∷ cs) = (c ≡ none) × Pass cs
+
+-- f is the first check that fails: those before it pass
+pub data FirstFails (f : Refusal) : List Check → Type 0 where
+  here : {cs : List Check} → FirstFails f (some f ∷ cs)
+  later : {cs : List Check} → FirstFails f cs → FirstFails f (none ∷ cs)
+
+-- an answer that is no refusal
+abbrev pub IsAccepted : Answer → Type 0
+IsAccepted (Accepted n) = Unit {0}
+IsAccepted (Counted o s p) = Unit {0}
+IsAccepted (Refused n k) = ⊥
 
 -- For every ledger and all bytes: "Any refusal returns these two numbers and the till as before", the second "its step
 -- (from 1) for 40 to 42, else 0".
