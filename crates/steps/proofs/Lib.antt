@@ -1,1 +1,4 @@
 pub mod Outcomes
+pub mod Labelling
+pub mod Premises
+pub mod Sound
