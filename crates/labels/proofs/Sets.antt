@@ -57,6 +57,9 @@ member-below d n k h m = go (decLe n k)
 pub only-member : (d k : ℕ) → d ≡ 2 ^ k → d ∋ k
 only-member d k e = subst (λ (x : ℕ). x ∋ k) (sym e) (subset-member (2 ^ k) k (eq-eqb _ _ (and-self (2 ^ k))))
 
+pub only-is : (d k : ℕ) → d ∋ k → remove d k ≡ 0 → d ≡ 2 ^ k
+only-is d k m e = omega (arith, removed d k m, subset-le (2 ^ k) d (member-subset d k m))
+
 -- A new label, above all those of the set
 
 and-above : (d n : ℕ) → d < 2 ^ n → bitAnd d (2 ^ n) ≡ 0

@@ -2,3 +2,5 @@ pub mod Outcomes
 pub mod Labelling
 pub mod Premises
 pub mod Sound
+pub mod Lines
+pub mod Complete
