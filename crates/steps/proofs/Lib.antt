@@ -1,1 +1,6 @@
 pub mod Outcomes
+pub mod Labelling
+pub mod Premises
+pub mod Sound
+pub mod Lines
+pub mod Complete

@@ -1,0 +1,142 @@
+-- Step lines that spell a derivation: the derivation itself, its labels forgotten.
+use mathlib.Core.Path.{_≡_, refl, ap, _∙_}
+use mathlib.Core.List.{List, [], _∷_, _++_, List·Memᴰ, List·Memᴰ·head}
+use Prim.Native.Nat.{ℕ, suc, _+_, _^_, _<_, _≤_}
+use native.Mathlib.Omega.{arith}
+use lib.ListN.{length}
+use Rattle.logic.specs.Derives.{Hyp, Judgment, Derives, uses, taken}
+use Rattle.logic.specs.Multiset.{Perm}
+use Rattle.logic.proofs.Multisets.{perm-refl, perm-sym, perm-trans}
+use Rattle.request.specs.Request.{Step}
+use Rattle.labels.specs.Labels.{_∋_, remove}
+use Rattle.labels.proofs.Sets.{only-member, member-below}
+use Rattle.labels.proofs.Permutations.{perm-of, on, perm-in}
+use Rattle.labels.proofs.Pick.{pick-empty, pick-only, pick-share, pick-remove}
+use Rattle.steps.specs.Check.{maxLabels}
+use Rattle.steps.specs.Rule.{Branch, Leaves, nothing, premise, premises, Rule}
+use Rattle.steps.specs.Spells.{Labels, named, Labelled, begun, beginning, Room, Spells}
+use Rattle.steps.proofs.Labelling.{hyps, Extends, ext-refl, ext-trans}
+use Rattle.steps.proofs.Premises.{Fits, news, length-begun, ext-begun, spells-extends, lowers, fits-begun}
+use Rattle.steps.proofs.Premises.{linear-begun, unrestricted-begun}
+
+-- a derivation with u uses of rules that takes v labels
+abbrev pub Derivation : List Hyp → List Hyp → Judgment → ℕ → ℕ → Type 0
+Derivation R D g u v = (x : Derives R D g) × (uses x ≡ u) × (taken x ≡ v)
+
+-- a premise's derivation, before its labels are taken
+abbrev Of : Labels → ℕ → Branch → Type 0
+Of ls r p = Derives (p .joins ++ hyps ls r) (p .linears ++ hyps ls (p .linear)) (p .goal)
+
+-- what a rule makes of derivations of what it leaves: one use more, and the labels that the premises take
+abbrev Makes : Labels → ℕ → ℕ → Judgment → Leaves → Type 0
+Makes ls r d g nothing = Derivation (hyps ls r) (hyps ls d) g 1 0
+Makes ls r d g (premise p) =
+    (y : Of ls r p) → Derivation (hyps ls r) (hyps ls d) g (suc (uses y)) (news p + taken y)
+Makes ls r d g (premises p₁ p₂) =
+    (y : Of ls r p₁) (z : Of ls r p₂)
+    → Derivation (hyps ls r) (hyps ls d) g (suc (uses y + uses z)) (news p₁ + news p₂ + (taken y + taken z))
+
+module _ (ls : Labels) (R D : ℕ) (known-R : R < 2 ^ length ls) (known-D : D < 2 ^ length ls)
+    (low : length ls ≤ maxLabels) where
+  -- one label, for a hypothesis that is what the rule asks, and the rest
+  out : {h : Hyp} (l : ℕ) → D ∋ l → named ls l ≡ h → Perm (h ∷ hyps ls (remove D l)) (hyps ls D)
+  out l m e =
+      rw e at (pick-remove (named ls) maxLabels D l (omega (arith, member-below D (length ls) l known-D m)) m)
+
+  -- an empty set, and a set of one label
+  bare : (d : ℕ) → d ≡ 0 → Perm (hyps ls d) []
+  bare d e = perm-of (ap (hyps ls) e ∙ pick-empty (named ls) maxLabels)
+
+  only : {h : Hyp} (l : ℕ) → D ≡ 2 ^ l → named ls l ≡ h → Perm (h ∷ []) (hyps ls D)
+  only l q e =
+      let k = member-below D (length ls) l known-D (only-member D l q) in
+      perm-sym (perm-of (ap (hyps ls) q ∙ pick-only (named ls) maxLabels l (omega arith) ∙ ap (_∷ []) e))
+
+  copied : (l : ℕ) → R ∋ l → List·Memᴰ (named ls l) (hyps ls R)
+  copied l m =
+      perm-in (pick-remove (named ls) maxLabels R l (omega (arith, member-below R (length ls) l known-R m)) m)
+      (named ls l) (List·Memᴰ·head refl)
+
+  rest : Perm (hyps ls R) (hyps ls R)
+  rest = perm-refl (hyps ls R)
+
+  makes : {s : Step} {g : Judgment} {w : Leaves} → Rule (named ls) R D s g w → Makes ls R D g w
+  unfolding uses taken
+  makes (Rule.ax {l = l} q e c) = (Derives.same rest (only l q e) (Derives.ax c), refl, refl)
+  makes (Rule.cp {l = l} m) = λ y. (Derives.cp (copied l m) y, refl, omega arith)
+  makes (Rule.tr {s = s} h) = λ y z.
+      (Derives.same rest (pick-share (named ls) maxLabels s D h) (Derives.tr y z), refl, omega arith)
+  makes (Rule.tl {l = l} m e) = λ y. (Derives.same rest (out l m e) (Derives.tl y), refl, omega arith)
+  makes (Rule.or e) = (Derives.same rest (perm-sym (bare D e)) Derives.or, refl, refl)
+  makes (Rule.ol {l = l} m e) = λ y. (Derives.same rest (out l m e) (Derives.ol y), refl, omega arith)
+  makes Rule.wr = λ y z. (Derives.wr y z, refl, omega arith)
+  makes (Rule.w1 {l = l} m e) = λ y. (Derives.same rest (out l m e) (Derives.w1 y), refl, omega arith)
+  makes (Rule.w2 {l = l} m e) = λ y. (Derives.same rest (out l m e) (Derives.w2 y), refl, omega arith)
+  makes Rule.p1 = λ y. (Derives.p1 y, refl, omega arith)
+  makes Rule.p2 = λ y. (Derives.p2 y, refl, omega arith)
+  makes (Rule.pl {l = l} m e) = λ y z. (Derives.same rest (out l m e) (Derives.pl y z), refl, omega arith)
+  makes (Rule.ll {l = l} {s = s} m e c h) = λ y z.
+      let k = perm-trans (on (pick-share (named ls) maxLabels s (remove D l) h)) (out l m e) in
+      (Derives.same rest k (Derives.ll c y z), refl, omega arith)
+  makes (Rule.ul {l = l} m e c) = λ y z.
+      (Derives.same rest (out l m e) (Derives.ul c (Derives.same rest (bare 0 refl) y) z), refl, omega arith)
+  makes (Rule.br e) = λ y.
+      (Derives.same rest (perm-sym (bare D e)) (Derives.br (Derives.same rest (bare D e) y)), refl, omega arith)
+  makes (Rule.bl {l = l} m e) = λ y. (Derives.same rest (out l m e) (Derives.bl y), refl, omega arith)
+  makes Rule.hr = λ y. (Derives.hr y, refl, omega arith)
+  makes (Rule.hl {l = l} m e) = λ y. (Derives.same rest (out l m e) (Derives.hl y), refl, omega arith)
+  makes Rule.sr = λ y. (Derives.sr y, refl, omega arith)
+  makes Rule.af = λ y. (Derives.af y, refl, omega arith)
+  makes (Rule.sl {l = l} m e c) = λ y. (Derives.same rest (out l m e) (Derives.sl c y), refl, omega arith)
+  makes (Rule.gr e c) = (Derives.same rest (perm-sym (bare D e)) (Derives.gr c), refl, refl)
+
+-- The derivation that the lines spell: as many uses of rules as lines, as many labels as it takes.
+pub record Spelt (ss : List Step) (ls : Labels) (q : Labelled) (rest : List Step) (ls′ : Labels) : Type 0 where
+  pub derivation : Derives (hyps ls (q .unrestricted)) (hyps ls (q .linear)) (q .goal)
+  pub lines : length ss ≡ uses derivation + length rest
+  pub labels : length ls′ ≡ length ls + taken derivation
+  pub room : length ls′ ≤ maxLabels
+
+-- a premise's derivation from that of its sequent, at labels ls₁ that extend ls
+unlabelled : {ls ls₁ : Labels} {q : Labelled} (p : Branch) → Extends ls ls₁ → Fits ls q → p .linear ≤ q .linear
+    → Room ls₁ p
+    → (y : Derives (hyps (begun ls₁ p) (beginning ls₁ (q .unrestricted) p .unrestricted))
+    (hyps (begun ls₁ p) (beginning ls₁ (q .unrestricted) p .linear)) (p .goal))
+    → (x : Of ls (q .unrestricted) p) × (uses x ≡ uses y) × (taken x ≡ taken y)
+unfolding uses taken
+unlabelled p x fits low room y = (
+  Derives.same (perm-sym (unrestricted-begun p x fits low room)) (perm-sym (linear-begun p x fits low room)) y,
+  refl,
+  refl,
+)
+
+pub spelt : {ss rest : List Step} {ls ls′ : Labels} {q : Labelled} → Spells ss ls q rest ls′ → Fits ls q
+    → Spelt ss ls q rest ls′
+spelt {ls = ls} {q = q} (Spells.closes r) f =
+    let m = makes ls (q .unrestricted) (q .linear) (f .unrestricted) (f .linear) (f .room) r in
+    record { derivation = m .0; lines = omega (arith, m .1); labels = omega (arith, m .2); room = f .room }
+spelt {ls = ls} {q = q} (Spells.goes {p = p} r room s) f =
+    let low = lowers r in
+    let c = spelt s (fits-begun p (ext-refl ls) f low room) in
+    let y = unlabelled p (ext-refl ls) f low room (c .derivation) in
+    let m = makes ls (q .unrestricted) (q .linear) (f .unrestricted) (f .linear) (f .room) r (y .0) in
+    record {
+      derivation = m .0;
+      lines = omega (arith, m .1, y .1, c .lines);
+      labels = omega (arith, m .2, y .2, c .labels, length-begun ls p);
+      room = c .room;
+    }
+spelt {ls = ls} {q = q} (Spells.parts {ls₁ = ls₁} {p₁ = p₁} {p₂ = p₂} r room₁ s₁ room₂ s₂) f =
+    let low = lowers r in
+    let x = ext-trans (ext-begun ls p₁) (spells-extends s₁ .0) in
+    let c₁ = spelt s₁ (fits-begun p₁ (ext-refl ls) f (low .0) room₁) in
+    let c₂ = spelt s₂ (fits-begun p₂ x f (low .1) room₂) in
+    let y₁ = unlabelled p₁ (ext-refl ls) f (low .0) room₁ (c₁ .derivation) in
+    let y₂ = unlabelled p₂ x f (low .1) room₂ (c₂ .derivation) in
+    let m = makes ls (q .unrestricted) (q .linear) (f .unrestricted) (f .linear) (f .room) r (y₁ .0) (y₂ .0) in
+    record {
+      derivation = m .0;
+      lines = omega (arith, m .1, y₁ .1, y₂ .1, c₁ .lines, c₂ .lines);
+      labels = omega (arith, m .2, y₁ .2, y₂ .2, c₁ .labels, c₂ .labels, length-begun ls p₁, length-begun ls₁ p₂);
+      room = c₂ .room;
+    }
