@@ -1,7 +1,7 @@
 -- What the floor staff asked for: the three demands, over the definitions of document 01 (crate ledger), derivations
 -- (crate logic) and the history of a list of calls.
 use mathlib.Core.Path.{_≡_}
-use mathlib.Core.Logic.{_↔_}
+use mathlib.Core.Logic.{_↔_, _⊎_}
 use mathlib.Core.List.{List, [], _∷_, map}
 use mathlib.Core.Option.{Option, none, some}
 use mathlib.Core.Bool.{Bool, true, false}
@@ -12,20 +12,22 @@ use Rattle.logic.specs.declared.Interval.{Interval}
 use Rattle.logic.specs.Interval.{has, reversed}
 use Rattle.logic.specs.Formula.{plain}
 use Rattle.logic.specs.Multiset.{Every}
-use Rattle.logic.specs.Derives.{Hyp, _⟦_⟧, holds, Derives, uses, taken}
-use Rattle.request.specs.declared.Kind.the-variants.{Linear}
+use Rattle.logic.specs.Derives.{Hyp, _⟦_⟧, Judgment, holds, Derives, uses, taken}
+use Rattle.request.specs.declared.Kind.{Kind}
+use Rattle.request.specs.declared.Kind.the-variants.{Linear, Unrestricted}
 use Rattle.request.specs.Range.{session, minute, steps as stepCount, holds as holdCount}
 use Rattle.request.specs.Request.{Step, Booking, Request, word, issue, withdraw, book, tally}
 use Rattle.request.specs.Read.{requestOf}
 use Rattle.request.specs.Write.{write}
 use Rattle.request.specs.InRange.{_∈_, IntervalInRange}
 use Rattle.steps.specs.Check.{maxLabels}
+use Rattle.steps.specs.Writable.{Proper, Minutes}
 use Rattle.steps.specs.Spells.{Labels, Labelled, Spells, Refused as StepsRefused}
 use Rattle.ledger.specs.declared.Credential.{Credential}
 use Rattle.ledger.specs.declared.Answer.{Answer}
 use Rattle.ledger.specs.declared.Answer.the-variants.{Accepted, Counted, Refused}
-use Rattle.ledger.specs.Ledger.{Ledger, empty, formula, by, find, held}
-use Rattle.ledger.specs.Checks.{Refusal, Check, any, missing, dead, twice, linearLabels, unrestrictedLabels, steps}
+use Rattle.ledger.specs.Ledger.{Ledger, empty, formula, isKind, held}
+use Rattle.ledger.specs.Checks.{Refusal, Check, any, missing, dead, twice, labelsOf, steps}
 use Rattle.ledger.specs.Checks.{checksOf}
 use Rattle.ledger.specs.Calls.{accept, call, after}
 use Rattle.ledger.specs.History.{Event, History, historyOf, issued, withdrawn}
@@ -42,7 +44,7 @@ pub record Reached (t : Ledger) : Type 0 where
 pub record Demand1 (t : Ledger) (bytes : List ℕ) : Type 0 where
   -- refused with these two numbers exactly where they are the first check's that fails
   pub refused : (n k : ℕ)
-    → (call t bytes .answer ≡ Refused n k) ↔ FirstFails (record { number = n; step = k }) (checksOf t bytes)
+      → (call t bytes .answer ≡ Refused n k) ↔ FirstFails (record { number = n; step = k }) (checksOf t bytes)
   -- and the ledger is as before
   pub stays : (n k : ℕ) → call t bytes .answer ≡ Refused n k → call t bytes .ledger ≡ t
   -- accepted exactly where no check fails
@@ -51,21 +53,17 @@ pub record Demand1 (t : Ledger) (bytes : List ℕ) : Type 0 where
 -- DEMAND 2. "A booking is accepted exactly when the other checks pass and its steps are a derivation; every derivation
 -- within the limits has step lines that pass."
 
--- the hypothesis of a credential, and those of the linear and of the unrestricted ones among the credentials held
+-- the hypothesis of a credential, and those of a kind among the credentials held
 abbrev pub hyp : Ledger → Credential → Hyp
 hyp t c = formula t (c .formula) ⟦ c .interval ⟧
 
-abbrev pub linearHyps : Ledger → List Credential → List Hyp
-linearHyps t [] = []
-linearHyps t (c ∷ cs) = by (c .kind) (hyp t c ∷ linearHyps t cs) (linearHyps t cs)
-
-abbrev pub unrestrictedHyps : Ledger → List Credential → List Hyp
-unrestrictedHyps t [] = []
-unrestrictedHyps t (c ∷ cs) = by (c .kind) (unrestrictedHyps t cs) (hyp t c ∷ unrestrictedHyps t cs)
+unfoldable pub hypsOf : Ledger → Kind → List Credential → List Hyp
+hypsOf t k [] = []
+hypsOf t k (c ∷ cs) = elim (isKind k (c .kind)) [ true ↦ hyp t c ∷ hypsOf t k cs | false ↦ hypsOf t k cs ]
 
 -- a derivation of formula n at i from the credentials: each linear one used just once
 abbrev pub Derivation : Ledger → List Credential → ℕ → Interval → Type 0
-Derivation t cs n i = Derives (unrestrictedHyps t cs) (linearHyps t cs) (holds (formula t n) i)
+Derivation t cs n i = Derives (hypsOf t Unrestricted cs) (hypsOf t Linear cs) (holds (formula t n) i)
 
 -- Soundness: an accepted booking's steps are a derivation of its goal from the credentials that it names, as many uses
 -- of rules as steps.
@@ -76,7 +74,7 @@ pub record SoundFor (t : Ledger) (b : Booking) : Type 0 where
 
 abbrev pub Soundness : Type 0
 Soundness = (t : Ledger) → Reached t → (bytes : List ℕ) (b : Booking) → requestOf bytes ≡ some (book b)
-  → IsAccepted (call t bytes .answer) → SoundFor t b
+    → IsAccepted (call t bytes .answer) → SoundFor t b
 
 -- Completeness, down to bytes: "Its limits there: 32 coupons, 256 uses of rules, 64 for coupons plus labels taken,
 -- minutes in range, wordings of this till."
@@ -106,9 +104,9 @@ PastSteps (Refused n k) = (n ≡ 22) ⊎ (n ≡ 23)
 -- every derivation within the limits has step lines with which the request's bytes pass every check up to 42
 abbrev pub Completeness : Type 0
 Completeness = (t : Ledger) → Reached t → (now n : ℕ) (i : Interval) (hs : List ℕ) → May t now n i hs
-  → (x : Derivation t (held (t .live) hs) n i) → WithinLimits (length hs) x
-  → (ss : List Step) × (length ss ≡ uses x) × PastSteps (call t
-      (write (book (record { now = now; formula = n; interval = i; holds = hs; steps = ss }))) .answer)
+    → (x : Derivation t (held (t .live) hs) n i) → WithinLimits (length hs) x
+    → (ss : List Step) × (length ss ≡ uses x) × PastSteps (call t
+    (write (book (record { now = now; formula = n; interval = i; holds = hs; steps = ss }))) .answer)
 
 -- Exactly
 
@@ -118,8 +116,8 @@ startLabels t cs = map (hyp t) cs
 
 abbrev pub startSequent : Ledger → List Credential → ℕ → Interval → Labelled
 startSequent t cs n i = record {
-  unrestricted = unrestrictedLabels 0 cs 0;
-  linear = linearLabels 0 cs 0;
+  unrestricted = labelsOf Unrestricted 0 cs 0;
+  linear = labelsOf Linear 0 cs 0;
   goal = holds (formula t n) i;
 }
 
@@ -128,6 +126,16 @@ abbrev pub StepsDerive : Ledger → Booking → Type 0
 StepsDerive t b =
     let cs = held (t .live) (b .holds) in
     (ls : Labels) × Spells (b .steps) (startLabels t cs) (startSequent t cs (b .formula) (b .interval)) [] ls
+
+-- where they are not, the first fault and its step
+abbrev pub StepsStop : Ledger → Booking → ℕ → ℕ → Type 0
+StepsStop t b c k =
+    let cs = held (t .live) (b .holds) in
+    StepsRefused (length (b .steps)) (b .steps) (startLabels t cs) (startSequent t cs (b .formula) (b .interval)) c k
+
+-- the check of a booking's steps
+abbrev pub stepsOf : Ledger → Booking → Check
+stepsOf t b = steps t (held (t .live) (b .holds)) (b .formula) (b .interval) (b .steps)
 
 -- a check passes or is one of 40 to 42
 abbrev pub OnlySteps : Check → Type 0
@@ -138,21 +146,18 @@ pub record ExactlyFor (t : Ledger) (bytes : List ℕ) (b : Booking) : Type 0 whe
   -- accepted exactly when the other checks pass and its steps are a derivation
   pub accepted : IsAccepted (call t bytes .answer) ↔ (Every OnlySteps (checksOf t bytes) × StepsDerive t b)
   -- 40 to 42 are the first fault of the steps, with its step
-  pub stopped : (c k : ℕ)
-    → (steps t (held (t .live) (b .holds)) (b .formula) (b .interval) (b .steps) ≡ some (record { number = c; step = k }))
-      ↔ StepsRefused (length (b .steps)) (b .steps) (startLabels t (held (t .live) (b .holds)))
-        (startSequent t (held (t .live) (b .holds)) (b .formula) (b .interval)) c k
+  pub stopped : (c k : ℕ) → (stepsOf t b ≡ some (record { number = c; step = k })) ↔ StepsStop t b c k
 
 abbrev pub Exactness : Type 0
 Exactness = (t : Ledger) → Reached t → (bytes : List ℕ) (b : Booking) → requestOf bytes ≡ some (book b)
-  → ExactlyFor t bytes b
+    → ExactlyFor t bytes b
 
 -- "each accepted call does what the paper says"
 
 -- an accepted call answers and leaves what `accept` says of the request that its bytes are
 abbrev pub Accepts : Type 0
 Accepts = (t : Ledger) (bytes : List ℕ) → IsAccepted (call t bytes .answer)
-  → (r : Request) × (requestOf bytes ≡ some r) × (call t bytes ≡ accept t r)
+    → (r : Request) × (requestOf bytes ≡ some r) × (call t bytes ≡ accept t r)
 
 -- "DEMAND 3. For every list of calls from an empty till, for every session and minute: open + shut + placed + withdrawn
 -- = issued, counted from the accepted sheets and their answers alone."

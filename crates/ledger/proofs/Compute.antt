@@ -17,7 +17,7 @@ use Rattle.steps.specs.Plans.{when, right, affirmed, left, planOf}
 use Rattle.steps.specs.Check.{maxLabels, begin, judged, onward, follow, premiseOf, finished, checkOf}
 use Rattle.ledger.specs.Table.{build, formulas}
 use Rattle.ledger.specs.Ledger.{empty, find, without, held, linears, spend}
-use Rattle.ledger.specs.Checks.{_if_, first, any, sameRow, twice, linearLabels, unrestrictedLabels, verdict}
+use Rattle.ledger.specs.Checks.{_if_, first, any, sameRow, twice, labelsOf, verdict}
 use Rattle.ledger.specs.Checks.{steps, checks, checksOf}
 use Rattle.ledger.specs.Calls.{Told, told, openSeats, shutSeats, placed, accept, decide, call, answers}
 use Rattle.ledger.specs.Sessions.{ofLines}
@@ -29,6 +29,6 @@ unfolding contains has reversed size count plain sum up even sessionsOf all bala
     named choose ended whole line stepsIntervals intervals number labelSet interval kind part parts formulaLine
     labelled stepLine holdLine bookLine firstLine rest requestLines requestOf when right affirmed left planOf
     maxLabels begin judged onward follow premiseOf finished checkOf build formulas find without held linears
-    spend _if_ first any sameRow twice linearLabels unrestrictedLabels verdict steps checks checksOf openSeats
+    spend _if_ first any sameRow twice labelsOf verdict steps checks checksOf openSeats
     shutSeats placed accept decide call answers ofLines
 played rs = map told (answers empty (map ofLines rs))

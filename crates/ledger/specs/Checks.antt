@@ -10,6 +10,7 @@ use Rattle.logic.specs.declared.Interval.{Interval}
 use Rattle.logic.specs.Interval.{span, has, reversed}
 use Rattle.logic.specs.Formula.{size, plain}
 use Rattle.logic.specs.Counts.{balanced}
+use Rattle.request.specs.declared.Kind.{Kind}
 use Rattle.request.specs.declared.Kind.the-variants.{Linear, Unrestricted}
 use Rattle.request.specs.Range.{serial, maxBytes}
 use Rattle.request.specs.Request.{Line, Step, Booking, Request, word, issue, withdraw, book, tally, intervals}
@@ -22,7 +23,7 @@ use Rattle.steps.specs.declared.Sequent.{Sequent}
 use Rattle.steps.specs.Check.{Outcome, done, stopped, puts, checkOf}
 use Rattle.ledger.specs.declared.Credential.{Credential}
 use Rattle.ledger.specs.Table.{form, names, rowOf}
-use Rattle.ledger.specs.Ledger.{Ledger, formula, row, by, find, isNone, held, linears}
+use Rattle.ledger.specs.Ledger.{Ledger, formula, row, isKind, find, isNone, held, linears}
 
 -- A check passes (none) or answers its refusal: "with its step (from 1) for 40 to 42, else 0".
 pub record Refusal : Type 0 where
@@ -107,24 +108,19 @@ readLabel f k = f k
 abbrev pub writeLabel : Labels → ℕ → Hypothesis → Labels
 writeLabel f n h = λ k. elim (eqb k n) [ true ↦ h | false ↦ f k ]
 
--- "Holds take labels 0, 1, .. in order": what they stand for, and the sets, from label n on, of the linear ones and of
--- the unrestricted ones
+-- "Holds take labels 0, 1, .. in order": what they stand for, and the set of those of a kind, from label n on, with d
 abbrev pub hypothesis : Credential → Hypothesis
 hypothesis c = record { formula = c .formula; interval = c .interval }
 
-unfoldable pub linearLabels : ℕ → List Credential → ℕ → ℕ
-linearLabels n [] d = d
-linearLabels n (c ∷ cs) d = linearLabels (suc n) cs (by (c .kind) (insert d n) d)
-
-unfoldable pub unrestrictedLabels : ℕ → List Credential → ℕ → ℕ
-unrestrictedLabels n [] d = d
-unrestrictedLabels n (c ∷ cs) d = unrestrictedLabels (suc n) cs (by (c .kind) d (insert d n))
+unfoldable pub labelsOf : Kind → ℕ → List Credential → ℕ → ℕ
+labelsOf k n [] d = d
+labelsOf k n (c ∷ cs) d = labelsOf k (suc n) cs (elim (isKind k (c .kind)) [ true ↦ insert d n | false ↦ d ])
 
 -- the sequent of a booking's first step: the goal is formula n at i
 abbrev pub bookingSequent : List Credential → ℕ → Interval → Sequent
 bookingSequent cs n i = record {
-  unrestricted = unrestrictedLabels 0 cs 0;
-  linear = linearLabels 0 cs 0;
+  unrestricted = labelsOf Unrestricted 0 cs 0;
+  linear = labelsOf Linear 0 cs 0;
   goal = Holds n i;
 }
 

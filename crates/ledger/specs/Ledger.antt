@@ -35,6 +35,11 @@ abbrev pub by : {A : Type 0} → Kind → A → A → A
 by Linear x y = x
 by Unrestricted x y = y
 
+-- the first kind is the second
+abbrev pub isKind : Kind → Kind → Bool
+isKind Linear k = by k true false
+isKind Unrestricted k = by k false true
+
 -- the live credential of a serial
 unfoldable pub find : List Credential → ℕ → Option Credential
 find [] n = none

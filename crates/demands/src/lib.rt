@@ -1,0 +1,1 @@
+// The demands. specs/ has the statements.
