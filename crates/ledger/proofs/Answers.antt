@@ -20,7 +20,7 @@ use Rattle.ledger.specs.Ledger.{Ledger, row, isNone}
 use Rattle.ledger.specs.Checks.{Refusal, Check, _if_, first, readLabel, writeLabel, verdict, steps, checks}
 use Rattle.ledger.specs.Checks.{readChecks, checksOf}
 use Rattle.ledger.specs.Calls.{Reply, accept, decide, call}
-use Rattle.ledger.specs.Statements.{Pass, FirstFails, here, later, IsAccepted, Refusals, RefusalLeaves}
+use Rattle.ledger.specs.Statements.{Pass, IsAccepted, Refusals, RefusalLeaves}
 
 abbrev IsSome : {A : Type 0} → Option A → Type 0
 IsSome none = ⊥
@@ -146,7 +146,7 @@ first-proper (none ∷ cs) p e = first-proper cs (p .1) e
 first-proper (some g ∷ cs) p e = subst (λ (x : Refusal). Stepped (x .number) (x .step)) (some-inj e) (p .0)
 
 -- the refusal of an answer
-abbrev refusalOf : Answer → Refusal
+abbrev pub refusalOf : Answer → Refusal
 refusalOf (Accepted n) = record { number = 0; step = 0 }
 refusalOf (Counted o s p) = record { number = 0; step = 0 }
 refusalOf (Refused n k) = record { number = n; step = k }
