@@ -1,3 +1,5 @@
 pub mod Demand1
+pub mod Effects
 pub mod Start
 pub mod Agrees
+pub mod Demand3

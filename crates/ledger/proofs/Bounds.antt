@@ -19,25 +19,10 @@ use Rattle.ledger.specs.Ledger.{Ledger, empty, formula, by, without, hel
 use Rattle.ledger.specs.Checks.{maxSize, maxFormulas, maxLive, checks, readChecks}
 use Rattle.ledger.specs.Calls.{Reply, withLine, accept, call, after}
 use Rattle.ledger.specs.Statements.{Pass}
-use Rattle.ledger.proofs.Answers.{Does, refuses, accepts, does}
+use Rattle.ledger.proofs.Walk.{walk}
 use Rattle.ledger.proofs.Credentials.{take-out, splits}
 use Rattle.ledger.proofs.Tables.{formula-snoc, Tabled, line-tabled}
 use Rattle.ledger.proofs.Passed.{passed-word, passed-issue, passed-withdraw, passed-book}
-
--- What holds at the start and is kept by each accepted request holds after every list of calls.
-module _ (P : Ledger → Type 0) (keeps : (t : Ledger) (r : Request) → Pass (checks t r) → P t → P (accept t r .ledger))
-  where
-    pub call-keeps : (t : Ledger) (b : List ℕ) → P t → P (call t b .ledger)
-    call-keeps t b h = go (does t b)
-      where
-        go : Does t b → P (call t b .ledger)
-        go (refuses f e q) = subst (λ (d : Reply). P (d .ledger)) (sym q) h
-        go (accepts r e c d q) = subst (λ (d : Reply). P (d .ledger)) (sym q) (keeps t r (d .1) h)
-
-    pub after-keeps : (t : Ledger) (bs : List (List ℕ)) → P t → P (after t bs)
-    unfolding after
-    after-keeps t [] h = h
-    after-keeps t (b ∷ bs) h = after-keeps (call t b .ledger) bs (call-keeps t b h)
 
 -- serials rise, from above lo
 abbrev pub Rises : ℕ → List Credential → Type 0
@@ -60,11 +45,11 @@ pub record Bounded (t : Ledger) : Type 0 where
 one-more : (cs : List Credential) (c : Credential) {n : ℕ} → length cs < n → length (cs ++ (c ∷ [])) ≤ n
 one-more cs c h = omega (arith, length-append cs (c ∷ []))
 
-rises-lower : (lo hi : ℕ) (cs : List Credential) → lo ≤ hi → Rises hi cs → Rises lo cs
+pub rises-lower : (lo hi : ℕ) (cs : List Credential) → lo ≤ hi → Rises hi cs → Rises lo cs
 rises-lower lo hi [] le r = tt
 rises-lower lo hi (c ∷ cs) le r = let h = r .0 in (omega arith, r .1)
 
-rises-without : (lo n : ℕ) (cs : List Credential) → Rises lo cs → Rises lo (without cs n)
+pub rises-without : (lo n : ℕ) (cs : List Credential) → Rises lo cs → Rises lo (without cs n)
 unfolding without
 rises-without lo n [] r = tt
 rises-without lo n (c ∷ cs) r = go (eqb (c .serial) n) (rises-without (c .serial) n cs (r .1))
@@ -173,4 +158,4 @@ empty-bounded = record {
 }
 
 pub bounded : (bs : List (List ℕ)) → Bounded (after empty bs)
-bounded bs = after-keeps Bounded accept-bounded empty bs empty-bounded
+bounded bs = walk (λ t h. Bounded t) (λ t h b r e. accept-bounded t r) empty [] bs empty-bounded

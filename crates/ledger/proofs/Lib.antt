@@ -1,4 +1,5 @@
 pub mod Answers
+pub mod Walk
 pub mod Credentials
 pub mod Tables
 pub mod Passed

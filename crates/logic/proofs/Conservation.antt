@@ -14,10 +14,10 @@ use Rattle.logic.proofs.Weights.{Level, Even, ups, downs, weight-parts,
 use Rattle.logic.proofs.Weights.{balanced-is}
 
 module _ (s : ℕ) where
-  abbrev EvenHyp : Hyp → Type 0
+  abbrev pub EvenHyp : Hyp → Type 0
   EvenHyp h = Even s (h .formula)
 
-  abbrev BalancedHyp : Hyp → Type 0
+  abbrev pub BalancedHyp : Hyp → Type 0
   BalancedHyp h = Level s (h .formula) × Even s (h .formula)
 
   abbrev upOf : Hyp → ℕ

@@ -1,0 +1,170 @@
+-- Demand 3, proved: a booking moves no seat out of its session, so the ledger stays what its history says, and a tally
+-- adds up.
+use mathlib.Core.Path.{_≡_, refl, sym, ap, subst, _∙_}
+use mathlib.Core.List.{List, [], _∷_}
+use mathlib.Core.Option.{Option, none, some}
+use mathlib.Core.Bool.{Bool, true, false, not}
+use Prim.Native.Nat.{ℕ, _+_, _≤_}
+use native.Mathlib.Omega.{arith}
+use lib.ListN.{length}
+use borrow.Author.Tests.{le-ltb}
+use Rattle.logic.specs.declared.Interval.{Interval}
+use Rattle.logic.specs.Interval.{has}
+use Rattle.logic.specs.Formula.{Formula, seats, places, plain}
+use Rattle.logic.specs.Multiset.{Every, sum}
+use Rattle.logic.specs.Derives.{Hyp, holds, Derives}
+use Rattle.logic.proofs.Multisets.{snoc-sum}
+use Rattle.logic.proofs.Weights.{Level, Even, ups, downs, balanced-is}
+use Rattle.logic.proofs.Balance.{plain-decides, plain-counts}
+use Rattle.logic.proofs.Conservation.{conserved, EvenHyp, BalancedHyp}
+use Rattle.request.specs.declared.Kind.{Kind}
+use Rattle.request.specs.declared.Kind.the-variants.{Linear, Unrestricted}
+use Rattle.request.specs.Range.{maxBytes}
+use Rattle.request.specs.Request.{Step, Booking, Request, word, issue, withdraw, book, tally, intervals}
+use Rattle.request.specs.Read.{requestOf}
+use Rattle.request.specs.Write.{write}
+use Rattle.request.specs.InRange.{InRange}
+use Rattle.request.specs.Statements.{WriteRead, ReadInRange, WriteShort}
+use Rattle.ledger.specs.declared.Credential.{Credential}
+use Rattle.ledger.specs.declared.Answer.the-variants.{Refused}
+use Rattle.ledger.specs.Table.{build, formulas}
+use Rattle.ledger.specs.Ledger.{Ledger, empty, formula, by, isNone, held, spend}
+use Rattle.ledger.specs.Checks.{_if_, first, any, steps, checks, readChecks, checksOf}
+use Rattle.ledger.specs.Calls.{Reply, withLive, given, only, seatsOf, placesOf, openSeats, shutSeats, placed, accept}
+use Rattle.ledger.specs.Calls.{decide, call, after, answers}
+use Rattle.ledger.specs.History.{History, note, noted, historyOf, formulaIn, givenIn, stands, issued, withdrawn}
+use Rattle.ledger.specs.Statements.{Pass}
+use Rattle.ledger.proofs.Walk.{Keeps, walk}
+use Rattle.ledger.proofs.Credentials.{held-length, linearly, splits}
+use Rattle.ledger.proofs.Tables.{Tabled}
+use Rattle.ledger.proofs.Passed.{Fair, passed-word, passed-issue, passed-withdraw, PassedBook, passed-book}
+use Rattle.demands.specs.Demands.{hyp, hypsOf, Derivation, AddsUp, Demand3}
+use Rattle.demands.proofs.Agrees.{Right, standing, Agrees, event, new, given-right, same-table, word-keeps}
+use Rattle.demands.proofs.Agrees.{issue-keeps, withdraw-keeps, tally-keeps}
+
+-- What the hypotheses of the credentials held weigh.
+
+record Weighs (s : ℕ) (R D : List Hyp) (n : ℕ) : Type 0 where
+  balanced : Every (BalancedHyp s) R
+  even : Every (EvenHyp s) D
+  taken : downs s D ≡ 0
+  added : ups s D ≡ n
+
+weigh : (t : Ledger) (h : History) (s : ℕ) (cs : List Credential) → Every (Right t h) cs
+    → Weighs s (hypsOf t Unrestricted cs) (hypsOf t Linear cs) (sum (linearly (standing t s)) cs)
+unfolding sum hypsOf
+weigh t h s [] r = record { balanced = tt; even = tt; taken = refl; added = refl }
+weigh t h s (c ∷ cs) r = go (c .kind) (r .0 .fair) (weigh t h s cs (r .1))
+  where
+    go : (k : Kind) → Fair k (formula t (c .formula))
+        → Weighs s (hypsOf t Unrestricted cs) (hypsOf t Linear cs) (sum (linearly (standing t s)) cs)
+        → Weighs s
+        (elim (by k false true) as (λ z. List Hyp)
+        [ true ↦ hyp t c ∷ hypsOf t Unrestricted cs | false ↦ hypsOf t Unrestricted cs ])
+        (elim (by k true false) as (λ z. List Hyp) [ true ↦ hyp t c ∷ hypsOf t Linear cs | false ↦ hypsOf t Linear cs ])
+        (by k (standing t s c) 0 + sum (linearly (standing t s)) cs)
+    go Linear f w =
+        let p = plain-counts s (formula t (c .formula)) (plain-decides (formula t (c .formula)) .0 f) in
+        record {
+          balanced = w .balanced;
+          even = (p .evens, w .even);
+          taken = omega (arith, p .downs, w .taken);
+          added = omega (arith, p .ups, w .added);
+        }
+    go Unrestricted f w = record {
+      balanced = (balanced-is s (formula t (c .formula)) .0 (f s), w .balanced);
+      even = w .even;
+      taken = w .taken;
+      added = omega (arith, w .added);
+    }
+
+-- a plain goal derived from them has as many seats and places as the linear ones among them
+booked : (s : ℕ) {R D : List Hyp} {n : ℕ} {a : Formula} {i : Interval} → Derives R D (holds a i) → Weighs s R D n
+    → plain a ≡ true → n ≡ stands s a
+booked s {a = a} d w p =
+    let c = plain-counts s a (plain-decides a .0 p) in
+    omega (arith, conserved s d (w .balanced) (w .even) (c .evens), c .ups, c .downs, w .taken, w .added)
+
+module _ (steps-derive : (t : Ledger) (cs : List Credential) (n : ℕ) (i : Interval) (ss : List Step) → Tabled t
+    → length cs ≤ 32 → steps t cs n i ss ≡ none → Derivation t cs n i)
+    (write-read : WriteRead) (read-in-range : ReadInRange) (write-short : WriteShort) where
+  book-keeps : (t : Ledger) (h : History) (b : Booking) → Agrees t h → PassedBook t b → length (b .holds) ≤ 32
+      → Agrees (given (withLive t (spend (t .live) (held (t .live) (b .holds)))) Linear (b .formula) (b .interval))
+      (event (book b) (t .next) ∷ h)
+  unfolding formulaIn givenIn issued withdrawn
+  book-keeps t h b a p le =
+      let hs = held (t .live) (b .holds) in
+      let v = splits (Right t h) t (b .holds) (p .alive) (p .apart) (a .credentials) in
+      let d = steps-derive t hs (b .formula) (b .interval) (b .steps) (a .tabled)
+      (omega (arith, held-length (t .live) (b .holds))) (p .closes) in
+      record {
+        tabled = same-table t _ _ (a .tabled);
+        formulas = a .formulas;
+        credentials = given-right t h _ (spend (t .live) hs) Linear (b .formula) (b .interval) refl (v .stay)
+            (p .there) (p .plain);
+        totals = λ s. omega (
+          arith,
+          a .totals s,
+          v .sums (standing t s),
+          booked s d (weigh t h s hs (v .went)) (p .plain),
+          snoc-sum (linearly (standing t s)) (spend (t .live) hs) (new t Linear (b .formula) (b .interval)),
+        );
+      }
+
+  -- Every accepted request keeps ledger and history agreed, so every list of calls does.
+  accept-keeps : Keeps Agrees
+  unfolding accept
+  accept-keeps t h b (word l) e p a = word-keeps t h l a (passed-word t l p .there)
+  accept-keeps t h b (issue k n i) e p a =
+      let q = passed-issue t k n i p in issue-keeps t h k n i a (q .there) (q .fair)
+  accept-keeps t h b (withdraw n) e p a =
+      let q = passed-withdraw t n p in withdraw-keeps t h n (q .credential) (q .found) a
+  accept-keeps t h b (book x) e p a =
+      book-keeps t h x a (passed-book t x p) (read-in-range b (book x) e .holdCount .most)
+  accept-keeps t h b (tally s m) e p a = tally-keeps t h s m _ _ _ a
+
+  empty-agrees : Agrees empty []
+  unfolding formulaIn build formulas sum withdrawn issued
+  empty-agrees = record {
+    tabled = record { reads = λ n. refl; refs = λ n. tt };
+    formulas = refl;
+    credentials = tt;
+    totals = λ s. refl;
+  }
+
+  pub agrees : (bs : List (List ℕ)) → Agrees (after empty bs) (historyOf bs)
+  agrees bs = walk Agrees accept-keeps empty [] bs empty-agrees
+
+-- The figures of a tally
+
+only-sum : (b : Bool) (n : ℕ) → only b n + only (not b) n ≡ n
+only-sum true n = omega arith
+only-sum false n = omega arith
+
+by-sum : (k : Kind) (x y : ℕ) → by k (x + y) 0 ≡ by k x 0 + by k y 0
+by-sum Linear x y = refl
+by-sum Unrestricted x y = refl
+
+tally-sum : (t : Ledger) (s m : ℕ) (cs : List Credential)
+    → sum (λ c. only (has (c .interval) m) (seatsOf t s c)) cs
+    + sum (λ c. only (not (has (c .interval) m)) (seatsOf t s c)) cs + sum (placesOf t s) cs
+    ≡ sum (linearly (standing t s)) cs
+unfolding sum
+tally-sum t s m [] = refl
+tally-sum t s m (c ∷ cs) =
+    omega (
+      arith,
+      tally-sum t s m cs,
+      only-sum (has (c .interval) m) (seatsOf t s c),
+      by-sum (c .kind) (seats s (formula t (c .formula))) (places s (formula t (c .formula))),
+    )
+
+-- a tally is always accepted
+tally-accepted : (t : Ledger) (s m : ℕ) (b : List ℕ) → length b ≤ maxBytes → requestOf b ≡ some (tally s m)
+    → call t b ≡ accept t (tally s m)
+unfolding call decide checksOf checks first _if_ any intervals
+tally-accepted t s m b le e =
+    ap (λ (x : Bool).
+    decide t (first ((1 if x) ∷ (2 if isNone (requestOf b)) ∷ readChecks t (requestOf b))) (requestOf b))
+    (le-ltb maxBytes (length b) le)
+    ∙ ap (λ (o : Option Request). decide t (first ((1 if false) ∷ (2 if isNone o) ∷ readChecks t o)) o) e
