@@ -17,9 +17,10 @@ use Rattle.request.specs.Request.{Line, Request, word, issue, withdraw, book, t
 use Rattle.ledger.specs.declared.Credential.{Credential}
 use Rattle.ledger.specs.declared.Answer.the-variants.{Accepted, Counted}
 use Rattle.ledger.specs.Table.{form, names}
-use Rattle.ledger.specs.Ledger.{Ledger, formula, by, find, without}
-use Rattle.ledger.specs.Calls.{withLine, withLive, given}
-use Rattle.ledger.specs.History.{Event, History, learn, formulaIn, Given, givenIn, stands, issued, standsIn, withdrawn}
+use Rattle.ledger.specs.Ledger.{Ledger, formula, byKind, find, withoutSerial}
+use Rattle.ledger.specs.Calls.{withLine, withLive, withCredential}
+use Rattle.ledger.specs.History.{Event, History, learn, formulaIn, Given, givenIn, seatsAndPlaces, issued}
+use Rattle.ledger.specs.History.{seatsAndPlacesOf, withdrawn}
 use Rattle.ledger.proofs.Credentials.{take-out, linearly}
 use Rattle.ledger.proofs.Tables.{formula-snoc, formula-stays, There, Tabled, line-tabled}
 use Rattle.ledger.proofs.Passed.{Fair}
@@ -32,14 +33,14 @@ pub record Right (t : Ledger) (h : History) (c : Credential) : Type 0 where
   pub fair : Fair (c .kind) (formula t (c .formula))
 
 -- seats and places of a session in a credential's formula
-abbrev pub standing : Ledger → ℕ → Credential → ℕ
-standing t s c = stands s (formula t (c .formula))
+abbrev pub seatsAndPlacesIn : Ledger → ℕ → Credential → ℕ
+seatsAndPlacesIn t s c = seatsAndPlaces s (formula t (c .formula))
 
 pub record Agrees (t : Ledger) (h : History) : Type 0 where
   pub tabled : Tabled t
   pub formulas : formulaIn h ≡ formula t
   pub credentials : Every (Right t h) (t .live)
-  pub totals : (s : ℕ) → sum (linearly (standing t s)) (t .live) + withdrawn s h ≡ issued s h
+  pub totals : (s : ℕ) → sum (linearly (seatsAndPlacesIn t s)) (t .live) + withdrawn s h ≡ issued s h
 
 abbrev pub event : Request → ℕ → Event
 event r n = record { request = r; answer = Accepted n }
@@ -68,8 +69,9 @@ word-keeps t h l a r = record {
   totals = λ s. omega (
     arith,
     a .totals s,
-    same-sum (Right t h) (linearly (standing t s)) (linearly (standing (withLine t l) s)) (t .live)
-        (λ c r. ap (λ (f : Formula). by (c .kind) (stands s f) 0) (sym (formula-stays t l (c .formula) (r .there))))
+    same-sum (Right t h) (linearly (seatsAndPlacesIn t s)) (linearly (seatsAndPlacesIn (withLine t l) s)) (t .live)
+        (λ c r. ap (λ (f : Formula). byKind (c .kind) (seatsAndPlaces s f) 0)
+        (sym (formula-stays t l (c .formula) (r .there))))
         (a .credentials),
   );
 }
@@ -88,7 +90,7 @@ unlearned n k x f lt = rw (ne-eqb n k (λ e. omega arith), learn)
 pub given-right : (t : Ledger) (h : History) (e : Event) (cs : List Credential) (k : Kind) (n : ℕ) (i : Interval)
     → givenIn (e ∷ h) ≡ learn (Accepted (t .next)) (some (record { kind = k; formula = n })) (givenIn h)
     → Every (Right t h) cs → n < length (t .lines) → Fair k (formula t n)
-    → Every (Right (given (withLive t cs) k n i) (e ∷ h)) (cs ++ (new t k n i ∷ []))
+    → Every (Right (withCredential (withLive t cs) k n i) (e ∷ h)) (cs ++ (new t k n i ∷ []))
 given-right t h e cs k n i q r lt f =
     every-snoc _ cs (new t k n i)
     (every-map (λ c r. record {
@@ -106,7 +108,7 @@ given-right t h e cs k n i q r lt f =
     })
 
 pub issue-keeps : (t : Ledger) (h : History) (k : Kind) (n : ℕ) (i : Interval) → Agrees t h → n < length (t .lines)
-    → Fair k (formula t n) → Agrees (given t k n i) (event (issue k n i) (t .next) ∷ h)
+    → Fair k (formula t n) → Agrees (withCredential t k n i) (event (issue k n i) (t .next) ∷ h)
 unfolding formulaIn givenIn issued withdrawn
 issue-keeps t h k n i a lt f = record {
   tabled = same-table t _ _ (a .tabled);
@@ -115,18 +117,18 @@ issue-keeps t h k n i a lt f = record {
   totals = λ s. omega (
     arith,
     a .totals s,
-    snoc-sum (linearly (standing t s)) (t .live) (new t k n i),
-    ap (λ (T : ℕ → Formula). by k (stands s (T n)) 0) (a .formulas),
+    snoc-sum (linearly (seatsAndPlacesIn t s)) (t .live) (new t k n i),
+    ap (λ (T : ℕ → Formula). byKind k (seatsAndPlaces s (T n)) 0) (a .formulas),
   );
 }
 
 -- A credential withdrawn: what the history counts for a serial whose credential is live
 
 withdrawn-is : (t : Ledger) (h : History) (s : ℕ) (c : Credential) → Agrees t h → Right t h c
-    → standsIn s h (givenIn h (c .serial)) ≡ linearly (standing t s) c
+    → seatsAndPlacesOf s h (givenIn h (c .serial)) ≡ linearly (seatsAndPlacesIn t s) c
 withdrawn-is t h s c a r =
-    ap (standsIn s h) (r .given)
-    ∙ ap (λ (T : ℕ → Formula). by (c .kind) (stands s (T (c .formula))) 0) (a .formulas)
+    ap (seatsAndPlacesOf s h) (r .given)
+    ∙ ap (λ (T : ℕ → Formula). byKind (c .kind) (seatsAndPlaces s (T (c .formula))) 0) (a .formulas)
 
 -- the history knows what it knew, if the new event gives no serial
 known : (t t′ : Ledger) (h h′ : History) (cs : List Credential) → t′ .next ≡ t .next → t′ .lines ≡ t .lines
@@ -140,7 +142,7 @@ known t t′ h h′ cs n l g = every-map (λ c q. record {
 }) cs
 
 pub withdraw-keeps : (t : Ledger) (h : History) (n : ℕ) (c : Credential) → find (t .live) n ≡ some c → Agrees t h
-    → Agrees (withLive t (without (t .live) n)) (event (withdraw n) n ∷ h)
+    → Agrees (withLive t (withoutSerial (t .live) n)) (event (withdraw n) n ∷ h)
 unfolding formulaIn givenIn issued withdrawn
 withdraw-keeps t h n c e a =
     let out = take-out (t .live) n e in
@@ -148,13 +150,13 @@ withdraw-keeps t h n c e a =
     record {
       tabled = same-table t _ _ (a .tabled);
       formulas = a .formulas;
-      credentials = known t _ h _ (without (t .live) n) refl refl refl (r .1);
+      credentials = known t _ h _ (withoutSerial (t .live) n) refl refl refl (r .1);
       totals = λ s. omega (
         arith,
         a .totals s,
-        ins-sum (linearly (standing t s)) (out .1),
+        ins-sum (linearly (seatsAndPlacesIn t s)) (out .1),
         withdrawn-is t h s c a (r .0),
-        ap (λ (m : ℕ). standsIn s h (givenIn h m)) (out .0),
+        ap (λ (m : ℕ). seatsAndPlacesOf s h (givenIn h m)) (out .0),
       );
     }
 

@@ -28,18 +28,21 @@ use Rattle.request.specs.Statements.{WriteRead, ReadInRange, WriteShort}
 use Rattle.ledger.specs.declared.Credential.{Credential}
 use Rattle.ledger.specs.declared.Answer.the-variants.{Refused}
 use Rattle.ledger.specs.Table.{build, formulas}
-use Rattle.ledger.specs.Ledger.{Ledger, empty, formula, by, isNone, held, spend}
+use Rattle.ledger.specs.Ledger.{Ledger, empty, formula, byKind, isNone, held, spend}
 use Rattle.ledger.specs.Checks.{_if_, first, any, steps, checks, readChecks, checksOf}
-use Rattle.ledger.specs.Calls.{Reply, withLive, given, only, seatsOf, placesOf, openSeats, shutSeats, placed, accept}
+use Rattle.ledger.specs.Calls.{Reply, withLive, withCredential, only, seatsOf, placesOf, openSeats, shutSeats, placed}
+use Rattle.ledger.specs.Calls.{accept}
 use Rattle.ledger.specs.Calls.{decide, call, after, answers}
-use Rattle.ledger.specs.History.{History, note, noted, historyOf, formulaIn, givenIn, stands, issued, withdrawn}
+use Rattle.ledger.specs.History.{History, note, noted, historyOf, formulaIn, givenIn, seatsAndPlaces, issued}
+use Rattle.ledger.specs.History.{withdrawn}
 use Rattle.ledger.specs.Statements.{Pass}
 use Rattle.ledger.proofs.Walk.{Keeps, walk}
 use Rattle.ledger.proofs.Credentials.{held-length, linearly, splits}
 use Rattle.ledger.proofs.Tables.{Tabled}
 use Rattle.ledger.proofs.Passed.{Fair, passed-word, passed-issue, passed-withdraw, PassedBook, passed-book}
 use Rattle.demands.specs.Demands.{hyp, hypsOf, Derivation, AddsUp, Demand3}
-use Rattle.demands.proofs.Agrees.{Right, standing, Agrees, event, new, given-right, same-table, word-keeps}
+use Rattle.demands.proofs.Agrees.{Right, seatsAndPlacesIn, Agrees, event, new, given-right, same-table}
+use Rattle.demands.proofs.Agrees.{word-keeps}
 use Rattle.demands.proofs.Agrees.{issue-keeps, withdraw-keeps, tally-keeps}
 
 -- What the hypotheses of the credentials held weigh.
@@ -51,18 +54,19 @@ record Weighs (s : ℕ) (R D : List Hyp) (n : ℕ) : Type 0 where
   added : ups s D ≡ n
 
 weigh : (t : Ledger) (h : History) (s : ℕ) (cs : List Credential) → Every (Right t h) cs
-    → Weighs s (hypsOf t Unrestricted cs) (hypsOf t Linear cs) (sum (linearly (standing t s)) cs)
+    → Weighs s (hypsOf t Unrestricted cs) (hypsOf t Linear cs) (sum (linearly (seatsAndPlacesIn t s)) cs)
 unfolding sum hypsOf
 weigh t h s [] r = record { balanced = tt; even = tt; taken = refl; added = refl }
 weigh t h s (c ∷ cs) r = go (c .kind) (r .0 .fair) (weigh t h s cs (r .1))
   where
     go : (k : Kind) → Fair k (formula t (c .formula))
-        → Weighs s (hypsOf t Unrestricted cs) (hypsOf t Linear cs) (sum (linearly (standing t s)) cs)
+        → Weighs s (hypsOf t Unrestricted cs) (hypsOf t Linear cs) (sum (linearly (seatsAndPlacesIn t s)) cs)
         → Weighs s
-        (elim (by k false true) as (λ z. List Hyp)
+        (elim (byKind k false true) as (λ z. List Hyp)
         [ true ↦ hyp t c ∷ hypsOf t Unrestricted cs | false ↦ hypsOf t Unrestricted cs ])
-        (elim (by k true false) as (λ z. List Hyp) [ true ↦ hyp t c ∷ hypsOf t Linear cs | false ↦ hypsOf t Linear cs ])
-        (by k (standing t s c) 0 + sum (linearly (standing t s)) cs)
+        (elim (byKind k true false) as (λ z. List Hyp)
+        [ true ↦ hyp t c ∷ hypsOf t Linear cs | false ↦ hypsOf t Linear cs ])
+        (byKind k (seatsAndPlacesIn t s c) 0 + sum (linearly (seatsAndPlacesIn t s)) cs)
     go Linear f w =
         let p = plain-counts s (formula t (c .formula)) (plain-decides (formula t (c .formula)) .0 f) in
         record {
@@ -80,7 +84,7 @@ weigh t h s (c ∷ cs) r = go (c .kind) (r .0 .fair) (weigh t h s cs (r .1))
 
 -- a plain goal derived from them has as many seats and places as the linear ones among them
 booked : (s : ℕ) {R D : List Hyp} {n : ℕ} {a : Formula} {i : Interval} → Derives R D (holds a i) → Weighs s R D n
-    → plain a ≡ true → n ≡ stands s a
+    → plain a ≡ true → n ≡ seatsAndPlaces s a
 booked s {a = a} d w p =
     let c = plain-counts s a (plain-decides a .0 p) in
     omega (arith, conserved s d (w .balanced) (w .even) (c .evens), c .ups, c .downs, w .taken, w .added)
@@ -89,7 +93,8 @@ module _ (steps-derive : (t : Ledger) (cs : List Credential) (n : ℕ) (i : Inte
     → length cs ≤ 32 → steps t cs n i ss ≡ none → Derivation t cs n i)
     (write-read : WriteRead) (read-in-range : ReadInRange) (write-short : WriteShort) where
   book-keeps : (t : Ledger) (h : History) (b : Booking) → Agrees t h → PassedBook t b → length (b .holds) ≤ 32
-      → Agrees (given (withLive t (spend (t .live) (held (t .live) (b .holds)))) Linear (b .formula) (b .interval))
+      → Agrees
+      (withCredential (withLive t (spend (t .live) (held (t .live) (b .holds)))) Linear (b .formula) (b .interval))
       (event (book b) (t .next) ∷ h)
   unfolding formulaIn givenIn issued withdrawn
   book-keeps t h b a p le =
@@ -105,9 +110,9 @@ module _ (steps-derive : (t : Ledger) (cs : List Credential) (n : ℕ) (i : Inte
         totals = λ s. omega (
           arith,
           a .totals s,
-          v .sums (standing t s),
+          v .sums (seatsAndPlacesIn t s),
           booked s d (weigh t h s hs (v .went)) (p .plain),
-          snoc-sum (linearly (standing t s)) (spend (t .live) hs) (new t Linear (b .formula) (b .interval)),
+          snoc-sum (linearly (seatsAndPlacesIn t s)) (spend (t .live) hs) (new t Linear (b .formula) (b .interval)),
         );
       }
 
@@ -141,14 +146,14 @@ only-sum : (b : Bool) (n : ℕ) → only b n + only (not b) n ≡ n
 only-sum true n = omega arith
 only-sum false n = omega arith
 
-by-sum : (k : Kind) (x y : ℕ) → by k (x + y) 0 ≡ by k x 0 + by k y 0
+by-sum : (k : Kind) (x y : ℕ) → byKind k (x + y) 0 ≡ byKind k x 0 + byKind k y 0
 by-sum Linear x y = refl
 by-sum Unrestricted x y = refl
 
 tally-sum : (t : Ledger) (s m : ℕ) (cs : List Credential)
     → sum (λ c. only (has (c .interval) m) (seatsOf t s c)) cs
     + sum (λ c. only (not (has (c .interval) m)) (seatsOf t s c)) cs + sum (placesOf t s) cs
-    ≡ sum (linearly (standing t s)) cs
+    ≡ sum (linearly (seatsAndPlacesIn t s)) cs
 unfolding sum
 tally-sum t s m [] = refl
 tally-sum t s m (c ∷ cs) =

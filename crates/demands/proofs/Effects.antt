@@ -15,7 +15,7 @@ use Rattle.request.specs.declared.Kind.the-variants.{Linear, Unrestricted}
 use Rattle.request.specs.Request.{Request, word, issue, withdraw, book, tally}
 use Rattle.request.specs.Read.{requestOf}
 use Rattle.ledger.specs.declared.Credential.{Credential}
-use Rattle.ledger.specs.Ledger.{Ledger, empty, by, isKind, find, without, held, spend}
+use Rattle.ledger.specs.Ledger.{Ledger, empty, byKind, isKind, find, withoutSerial, held, spend}
 use Rattle.ledger.specs.Checks.{any}
 use Rattle.ledger.specs.Calls.{Reply, accept, call}
 use Rattle.ledger.proofs.Answers.{some-inj}
@@ -67,8 +67,8 @@ find-snoc n (d ∷ cs) c m e b = go (eqb (d .serial) m) refl (find-snoc n cs c m
 
 -- one taken out: it is gone, the others stay
 find-without : (lo : ℕ) (cs : List Credential) (n m : ℕ) → Rises lo cs
-    → find (without cs n) m ≡ Found (eqb m n) none (find cs m)
-unfolding find without
+    → find (withoutSerial cs n) m ≡ Found (eqb m n) none (find cs m)
+unfolding find withoutSerial
 find-without lo [] n m r = go (eqb m n)
   where
     go : (x : Bool) → none ≡ Found x none none
@@ -78,8 +78,8 @@ find-without lo (d ∷ cs) n m r =
     go (eqb (d .serial) n) refl (eqb (d .serial) m) refl (eqb m n) refl (find-without (d .serial) cs n m (r .1))
   where
     go : (x : Bool) → eqb (d .serial) n ≡ x → (y : Bool) → eqb (d .serial) m ≡ y → (z : Bool) → eqb m n ≡ z
-        → find (without cs n) m ≡ Found (eqb m n) none (find cs m)
-        → find (elim x as (λ z. List Credential) [ true ↦ cs | false ↦ d ∷ without cs n ]) m
+        → find (withoutSerial cs n) m ≡ Found (eqb m n) none (find cs m)
+        → find (elim x as (λ z. List Credential) [ true ↦ cs | false ↦ d ∷ withoutSerial cs n ]) m
         ≡ Found z none (Found y (some d) (find cs m))
     go true p true q true w ih = find-rising (d .serial) cs m (omega (arith, eqb-true (d .serial) m q)) (r .1)
     go true p true q false w ih = absurd (eqb-false m n w (sym (eqb-true _ _ q) ∙ eqb-true _ _ p))
@@ -91,13 +91,13 @@ find-without lo (d ∷ cs) n m r =
     go false p false q true w ih = rw (q, find) (ih ∙ rw w)
     go false p false q false w ih = rw (q, find) (ih ∙ rw w)
 
-below-without : (n k : ℕ) (cs : List Credential) → Below n cs → Below n (without cs k)
-unfolding without
+below-without : (n k : ℕ) (cs : List Credential) → Below n cs → Below n (withoutSerial cs k)
+unfolding withoutSerial
 below-without n k [] b = tt
 below-without n k (c ∷ cs) b = go (eqb (c .serial) k) (below-without n k cs (b .1))
   where
-    go : (x : Bool) → Below n (without cs k)
-        → Below n (elim x as (λ z. List Credential) [ true ↦ cs | false ↦ c ∷ without cs k ])
+    go : (x : Bool) → Below n (withoutSerial cs k)
+        → Below n (elim x as (λ z. List Credential) [ true ↦ cs | false ↦ c ∷ withoutSerial cs k ])
     go true h = b .1
     go false h = (b .0, h)
 
@@ -106,7 +106,7 @@ unfolding spend
 below-spend n cs [] b = b
 below-spend n cs (h ∷ hs) b = below-spend n _ hs (go (h .kind))
   where
-    go : (k : Kind) → Below n (by k (without cs (h .serial)) cs)
+    go : (k : Kind) → Below n (byKind k (withoutSerial cs (h .serial)) cs)
     go Linear = below-without n (h .serial) cs b
     go Unrestricted = b
 
@@ -133,10 +133,10 @@ find-spend lo cs (h ∷ hs) m r = go (h .kind) (λ ds. find-spend lo ds hs m)
   where
     go : (k : Kind)
         → ((ds : List Credential) → Rises lo ds → find (spend ds hs) m ≡ Found (spent hs m) none (find ds m))
-        → find (spend (by k (without cs (h .serial)) cs) hs) m
-        ≡ Found (by k true false && eqb (h .serial) m || spent hs m) none (find cs m)
+        → find (spend (byKind k (withoutSerial cs (h .serial)) cs) hs) m
+        ≡ Found (byKind k true false && eqb (h .serial) m || spent hs m) none (find cs m)
     go Linear ih =
-        ih (without cs (h .serial)) (rises-without lo (h .serial) cs r)
+        ih (withoutSerial cs (h .serial)) (rises-without lo (h .serial) cs r)
         ∙ ap (Found (spent hs m) none) (find-without lo cs (h .serial) m r)
         ∙ twice-out (spent hs m) (eqb m (h .serial)) (find cs m)
         ∙ ap (λ (b : Bool). Found (b || spent hs m) none (find cs m)) (eqb-sym m (h .serial))

@@ -15,7 +15,7 @@ use Rattle.request.specs.Range.{serial}
 use Rattle.request.specs.Request.{Request, word, issue, withdraw, book, tally}
 use Rattle.ledger.specs.declared.Credential.{Credential}
 use Rattle.ledger.specs.Table.{form, build, formulas}
-use Rattle.ledger.specs.Ledger.{Ledger, empty, formula, by, without, held, spend}
+use Rattle.ledger.specs.Ledger.{Ledger, empty, formula, byKind, withoutSerial, held, spend}
 use Rattle.ledger.specs.Checks.{maxSize, maxFormulas, maxLive, checks, readChecks}
 use Rattle.ledger.specs.Calls.{Reply, withLine, accept, call, after}
 use Rattle.ledger.specs.Statements.{Pass}
@@ -49,13 +49,13 @@ pub rises-lower : (lo hi : ℕ) (cs : List Credential) → lo ≤ hi → Rises h
 rises-lower lo hi [] le r = tt
 rises-lower lo hi (c ∷ cs) le r = let h = r .0 in (omega arith, r .1)
 
-pub rises-without : (lo n : ℕ) (cs : List Credential) → Rises lo cs → Rises lo (without cs n)
-unfolding without
+pub rises-without : (lo n : ℕ) (cs : List Credential) → Rises lo cs → Rises lo (withoutSerial cs n)
+unfolding withoutSerial
 rises-without lo n [] r = tt
 rises-without lo n (c ∷ cs) r = go (eqb (c .serial) n) (rises-without (c .serial) n cs (r .1))
   where
-    go : (b : Bool) → Rises (c .serial) (without cs n)
-        → Rises lo (elim b as (λ z. List Credential) [ true ↦ cs | false ↦ c ∷ without cs n ])
+    go : (b : Bool) → Rises (c .serial) (withoutSerial cs n)
+        → Rises lo (elim b as (λ z. List Credential) [ true ↦ cs | false ↦ c ∷ withoutSerial cs n ])
     go true h = let l = r .0 in rises-lower lo (c .serial) cs (omega arith) (r .1)
     go false h = (r .0, h)
 
@@ -64,7 +64,7 @@ unfolding spend
 rises-spend lo cs [] r = r
 rises-spend lo cs (h ∷ hs) r = rises-spend lo _ hs (go (h .kind))
   where
-    go : (k : Kind) → Rises lo (by k (without cs (h .serial)) cs)
+    go : (k : Kind) → Rises lo (byKind k (withoutSerial cs (h .serial)) cs)
     go Linear = rises-without lo (h .serial) cs r
     go Unrestricted = r
 

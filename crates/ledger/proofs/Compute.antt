@@ -16,7 +16,7 @@ use Rattle.request.specs.Read.{bookLine, firstLine, rest, requestLines, request
 use Rattle.steps.specs.Plans.{when, right, affirmed, left, planOf}
 use Rattle.steps.specs.Check.{maxLabels, begin, judged, onward, follow, premiseOf, finished, checkOf}
 use Rattle.ledger.specs.Table.{build, formulas}
-use Rattle.ledger.specs.Ledger.{empty, find, without, held, linears, spend}
+use Rattle.ledger.specs.Ledger.{empty, find, withoutSerial, held, linearCount, spend}
 use Rattle.ledger.specs.Checks.{_if_, first, any, sameRow, twice, labelsOf, verdict}
 use Rattle.ledger.specs.Checks.{steps, checks, checksOf}
 use Rattle.ledger.specs.Calls.{Told, told, openSeats, shutSeats, placed, accept, decide, call, answers}
@@ -28,7 +28,7 @@ unfolding contains has reversed size count plain sum up even sessionsOf all bala
     push fields pushLine lines reads decimalDigit hexDigit decimal numberIn labelSetIn return _>>=_ next many
     named choose ended whole line stepsIntervals intervals number labelSet interval kind part parts formulaLine
     labelled stepLine holdLine bookLine firstLine rest requestLines requestOf when right affirmed left planOf
-    maxLabels begin judged onward follow premiseOf finished checkOf build formulas find without held linears
+    maxLabels begin judged onward follow premiseOf finished checkOf build formulas find withoutSerial held linearCount
     spend _if_ first any sameRow twice labelsOf verdict steps checks checksOf openSeats
     shutSeats placed accept decide call answers ofLines
 played rs = map told (answers empty (map ofLines rs))

@@ -14,21 +14,22 @@ use Rattle.logic.proofs.Multisets.{ins-length, ins-sum, every-out}
 use Rattle.request.specs.declared.Kind.{Kind}
 use Rattle.request.specs.declared.Kind.the-variants.{Linear, Unrestricted}
 use Rattle.ledger.specs.declared.Credential.{Credential}
-use Rattle.ledger.specs.Ledger.{Ledger, by, find, without, isNone, consSome, held, linears, spend}
+use Rattle.ledger.specs.Ledger.{Ledger, byKind, find, withoutSerial, isNone, consSome, held, linearCount, spend}
 use Rattle.ledger.specs.Checks.{any, dead, twice}
 use Rattle.ledger.proofs.Answers.{some-none, some-inj}
 
 -- What is found can be taken out.
 pub take-out : (cs : List Credential) (n : ℕ) {c : Credential} → find cs n ≡ some c
-    → (c .serial ≡ n) × Ins c (without cs n) cs
-unfolding find without
+    → (c .serial ≡ n) × Ins c (withoutSerial cs n) cs
+unfolding find withoutSerial
 take-out [] n e = absurd (some-none (sym e))
 take-out (d ∷ cs) n {c} e = go (eqb (d .serial) n) refl e (take-out cs n)
   where
     go : (b : Bool) → eqb (d .serial) n ≡ b
         → elim b as (λ x. Option Credential) [ true ↦ some d | false ↦ find cs n ] ≡ some c
-        → (find cs n ≡ some c → (c .serial ≡ n) × Ins c (without cs n) cs)
-        → (c .serial ≡ n) × Ins c (elim b as (λ x. List Credential) [ true ↦ cs | false ↦ d ∷ without cs n ]) (d ∷ cs)
+        → (find cs n ≡ some c → (c .serial ≡ n) × Ins c (withoutSerial cs n) cs)
+        → (c .serial ≡ n)
+        × Ins c (elim b as (λ x. List Credential) [ true ↦ cs | false ↦ d ∷ withoutSerial cs n ]) (d ∷ cs)
     go true q e ih =
         let p : c ≡ d = sym (some-inj e) in (ap (λ (x : Credential). x .serial) p ∙ eqb-true _ _ q, here p)
     go false q e ih = let w = ih e in (w .0, there (w .1))
@@ -37,13 +38,14 @@ take-out (d ∷ cs) n {c} e = go (eqb (d .serial) n) refl e (take-out cs n)
 abbrev Other : ℕ → ℕ → Type 0
 Other n m = eqb n m ≡ false
 
-still : (cs : List Credential) (n m : ℕ) → Other n m → find (without cs n) m ≡ find cs m
-unfolding find without
+still : (cs : List Credential) (n m : ℕ) → Other n m → find (withoutSerial cs n) m ≡ find cs m
+unfolding find withoutSerial
 still [] n m h = refl
 still (d ∷ cs) n m h = go (eqb (d .serial) n) refl (eqb (d .serial) m) refl (still cs n m h)
   where
-    go : (b : Bool) → eqb (d .serial) n ≡ b → (x : Bool) → eqb (d .serial) m ≡ x → find (without cs n) m ≡ find cs m
-        → find (elim b as (λ x. List Credential) [ true ↦ cs | false ↦ d ∷ without cs n ]) m
+    go : (b : Bool) → eqb (d .serial) n ≡ b → (x : Bool) → eqb (d .serial) m ≡ x
+        → find (withoutSerial cs n) m ≡ find cs m
+        → find (elim b as (λ x. List Credential) [ true ↦ cs | false ↦ d ∷ withoutSerial cs n ]) m
         ≡ elim x as (λ x. Option Credential) [ true ↦ some d | false ↦ find cs m ]
     go true p true q ih = absurd (eqb-false n m h (sym (eqb-true _ _ p) ∙ eqb-true _ _ q))
     go true p false q ih = refl
@@ -60,7 +62,8 @@ any-none f (x ∷ xs) e = go (f x) refl e (any-none f xs)
     go true q e ih = absurd (no-truth (sym e))
     go false q e ih = (q, ih e)
 
-held-still : (cs : List Credential) (n : ℕ) (ms : List ℕ) → Every (Other n) ms → held (without cs n) ms ≡ held cs ms
+held-still : (cs : List Credential) (n : ℕ) (ms : List ℕ) → Every (Other n) ms
+    → held (withoutSerial cs n) ms ≡ held cs ms
 unfolding held
 held-still cs n [] h = refl
 held-still cs n (m ∷ ms) h = rw (still cs n m (h .0), held-still cs n ms (h .1))
@@ -69,7 +72,7 @@ abbrev pub Alive : List Credential → ℕ → Type 0
 Alive cs n = isNone (find cs n) ≡ false
 
 alive-still : (cs : List Credential) (n : ℕ) (ms : List ℕ) → Every (Other n) ms → Every (Alive cs) ms
-    → Every (Alive (without cs n)) ms
+    → Every (Alive (withoutSerial cs n)) ms
 alive-still cs n [] h a = tt
 alive-still cs n (m ∷ ms) h a = (ap isNone (still cs n m (h .0)) ∙ a .0, alive-still cs n ms (h .1) (a .1))
 
@@ -99,46 +102,47 @@ held-length cs (n ∷ ns) = go (find cs n) (held-length cs ns)
 
 -- what counts for linear credentials alone
 abbrev pub linearly : (Credential → ℕ) → Credential → ℕ
-linearly f c = by (c .kind) (f c) 0
+linearly f c = byKind (c .kind) (f c) 0
 
 -- what is left of the credentials once c is held
 abbrev left : Credential → List Credential → List Credential
-left c cs = by (c .kind) (without cs (c .serial)) cs
+left c cs = byKind (c .kind) (withoutSerial cs (c .serial)) cs
 
-module _ (c : Credential) (cs : List Credential) (i : Ins c (without cs (c .serial)) cs) where
+module _ (c : Credential) (cs : List Credential) (i : Ins c (withoutSerial cs (c .serial)) cs) where
   left-sum : (f : Credential → ℕ) → sum (linearly f) cs ≡ linearly f c + sum (linearly f) (left c cs)
   left-sum f = go (c .kind) refl
     where
       go : (k : Kind) → c .kind ≡ k
-          → sum (linearly f) cs ≡ by k (f c) 0 + sum (linearly f) (by k (without cs (c .serial)) cs)
-      go Linear q = omega (arith, ins-sum (linearly f) i, ap (λ (k : Kind). by k (f c) 0) q)
+          → sum (linearly f) cs ≡ byKind k (f c) 0 + sum (linearly f) (byKind k (withoutSerial cs (c .serial)) cs)
+      go Linear q = omega (arith, ins-sum (linearly f) i, ap (λ (k : Kind). byKind k (f c) 0) q)
       go Unrestricted q = omega arith
 
-  left-length : length cs ≡ by (c .kind) 1 0 + length (left c cs)
+  left-length : length cs ≡ byKind (c .kind) 1 0 + length (left c cs)
   left-length = go (c .kind)
     where
-      go : (k : Kind) → length cs ≡ by k 1 0 + length (by k (without cs (c .serial)) cs)
+      go : (k : Kind) → length cs ≡ byKind k 1 0 + length (byKind k (withoutSerial cs (c .serial)) cs)
       go Linear = omega (arith, ins-length i)
       go Unrestricted = omega arith
 
-left-keeps : (Q : List Credential → Type 0) (c : Credential) (cs : List Credential) → Q cs → Q (without cs (c .serial))
+left-keeps : (Q : List Credential → Type 0) (c : Credential) (cs : List Credential) → Q cs
+    → Q (withoutSerial cs (c .serial))
     → Q (left c cs)
 left-keeps Q c cs x y = go (c .kind)
   where
-    go : (k : Kind) → Q (by k (without cs (c .serial)) cs)
+    go : (k : Kind) → Q (byKind k (withoutSerial cs (c .serial)) cs)
     go Linear = y
     go Unrestricted = x
 
 -- The linear ones held and what is left once they are spent add up to what was there; all were there.
 pub record Splits (P : Credential → Type 0) (cs hs rest : List Credential) : Type 0 where
   pub sums : (f : Credential → ℕ) → sum (linearly f) cs ≡ sum (linearly f) hs + sum (linearly f) rest
-  pub lengths : length cs ≡ linears hs + length rest
+  pub lengths : length cs ≡ linearCount hs + length rest
   pub went : Every P hs
   pub stay : Every P rest
 
 split-held : (P : Credential → Type 0) (ns : List ℕ) (cs : List Credential) → Every (Alive cs) ns → Apart ns
     → Every P cs → Splits P cs (held cs ns) (spend cs (held cs ns))
-unfolding held spend sum linears
+unfolding held spend sum linearCount
 split-held P [] cs a h p = record { sums = λ f. omega arith; lengths = omega arith; went = tt; stay = p }
 split-held P (n ∷ ns) cs a h p = go (find cs n) refl (a .0) (split-held P ns)
   where
@@ -149,8 +153,8 @@ split-held P (n ∷ ns) cs a h p = go (find cs n) refl (a .0) (split-held P ns)
     go none e q ih = absurd (no-truth (sym q))
     go (some c) e q ih =
         let out = take-out cs n e in
-        let i : Ins c (without cs (c .serial)) cs =
-        subst (λ (m : ℕ). Ins c (without cs m) cs) (sym (out .0)) (out .1) in
+        let i : Ins c (withoutSerial cs (c .serial)) cs =
+        subst (λ (m : ℕ). Ins c (withoutSerial cs m) cs) (sym (out .0)) (out .1) in
         let o : Every (Other (c .serial)) ns = subst (λ (m : ℕ). Every (Other m) ns) (sym (out .0)) (h .0) in
         let d = every-out P i p in
         let w = ih (left c cs)

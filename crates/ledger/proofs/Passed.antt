@@ -19,7 +19,7 @@ use Rattle.request.specs.Range.{serial}
 use Rattle.request.specs.Request.{Line, Booking, word, issue, withdraw, book}
 use Rattle.ledger.specs.declared.Credential.{Credential}
 use Rattle.ledger.specs.Table.{form, names}
-use Rattle.ledger.specs.Ledger.{Ledger, formula, find, isNone, held, linears}
+use Rattle.ledger.specs.Ledger.{Ledger, formula, find, isNone, held, linearCount}
 use Rattle.ledger.specs.Checks.{any, maxSize, maxFormulas, maxLive, missing, sameLine, dead, twice, steps}
 use Rattle.ledger.specs.Checks.{checks}
 use Rattle.ledger.specs.Statements.{Pass}
@@ -87,7 +87,7 @@ pub record PassedBook (t : Ledger) (b : Booking) : Type 0 where
   pub alive : any (dead t) (b .holds) ≡ false
   pub apart : twice (b .holds) ≡ false
   pub closes : steps t (held (t .live) (b .holds)) (b .formula) (b .interval) (b .steps) ≡ none
-  pub room : length (t .live) - linears (held (t .live) (b .holds)) < maxLive
+  pub room : length (t .live) - linearCount (held (t .live) (b .holds)) < maxLive
   pub unused : t .next ≤ serial .last
 
 pub passed-book : (t : Ledger) (b : Booking) → Pass (checks t (book b)) → PassedBook t b

@@ -15,7 +15,7 @@ use Rattle.request.specs.Read.{requestOf}
 use Rattle.ledger.specs.declared.Credential.{Credential}
 use Rattle.ledger.specs.declared.Answer.{Answer}
 use Rattle.ledger.specs.declared.Answer.the-variants.{Accepted, Counted, Refused}
-use Rattle.ledger.specs.Ledger.{Ledger, formula, by, without, held, spend}
+use Rattle.ledger.specs.Ledger.{Ledger, formula, byKind, withoutSerial, held, spend}
 use Rattle.ledger.specs.Checks.{Refusal, first, checksOf}
 
 -- an answer and the ledger after the call
@@ -45,25 +45,27 @@ abbrev pub withLive : Ledger → List Credential → Ledger
 withLive t cs = record { lines = t .lines; live = cs; next = t .next }
 
 -- one credential more, with the next serial
-abbrev pub given : Ledger → Kind → ℕ → Interval → Ledger
-given t k n i = record {
+abbrev pub withCredential : Ledger → Kind → ℕ → Interval → Ledger
+withCredential t k n i = record {
   lines = t .lines;
   live = t .live ++ (record { serial = t .next; kind = k; formula = n; interval = i } ∷ []);
   next = t .next + 1;
 }
 
--- "Tally: over live singles, open = seats of the session in coupons whose window has the minute, shut = the other
--- seats, placed = places."
+-- n where the test is true
 abbrev pub only : Bool → ℕ → ℕ
 only true n = n
 only false n = 0
 
+-- the seats and the places of a session in a linear credential
 abbrev pub seatsOf : Ledger → ℕ → Credential → ℕ
-seatsOf t s c = by (c .kind) (seats s (formula t (c .formula))) 0
+seatsOf t s c = byKind (c .kind) (seats s (formula t (c .formula))) 0
 
 abbrev pub placesOf : Ledger → ℕ → Credential → ℕ
-placesOf t s c = by (c .kind) (places s (formula t (c .formula))) 0
+placesOf t s c = byKind (c .kind) (places s (formula t (c .formula))) 0
 
+-- "Tally: over live singles, open = seats of the session in coupons whose window has the minute, shut = the other
+-- seats, placed = places."
 unfoldable pub openSeats : Ledger → ℕ → ℕ → ℕ
 openSeats t s m = sum (λ c. only (has (c .interval) m) (seatsOf t s c)) (t .live)
 
@@ -77,12 +79,12 @@ unfoldable pub accept : Ledger → Request → Reply
 -- "The till numbers them from 0"
 accept t (word l) = reply (Accepted (length (t .lines))) (withLine t l)
 -- "An accepted issue adds one, a withdraw removes it."
-accept t (issue k n i) = reply (Accepted (t .next)) (given t k n i)
-accept t (withdraw n) = reply (Accepted n) (withLive t (without (t .live) n))
+accept t (issue k n i) = reply (Accepted (t .next)) (withCredential t k n i)
+accept t (withdraw n) = reply (Accepted n) (withLive t (withoutSerial (t .live) n))
 -- "An accepted booking removes the single-use holds and adds the goal as one single-use coupon with the next serial."
 accept t (book b) =
     reply (Accepted (t .next))
-    (given (withLive t (spend (t .live) (held (t .live) (b .holds)))) Linear (b .formula) (b .interval))
+    (withCredential (withLive t (spend (t .live) (held (t .live) (b .holds)))) Linear (b .formula) (b .interval))
 accept t (tally s m) = reply (Counted (openSeats t s m) (shutSeats t s m) (placed t s)) t
 
 -- "Any refusal returns these two numbers and the till as before."

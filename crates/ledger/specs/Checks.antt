@@ -1,5 +1,5 @@
 -- Document 01's section "Where a sheet is stopped": the checks of a request, in the table's order, for each kind.
--- `n if test` is a row of the table: refusal n, "given exactly if" the test is true.
+-- `n if test` is a row of the table: refusal n is given exactly if the test is true.
 use mathlib.Core.List.{List, [], _∷_, map}
 use mathlib.Core.Option.{Option, none, some}
 use mathlib.Core.Bool.{Bool, true, false, _&&_, _||_, not}
@@ -23,7 +23,7 @@ use Rattle.steps.specs.declared.Sequent.{Sequent}
 use Rattle.steps.specs.Check.{Outcome, done, stopped, puts, checkOf}
 use Rattle.ledger.specs.declared.Credential.{Credential}
 use Rattle.ledger.specs.Table.{form, names, rowOf}
-use Rattle.ledger.specs.Ledger.{Ledger, formula, row, isKind, find, isNone, held, linears}
+use Rattle.ledger.specs.Ledger.{Ledger, formula, row, isKind, find, isNone, held, linearCount}
 
 -- A check passes (none) or answers its refusal: "with its step (from 1) for 40 to 42, else 0".
 pub record Refusal : Type 0 where
@@ -67,7 +67,7 @@ missing t n = leb (length (t .lines)) n
 abbrev pub oversize : Ledger → Line → Bool
 oversize t l = ltb maxSize (size (form (formula t) l))
 
--- "no two lines equal": the letters and all fields are
+-- "no two lines equal": equal letters and equal fields
 unfoldable pub sameRow : Row → Row → Bool
 sameRow x y =
     eqb (x .letter) (y .letter)
@@ -86,8 +86,8 @@ twice [] = false
 twice (n ∷ ns) = any (eqb n) ns || twice ns
 
 -- "live, less singles held, is 512 or more"
-abbrev pub full : Ledger → ℕ → Bool
-full t singles = leb maxLive (length (t .live) - singles)
+abbrev pub noRoom : Ledger → ℕ → Bool
+noRoom t singles = leb maxLive (length (t .live) - singles)
 
 -- "serial 999,999 was given"
 abbrev pub usedUp : Ledger → Bool
@@ -96,16 +96,16 @@ usedUp t = ltb (serial .last) (t .next)
 -- The steps of a booking
 
 -- the table of labels, as a function
-abbrev pub Labels : Type 0
-Labels = ℕ → Hypothesis
+abbrev pub LabelTable : Type 0
+LabelTable = ℕ → Hypothesis
 
-abbrev pub noLabels : Labels
+abbrev pub noLabels : LabelTable
 noLabels k = record { formula = 0; interval = span 0 0 }
 
-abbrev pub readLabel : Labels → ℕ → Hypothesis
+abbrev pub readLabel : LabelTable → ℕ → Hypothesis
 readLabel f k = f k
 
-abbrev pub writeLabel : Labels → ℕ → Hypothesis → Labels
+abbrev pub writeLabel : LabelTable → ℕ → Hypothesis → LabelTable
 writeLabel f n h = λ k. elim (eqb k n) [ true ↦ h | false ↦ f k ]
 
 -- "Holds take labels 0, 1, .. in order": what they stand for, and the set of those of a kind, from label n on, with d
@@ -145,12 +145,12 @@ checks t (word l) =
 checks t (issue Linear n i) =
     (10 if missing t n) ∷
     (20 if not (plain (formula t n))) ∷
-    (22 if full t 0) ∷
+    (22 if noRoom t 0) ∷
     (23 if usedUp t) ∷ []
 checks t (issue Unrestricted n i) =
     (10 if missing t n) ∷
     (21 if not (balanced (formula t n))) ∷
-    (22 if full t 0) ∷
+    (22 if noRoom t 0) ∷
     (23 if usedUp t) ∷ []
 checks t (withdraw n) =
     (24 if dead t n) ∷ []
@@ -162,7 +162,7 @@ checks t (book b) =
     (24 if any (dead t) (b .holds)) ∷
     (31 if twice (b .holds)) ∷
     steps t cs (b .formula) (b .interval) (b .steps) ∷
-    (22 if full t (linears cs)) ∷
+    (22 if noRoom t (linearCount cs)) ∷
     (23 if usedUp t) ∷ []
 checks t (tally s m) = []
 

@@ -1,5 +1,5 @@
 -- The history of a list of calls, and what was issued and withdrawn, counted from it alone. "The history is the
--- accepted sheets of the list with their answers."
+-- accepted sheets of the list with their answers: .."
 use mathlib.Core.List.{List, [], _∷_}
 use mathlib.Core.Option.{Option, none, some}
 use mathlib.Core.Bool.{true, false}
@@ -13,7 +13,7 @@ use Rattle.request.specs.Read.{requestOf}
 use Rattle.ledger.specs.declared.Answer.{Answer}
 use Rattle.ledger.specs.declared.Answer.the-variants.{Accepted, Counted, Refused}
 use Rattle.ledger.specs.Table.{form}
-use Rattle.ledger.specs.Ledger.{by, empty}
+use Rattle.ledger.specs.Ledger.{byKind, empty}
 use Rattle.ledger.specs.Calls.{answers}
 
 -- an accepted request and its answer
@@ -77,13 +77,13 @@ givenIn [] = λ n. none
 givenIn (e ∷ h) = givenBy (e .request) (e .answer) (givenIn h)
 
 -- a formula's seats and places of a session
-abbrev pub stands : ℕ → Formula → ℕ
-stands s a = seats s a + places s a
+abbrev pub seatsAndPlaces : ℕ → Formula → ℕ
+seatsAndPlaces s a = seats s a + places s a
 
 -- "Issued counts, for a session, its seats and places in the wordings of accepted `issue,s`"
 abbrev pub issuedBy : ℕ → History → Request → ℕ
 issuedBy s h (word l) = 0
-issuedBy s h (issue k n i) = by k (stands s (formulaIn h n)) 0
+issuedBy s h (issue k n i) = byKind k (seatsAndPlaces s (formulaIn h n)) 0
 issuedBy s h (withdraw n) = 0
 issuedBy s h (book b) = 0
 issuedBy s h (tally x m) = 0
@@ -94,14 +94,14 @@ issued s (e ∷ h) = issuedBy s h (e .request) + issued s h
 
 -- "withdrawn counts, for each accepted withdraw, those of the single coupon that the history gave that serial, and
 -- nothing for a standing one"
-abbrev pub standsIn : ℕ → History → Option Given → ℕ
-standsIn s h none = 0
-standsIn s h (some g) = by (g .kind) (stands s (formulaIn h (g .formula))) 0
+abbrev pub seatsAndPlacesOf : ℕ → History → Option Given → ℕ
+seatsAndPlacesOf s h none = 0
+seatsAndPlacesOf s h (some g) = byKind (g .kind) (seatsAndPlaces s (formulaIn h (g .formula))) 0
 
 abbrev pub withdrawnBy : ℕ → History → Request → ℕ
 withdrawnBy s h (word l) = 0
 withdrawnBy s h (issue k n i) = 0
-withdrawnBy s h (withdraw n) = standsIn s h (givenIn h n)
+withdrawnBy s h (withdraw n) = seatsAndPlacesOf s h (givenIn h n)
 withdrawnBy s h (book b) = 0
 withdrawnBy s h (tally x m) = 0
 

@@ -31,14 +31,14 @@ abbrev pub row : Ledger → ℕ → Row
 row t n = rowOf (getD (t .lines) n Line.one)
 
 -- by kind: the first for a linear credential, the second for an unrestricted one
-abbrev pub by : {A : Type 0} → Kind → A → A → A
-by Linear x y = x
-by Unrestricted x y = y
+abbrev pub byKind : {A : Type 0} → Kind → A → A → A
+byKind Linear x y = x
+byKind Unrestricted x y = y
 
 -- the first kind is the second
 abbrev pub isKind : Kind → Kind → Bool
-isKind Linear k = by k true false
-isKind Unrestricted k = by k false true
+isKind Linear k = byKind k true false
+isKind Unrestricted k = byKind k false true
 
 -- the live credential of a serial
 unfoldable pub find : List Credential → ℕ → Option Credential
@@ -46,9 +46,9 @@ find [] n = none
 find (c ∷ cs) n = elim (eqb (c .serial) n) [ true ↦ some c | false ↦ find cs n ]
 
 -- without it
-unfoldable pub without : List Credential → ℕ → List Credential
-without [] n = []
-without (c ∷ cs) n = elim (eqb (c .serial) n) [ true ↦ cs | false ↦ c ∷ without cs n ]
+unfoldable pub withoutSerial : List Credential → ℕ → List Credential
+withoutSerial [] n = []
+withoutSerial (c ∷ cs) n = elim (eqb (c .serial) n) [ true ↦ cs | false ↦ c ∷ withoutSerial cs n ]
 
 abbrev pub isNone : {A : Type 0} → Option A → Bool
 isNone none = true
@@ -64,11 +64,11 @@ held cs [] = []
 held cs (n ∷ ns) = consSome (find cs n) (held cs ns)
 
 -- how many of them are linear
-unfoldable pub linears : List Credential → ℕ
-linears [] = 0
-linears (c ∷ cs) = by (c .kind) 1 0 + linears cs
+unfoldable pub linearCount : List Credential → ℕ
+linearCount [] = 0
+linearCount (c ∷ cs) = byKind (c .kind) 1 0 + linearCount cs
 
 -- "removes the single-use holds"
 unfoldable pub spend : List Credential → List Credential → List Credential
 spend cs [] = cs
-spend cs (h ∷ hs) = spend (by (h .kind) (without cs (h .serial)) cs) hs
+spend cs (h ∷ hs) = spend (byKind (h .kind) (withoutSerial cs (h .serial)) cs) hs

@@ -30,7 +30,7 @@ abbrev pub each : List String → List (List String)
 each [] = []
 each (l ∷ ls) = (l ∷ []) ∷ each ls
 
--- the answers ok,0 ok,1 .. up to a number
+-- ok,n for each n
 abbrev pub oks : List ℕ → List Told
 oks [] = []
 oks (n ∷ ns) = ok (n ∷ []) ∷ oks ns
