@@ -1,0 +1,94 @@
+//! What the sessions reached, and what they must reach.
+
+use super::model::Answer;
+use super::session::Case;
+use super::*;
+use std::collections::BTreeMap;
+
+#[derive(Default)]
+pub struct Coverage {
+    marks: BTreeMap<String, u32>,
+    sheets: u32,
+    unknown: u32,
+}
+
+const LETTERS: [&str; 22] = [
+    "ax", "cp", "tr", "tl", "or", "ol", "wr", "w1", "w2", "p1", "p2", "pl", "ll", "ul", "br", "bl", "hr",
+    "hl", "sr", "af", "sl", "gr",
+];
+const BOOKED: [&str; 9] = [
+    "share empty", "share full", "share between", "goal under ⟨K⟩", "goal not under ⟨K⟩", "64 labels",
+    "256 steps", "32 holds", "two premises within two",
+];
+const MORE: [&str; 6] = [
+    "tally", "damaged at random", "empty sheet", "range: last wording there",
+    "range: first wording not there", "range: first serial not given",
+];
+const REFUSALS: [u32; 16] = [1, 2, 3, 10, 12, 13, 14, 20, 21, 22, 24, 30, 31, 40, 41, 42];
+
+/// Everything that must be reached, in groups.
+fn required(long: bool) -> Vec<(&'static str, Vec<String>)> {
+    let all = |list: &[&str]| list.iter().map(|s| s.to_string()).collect::<Vec<_>>();
+    let mut refusals: Vec<String> = REFUSALS.iter().map(|n| format!("refusal {n}")).collect();
+    refusals.extend(long.then(|| "refusal 23".to_string()));
+    let rules = [
+        &breaks::OF_R[..], &breaks::SPENT, &breaks::NEVER, &breaks::OTHER, &breaks::GOAL_OTHER,
+        &breaks::GOAL_AFFIRMS, &breaks::REST,
+    ];
+    let at_once = [&pairs::BOOK_PAIRS[..], &pairs::STEP_ORDER, &pairs::CALL_PAIRS];
+    let mut groups = vec![
+        ("refusal numbers", refusals),
+        ("step letters in accepted bookings", all(&LETTERS)),
+        ("connectives in standing coupons held", all(&booking::STANDING)),
+        ("accepted bookings", all(&BOOKED)),
+        ("ways to break a rule", all(&rules.concat())),
+        ("faults found later", all(&[&late::LATE[..], &slips::ARMS, &slips::JOINED, &slips::NAMES].concat())),
+        ("label 64", all(&late::WANTS_64)),
+        ("windows", all(&spans::SPANS)),
+        ("balance", all(&balance::BALANCE)),
+        ("limits of the till", all(&capacity::CAPACITY)),
+        ("ranges", all(&[&ranges::RANGES[..], &ranges::BACKWARD, &MORE].concat())),
+        ("two checks at once", all(&at_once.concat())),
+        ("damage", all(&damage::DAMAGE)),
+        ("life of coupons", all(&life::LIFE)),
+        ("document 01's sessions", all(&papers::PAPERS)),
+    ];
+    groups.extend(long.then(|| ("the last serial", all(&long::LONG))));
+    groups
+}
+
+impl Coverage {
+    pub fn note(&mut self, case: &Case) {
+        self.sheets += 1;
+        match case.expected {
+            Some(Answer::Refused(number, _)) => {
+                *self.marks.entry(format!("refusal {number}")).or_insert(0) += 1;
+            }
+            None => self.unknown += 1,
+            _ => {}
+        }
+        for mark in &case.marks {
+            *self.marks.entry(mark.to_string()).or_insert(0) += 1;
+        }
+    }
+
+    /// Prints what was reached; gives the number of required things that were not.
+    pub fn report(&self, long: bool) -> u32 {
+        println!("coverage of {} sheets, {} of them without a known answer:", self.sheets, self.unknown);
+        let mut missing = 0;
+        for (group, names) in required(long) {
+            let count = |name: &String| self.marks.get(name).copied().unwrap_or(0);
+            let reached = names.iter().filter(|n| count(n) > 0).count();
+            let fewest = names.iter().map(count).min().unwrap_or(0);
+            println!("  {group}: {reached} of {} (the rarest {fewest} times)", names.len());
+            for name in names.iter().filter(|n| count(n) == 0) {
+                println!("    NOT REACHED: {name}");
+                missing += 1;
+            }
+        }
+        let line: Vec<String> = self.marks.iter().filter(|(m, _)| m.starts_with("refusal"))
+            .map(|(m, n)| format!("{} x{n}", &m[8..])).collect();
+        println!("  refusals: {}", line.join(", "));
+        missing
+    }
+}

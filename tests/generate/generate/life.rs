@@ -1,0 +1,191 @@
+//! The till over time: issues, bookings of booked coupons, withdrawals of every sort, tallies between.
+
+use super::booking::{place, Booking, Seen};
+use super::drills::exercise;
+use super::form::Kind;
+use super::grow::Grower;
+use super::model::{Coupon, Steps};
+use super::rng::Rng;
+use super::session::{Desk, Session};
+use super::wording::*;
+use super::world::World;
+use super::write::Hold;
+
+pub const LIFE: [&str; 9] = [
+    "withdraw single", "withdraw standing", "withdraw booked", "withdraw dead", "booked coupon booked again",
+    "spent single held", "spent single withdrawn", "withdrawn single held", "withdrawn standing held",
+];
+
+/// A plain wording over the stock.
+fn plain(rng: &mut Rng, world: &World, depth: u32) -> Part {
+    match rng.below(if depth == 0 { 2 } else { 5 }) {
+        0 => world.weighty_atom(rng, world.sessions[0]),
+        1 => atom(rng.pick(&[1, 2, 9]), rng.pick(&world.sessions)),
+        2 | 3 => tensor(&plain(rng, world, depth - 1), &plain(rng, world, depth - 1)),
+        _ => says(rng.pick(&world.principals), &plain(rng, world, depth - 1)),
+    }
+}
+
+/// A booking of one live single for its own wording, in a window inside its own.
+fn again(desk: &mut Desk, g: &mut Grower, c: &Coupon) -> Option<Booking> {
+    let from = g.rng.between(c.window.from, c.window.to);
+    let inner = window(from, g.rng.between(from, c.window.to));
+    let inner = g.rng.pick(&[inner, c.window]);
+    let h = g.hyp(c.wording.clone(), c.window);
+    let id = h.id;
+    let deriv = g.identity(h, inner);
+    let hold = Hold { ids: vec![id], standing: false, wording: c.wording.clone(), window: c.window };
+    let now = g.rng.pick(&[inner.from, inner.to]);
+    let mut b = place(desk, deriv, vec![hold], now, true)?;
+    b.serials = vec![c.serial];
+    b.fits_limits().then_some(b)
+}
+
+/// The same sheet held a dead coupon: 24, whatever its steps.
+fn held_dead(desk: &mut Desk, b: &Booking, name: &'static str) {
+    desk.refuse(&b.sheet(&b.serials, &b.texts()), 24, name);
+}
+
+fn withdraw(desk: &mut Desk, rng: &mut Rng, booked: &[u32], dead: &mut Vec<u32>) {
+    if rng.chance(1, 4) && !dead.is_empty() {
+        let serial = rng.pick(dead);
+        desk.refuse(format!("withdraw,{serial}\n").as_bytes(), 24, "withdraw dead");
+        return;
+    }
+    let Some(c) = some_live(desk, rng) else { return };
+    let name = match c.kind {
+        Kind::Standing => "withdraw standing",
+        Kind::Single if booked.contains(&c.serial) => "withdraw booked",
+        Kind::Single => "withdraw single",
+    };
+    desk.script(&format!("withdraw,{}", c.serial), &format!("ok,{}", c.serial), name);
+    dead.push(c.serial);
+    let held = format!("book,0,0,0,0,1,1\nhold,{}\nax,0\n", c.serial);
+    if desk.model.wordings[0].plain() {
+        let standing = c.kind == Kind::Standing;
+        let name = if standing { "withdrawn standing held" } else { "withdrawn single held" };
+        desk.refuse(held.as_bytes(), 24, name);
+    }
+}
+
+fn some_live(desk: &Desk, rng: &mut Rng) -> Option<Coupon> {
+    (!desk.model.live.is_empty()).then(|| rng.pick(&desk.model.live))
+}
+
+fn book(desk: &mut Desk, g: &mut Grower, booked: &mut Vec<u32>, dead: &mut Vec<u32>) {
+    let Some(c) = some_live(desk, g.rng).filter(|c| c.kind == Kind::Single) else { return };
+    let Some(b) = again(desk, g, &c) else { return };
+    b.accept(desk);
+    if booked.contains(&c.serial) {
+        desk.mark(&["booked coupon booked again"]);
+    }
+    booked.push(desk.model.given);
+    dead.push(c.serial);
+    held_dead(desk, &b, "spent single held");
+    let serial = c.serial;
+    desk.refuse(format!("withdraw,{serial}\n").as_bytes(), 24, "spent single withdrawn");
+}
+
+pub fn session(seed: u64, calls: usize) -> Session {
+    let mut rng = Rng::new(seed);
+    let world = World::new(&mut rng);
+    let mut desk = Desk::new();
+    desk.enter(&atom(1, world.sessions[0]));
+    let (mut booked, mut dead) = (vec![], vec![]);
+    for _ in 0..calls {
+        match rng.below(7) {
+            0 | 1 => {
+                let part = plain(&mut rng, &world, 3);
+                if desk.missing(&[part.clone()]) + desk.model.lines.len() <= 190 && part.size() <= 64 {
+                    let w = world.any(&mut rng);
+                    desk.issue(Kind::Single, &part, w);
+                }
+            }
+            2 => {
+                let w = world.any(&mut rng);
+                let seat = atom(1, world.sessions[0]);
+                let offer = lolli(&seat, &seat);
+                desk.issue(Kind::Standing, &offer, w);
+            }
+            3 => withdraw(&mut desk, &mut rng, &booked, &mut dead),
+            4 | 5 => book(&mut desk, &mut Grower::new(&mut rng, &world), &mut booked, &mut dead),
+            _ => desk.tallies(&mut rng, 2),
+        }
+    }
+    every_end(&mut desk);
+    desk.session("life", seed)
+}
+
+/// Tallies at both ends of every live window, for every session that occurs.
+fn every_end(desk: &mut Desk) {
+    let sessions: std::collections::BTreeSet<u32> =
+        desk.model.live.iter().flat_map(|c| c.wording.sessions()).collect();
+    let windows: std::collections::BTreeSet<Window> = desk.model.live.iter().map(|c| c.window).collect();
+    for session in sessions {
+        for w in windows.iter().take(4) {
+            desk.tally(session, w.from);
+            desk.tally(session, (w.to + 1).min(LAST_MINUTE));
+        }
+    }
+    desk.play(b"tally,255,0\n", Steps::Close);
+}
+
+/// One coupon of each sort through all that can happen to it.
+pub fn fixed() -> Session {
+    let mut desk = Desk::new();
+    desk.words(&["a,1,7", "l,0,0"]);
+    let booking = |serial: u32| format!("book,5,0,4,9,1,1|hold,{serial}|ax,0");
+    for (n, kind) in ["s", "s", "s", "r"].iter().enumerate() {
+        let wording = u32::from(*kind == "r");
+        desk.script(&format!("issue,{kind},{wording},0,9"), &format!("ok,{}", n + 1), "");
+    }
+    desk.script("tally,7,3", "ok,3,0,0", "tally");
+    desk.script(&booking(1), "ok,5", "");
+    desk.script("tally,7,3", "ok,2,1,0", "tally");
+    desk.script(&booking(1), "no,24,0", "spent single held");
+    desk.script("withdraw,1", "no,24,0", "spent single withdrawn");
+    desk.script(&booking(5), "ok,6", "booked coupon booked again");
+    desk.script("withdraw,6", "ok,6", "withdraw booked");
+    desk.script(&booking(6), "no,24,0", "withdrawn single held");
+    desk.script("withdraw,2", "ok,2", "withdraw single");
+    desk.script("withdraw,2", "no,24,0", "withdraw dead");
+    desk.script(&booking(2), "no,24,0", "withdrawn single held");
+    desk.script("withdraw,4", "ok,4", "withdraw standing");
+    desk.script("withdraw,4", "no,24,0", "withdraw dead");
+    desk.script("book,5,0,4,9,2,1|hold,3|hold,4|ax,0", "no,24,0", "withdrawn standing held");
+    desk.script("withdraw,7", "no,24,0", "withdraw dead");
+    desk.script("issue,s,0,9,9", "ok,7", "");
+    desk.script("tally,7,9", "ok,2,0,0", "tally");
+    desk.script("tally,7,8", "ok,1,1,0", "tally");
+    desk.script("tally,7,10", "ok,0,2,0", "tally");
+    desk.script("tally,8,9", "ok,0,0,0", "tally");
+    desk.session("life: one of each", 0)
+}
+
+/// Random derivations booked, broken first; then their goals booked on and withdrawn.
+pub fn bookings(seed: u64, seen: &mut Seen, how_many: usize, breaks: usize) -> Session {
+    let mut rng = Rng::new(seed);
+    let world = World::new(&mut rng);
+    let mut desk = Desk::new();
+    let mut made = 0;
+    for attempt in 0..how_many * 8 {
+        if made == how_many {
+            break;
+        }
+        let fuel = rng.between(3, 18).saturating_sub(attempt as u32 / 2);
+        let mut g = Grower::new(&mut rng, &world);
+        let Some(b) = super::booking::random(&mut desk, &mut g, fuel) else { continue };
+        exercise(&b, &mut desk, &mut g, seen, breaks);
+        made += 1;
+        let goal = desk.model.live.last().expect("the goal's coupon").clone();
+        desk.tallies(&mut rng, 3);
+        let mut g = Grower::new(&mut rng, &world);
+        if let Some(b) = again(&mut desk, &mut g, &goal) {
+            b.accept(&mut desk);
+            desk.mark(&["booked coupon booked again"]);
+            held_dead(&mut desk, &b, "spent single held");
+        }
+        desk.tallies(&mut rng, 2);
+    }
+    desk.session("bookings", seed)
+}

@@ -1,0 +1,255 @@
+//! Sheets that break two checks at once: the first in document 01's order answers.
+
+use super::form::Kind;
+use super::model::Answer;
+use super::rng::Rng;
+use super::session::{Desk, Session};
+use super::wording::*;
+
+/// A booking sheet in pieces, so that faults can be put in one beside the other.
+#[derive(Clone)]
+struct Pieces {
+    now: u32,
+    goal: u32,
+    window: (u32, u32),
+    holds: Vec<u32>,
+    /// The steps, unless `steps` says otherwise: copy label 0, close with the copy.
+    steps: Option<Vec<String>>,
+    damage: &'static str,
+    overlong: bool,
+}
+
+/// The orders of checks for a booking, save the one for a full till.
+const BOOK: [u32; 11] = [1, 2, 3, 10, 20, 30, 24, 31, 40, 41, 42];
+
+impl Pieces {
+    fn good(standing: u32) -> Pieces {
+        Pieces {
+            now: 5,
+            goal: 0,
+            window: (0, 9),
+            holds: vec![standing],
+            steps: None,
+            damage: "",
+            overlong: false,
+        }
+    }
+
+    fn steps(&self) -> Vec<String> {
+        let closing = vec!["cp,0".to_string(), format!("ax,{}", self.holds.len())];
+        self.steps.clone().unwrap_or(closing)
+    }
+
+    /// Copies without end: label 64 is wanted after 64 less the holds.
+    fn copies(&self) -> usize {
+        65 - self.holds.len()
+    }
+
+    fn break_it(&mut self, number: u32, rng: &mut Rng) {
+        match number {
+            1 => self.overlong = true,
+            2 => self.damage = rng.pick(&[",", " ", "\r", ",0", "x"]),
+            3 => self.window = (9, 8),
+            10 => self.goal = 999,
+            20 => self.goal = 1,
+            30 => self.now = if self.window.0 == 0 { 10 } else { 0 },
+            24 => {
+                let place = rng.below(self.holds.len() + 1).max(1);
+                self.holds.insert(place, 777);
+            }
+            31 => self.holds.push(self.holds[0]),
+            40 => {
+                let mut steps = self.steps();
+                steps[0] = "af".to_string();
+                self.steps = Some(steps);
+            }
+            41 => self.steps = Some(vec!["cp,0".to_string(); self.copies() + rng.below(3)]),
+            _ => {
+                let mut steps = self.steps();
+                if rng.chance(1, 2) {
+                    steps.push("or".to_string());
+                } else {
+                    steps.pop();
+                }
+                self.steps = Some(steps);
+            }
+        }
+    }
+
+    fn sheet(&self) -> Vec<u8> {
+        let steps = self.steps();
+        let (from, to) = self.window;
+        let (h, n) = (self.holds.len(), steps.len());
+        let mut text = format!("book,{},{},{from},{to},{h},{n}{}\n", self.now, self.goal, self.damage);
+        self.holds.iter().for_each(|s| text += &format!("hold,{s}\n"));
+        steps.iter().for_each(|s| text += &format!("{s}\n"));
+        if self.overlong {
+            text += &"af\n".repeat(5_500);
+        }
+        text.into_bytes()
+    }
+}
+
+pub const BOOK_PAIRS: [&str; 12] = [
+    "pair: book 1", "pair: book 2", "pair: book 3", "pair: book 10", "pair: book 20", "pair: book 30",
+    "pair: book 24", "pair: book 31", "pair: book 40", "pair: book 41", "pair: book 42", "pair: book 22",
+];
+
+/// The answer when this check is the first to fail.
+fn answer_of(number: u32, pieces: &Pieces, both: &[u32]) -> Answer {
+    let n = pieces.steps().len() as u32;
+    match number {
+        40 => Answer::Refused(40, 1),
+        41 => Answer::Refused(41, pieces.copies() as u32),
+        42 if both.contains(&42) => Answer::Refused(42, n.clamp(2, 3)),
+        _ => Answer::Refused(number, 0),
+    }
+}
+
+/// Every pair of checks that one booking can break, on a till with room or a full one.
+fn bookings(seed: u64, full: bool) -> Session {
+    let mut rng = Rng::new(seed);
+    let mut desk = Desk::new();
+    desk.words(&["a,9,7", "o"]);
+    let standing = desk.issue(Kind::Standing, &atom(9, 7), window(0, 9));
+    while full && desk.model.live.len() < 512 {
+        desk.issue(Kind::Single, &atom(9, 7), window(0, 9));
+    }
+    for (i, first) in BOOK.iter().enumerate() {
+        for second in BOOK[i..].iter() {
+            if (*first, *second) == (10, 20) || (*first == 41 && *second == 42) {
+                continue;
+            }
+            for _ in 0..2 {
+                let mut pieces = Pieces::good(standing);
+                // Faults in holds come before those in steps, which count the holds.
+                let mut both = vec![*second, *first];
+                both.sort_by_key(|n| (*n >= 40, *n == 40));
+                both.dedup();
+                both.iter().for_each(|n| pieces.break_it(*n, &mut rng));
+                let answer = answer_of(*first, &pieces, &both);
+                desk.expect(&pieces.sheet(), answer, &[BOOK_PAIRS[i]]);
+            }
+        }
+    }
+    let good = Pieces::good(standing).sheet();
+    let answer = if full { Answer::Refused(22, 0) } else { Answer::Done(desk.model.given + 1) };
+    desk.expect(&good, answer, if full { &["pair: book 22"] } else { &[] });
+    step_order(&mut desk, standing);
+    desk.session(if full { "pairs: bookings, full till" } else { "pairs: bookings" }, seed)
+}
+
+/// 40 to 42 are found step by step; 24 before 31; 3 in any line before the others.
+fn step_order(desk: &mut Desk, standing: u32) {
+    let cps = |n: usize| vec!["cp,0"; n].join("|");
+    let hold = format!("hold,{standing}");
+    let tries = [
+        (format!("64|{hold}|{}", cps(64)), "no,41,64", "pair: 41 on the last line"),
+        (format!("65|{hold}|{}|af", cps(64)), "no,41,64", "pair: 41 before 40"),
+        (format!("64|{hold}|{}|af", cps(63)), "no,40,64", "pair: 40 where no label is left"),
+        (format!("64|{hold}|{}|cp,63", cps(63)), "no,40,64", "pair: 40 where no label is left"),
+        (format!("63|{hold}|{}", cps(63)), "no,42,64", "pair: 42 where no label is left"),
+        (format!("3|{hold}|cp,0|ax,1|af"), "no,42,3", "pair: 42 before 40"),
+        (format!("4|{hold}|cp,0|ax,1|cp,9|sr"), "no,42,3", "pair: 42 before 40"),
+        (format!("3|{hold}|cp,0|ax,1|ul,0,9,8"), "no,3,0", "pair: 3 after the close"),
+        (format!("3|{hold}|cp,0|ax,1|ax,64"), "no,2,0", "pair: 2 after the close"),
+        (format!("3|{hold}|cp,0|ax,0|ax,1"), "no,40,2", "pair: 40 before 42"),
+        (format!("1|{hold}|cp,0"), "no,42,2", "pair: 42 alone"),
+    ];
+    for (tail, answer, name) in tries {
+        desk.script(&format!("book,5,0,0,9,1,{tail}"), answer, name);
+    }
+    for holds in ["777|hold,S|hold,S", "S|hold,S|hold,777", "S|hold,777|hold,S", "777|hold,777|hold,S"] {
+        let holds = holds.replace('S', &standing.to_string());
+        desk.script(&format!("book,5,0,0,9,3,1|hold,{holds}|af"), "no,24,0", "pair: 24 before 31");
+    }
+    for (holds, n) in [("S|hold,S", 2), ("S|hold,S|hold,S", 3)] {
+        let holds = holds.replace('S', &standing.to_string());
+        desk.script(&format!("book,5,0,0,9,{n},1|hold,{holds}|af"), "no,31,0", "standing held twice");
+    }
+}
+
+pub const STEP_ORDER: [&str; 11] = [
+    "pair: 41 on the last line", "pair: 41 before 40", "pair: 40 where no label is left",
+    "pair: 42 where no label is left", "pair: 42 before 40", "pair: 3 after the close",
+    "pair: 2 after the close", "pair: 40 before 42", "pair: 42 alone", "pair: 24 before 31",
+    "standing held twice",
+];
+pub const CALL_PAIRS: [&str; 14] = [
+    "pair: word 2 and 3", "pair: word 2 and 10", "pair: word 2 and 13", "pair: word 3 and 10",
+    "pair: word 3 and 12", "pair: word 10 and 12", "pair: word 3 and 14", "pair: word 10 and 14",
+    "pair: word 12 and 14", "pair: word 13 and 14", "pair: issue", "pair: withdraw 2 and 24",
+    "pair: overlong", "pair: word 2 and 14",
+];
+
+fn words(desk: &mut Desk) {
+    let long = ",".repeat(16_400);
+    desk.words(&["a,9,7", "t,0,0", "t,1,1", "t,2,2", "t,3,3", "t,4,4", "s,1,5", "h,0,0,9"]);
+    desk.words(&["a,1,7", "o", "l,8,9"]);
+    desk.script("word,h,0,9,8,", "no,2,0", "pair: word 2 and 3");
+    desk.script("word,h,0,09,8", "no,2,0", "pair: word 2 and 3");
+    desk.script("word,t,999,0,", "no,2,0", "pair: word 2 and 10");
+    desk.script("word,t,999,1000", "no,2,0", "pair: word 2 and 10");
+    desk.script("word,a,9,07", "no,2,0", "pair: word 2 and 13");
+    desk.script("word,h,0,0,09", "no,2,0", "pair: word 2 and 13");
+    desk.script("word,h,999,9,8", "no,3,0", "pair: word 3 and 10");
+    desk.script("word,h,6,9,8", "no,3,0", "pair: word 3 and 12");
+    desk.script("word,t,6,999", "no,10,0", "pair: word 10 and 12");
+    desk.script("word,t,999,6", "no,10,0", "pair: word 10 and 12");
+    desk.script(&format!("word,a,9,7{long}"), "no,1,0", "pair: overlong");
+    desk.script(&format!("word,h,999,9,8{long}"), "no,1,0", "pair: overlong");
+    for n in 11..200 {
+        desk.words(&[&format!("a,10,{n}")]);
+    }
+    desk.script("word,a,300,0", "no,2,0", "pair: word 2 and 14");
+    desk.script("word,h,0,9,8", "no,3,0", "pair: word 3 and 14");
+    desk.script("word,g,0,9,9,8", "no,3,0", "pair: word 3 and 14");
+    desk.script("word,t,0,200", "no,10,0", "pair: word 10 and 14");
+    desk.script("word,t,999,0", "no,10,0", "pair: word 10 and 14");
+    desk.script("word,s,1,6", "no,12,0", "pair: word 12 and 14");
+    desk.script("word,t,5,5", "no,12,0", "pair: word 12 and 14");
+    desk.script("word,t,4,4", "no,13,0", "pair: word 13 and 14");
+    desk.script("word,h,0,0,9", "no,13,0", "pair: word 13 and 14");
+    desk.script(&format!("word,t,4,4{long}"), "no,1,0", "pair: overlong");
+}
+
+/// Wording 0 is plain and balanced, 7 is not plain, 8 not balanced, 10 neither.
+const ISSUES: [(&str, &str); 18] = [
+    ("issue,s,999,9,8", "no,3,0"), ("issue,r,999,9,8", "no,3,0"), ("issue,s,7,9,8", "no,3,0"),
+    ("issue,s,999,09,8", "no,2,0"), ("issue,x,999,0,8", "no,2,0"), ("issue,s,7,9,8,", "no,2,0"),
+    ("issue,s,0,9,8", "no,3,0"), ("issue,r,0,9,8", "no,3,0"), ("issue,s,0,0,9,", "no,2,0"),
+    ("issue,s,999,0,9", "no,10,0"), ("issue,r,999,0,9", "no,10,0"), ("issue,s,7,0,9", "no,20,0"),
+    ("issue,r,8,0,9", "no,21,0"), ("issue,r,10,0,9", "no,21,0"), ("issue,r,10,9,0", "no,3,0"),
+    ("issue,r,8,0,09", "no,2,0"), ("issue,s,10,0,9", "no,20,0"), ("issue,s,10,9,0", "no,3,0"),
+];
+
+fn other_calls(desk: &mut Desk) {
+    let long = "0".repeat(16_400);
+    for (text, answer) in ISSUES {
+        desk.script(text, answer, "pair: issue");
+    }
+    desk.script(&format!("issue,s,7,9,8{long}"), "no,1,0", "pair: overlong");
+    desk.script(&format!("tally,256,5{long}"), "no,1,0", "pair: overlong");
+    desk.script(&format!("withdraw,777777{long}"), "no,1,0", "pair: overlong");
+    for text in ["withdraw,0777", "withdraw,777,", "withdraw,0", "withdraw,777|withdraw,778"] {
+        desk.script(text, "no,2,0", "pair: withdraw 2 and 24");
+    }
+}
+
+fn calls() -> Session {
+    let mut desk = Desk::new();
+    words(&mut desk);
+    other_calls(&mut desk);
+    while desk.model.live.len() < 512 {
+        desk.script("issue,s,8,0,9", &format!("ok,{}", desk.model.given + 1), "");
+    }
+    other_calls(&mut desk);
+    desk.script("issue,s,8,0,9", "no,22,0", "pair: issue");
+    desk.tally(7, 9);
+    desk.tally(7, 10);
+    desk.session("pairs: calls", 0)
+}
+
+pub fn sessions(seed: u64) -> Vec<Session> {
+    vec![bookings(seed, false), bookings(seed + 1, true), calls()]
+}

@@ -1,0 +1,163 @@
+//! A session: sheets played from an empty till, each with the answer due, and the desk that makes one.
+
+use super::form::Kind;
+use super::model::{Answer, Model, Steps};
+use super::rng::Rng;
+use super::wording::*;
+
+/// One sheet (the paper's request), the answer due (None: not known) and what it stands for.
+pub struct Case {
+    pub sheet: Vec<u8>,
+    pub expected: Option<Answer>,
+    pub marks: Vec<&'static str>,
+}
+
+pub struct Session {
+    pub name: String,
+    pub seed: u64,
+    pub cases: Vec<Case>,
+}
+
+/// Makes a session, keeping the model of the till beside it.
+#[derive(Default)]
+pub struct Desk {
+    pub model: Model,
+    pub cases: Vec<Case>,
+    /// Set once an answer is unknown: from then on only checks 1 to 3 are known.
+    lost: bool,
+}
+
+impl Desk {
+    pub fn new() -> Desk {
+        Desk::default()
+    }
+
+    pub fn session(self, name: &str, seed: u64) -> Session {
+        Session { name: name.to_string(), seed, cases: self.cases }
+    }
+
+    /// Plays a sheet; the model answers.
+    pub fn play(&mut self, sheet: &[u8], steps: Steps) -> Option<Answer> {
+        let expected = match super::form::read(sheet) {
+            Err(number) => Some(Answer::Refused(number, 0)),
+            Ok(_) if self.lost => None,
+            Ok(_) => self.model.answer(sheet, steps),
+        };
+        self.lost |= expected.is_none();
+        self.cases.push(Case { sheet: sheet.to_vec(), expected, marks: vec![] });
+        expected
+    }
+
+    /// Plays a sheet whose answer follows from the way it was made; the model must agree.
+    pub fn expect(&mut self, sheet: &[u8], answer: Answer, marks: &[&'static str]) {
+        let steps = match answer {
+            Answer::Refused(number @ 40..=42, step) => Steps::Stop(number, step),
+            _ => Steps::Close,
+        };
+        let modelled = self.play(sheet, steps);
+        let text = String::from_utf8_lossy(sheet);
+        assert_eq!(modelled, Some(answer), "the generator disagrees with itself at {marks:?}:\n{text}");
+        self.mark(marks);
+    }
+
+    /// The last sheet stands for these.
+    pub fn mark(&mut self, marks: &[&'static str]) {
+        self.cases.last_mut().expect("a sheet").marks.extend(marks.iter().filter(|m| !m.is_empty()));
+    }
+
+    pub fn refuse(&mut self, sheet: &[u8], number: u32, mark: &'static str) {
+        self.expect(sheet, Answer::Refused(number, 0), &[mark]);
+    }
+
+    /// A sheet written with `|` for line ends and its answer as `tillrun` prints it.
+    pub fn script(&mut self, text: &str, answer: &str, mark: &'static str) {
+        self.expect(&sheet_of(text), Answer::of(answer), &[mark]);
+    }
+
+    pub fn words(&mut self, lines: &[&str]) {
+        for line in lines {
+            let number = self.model.lines.len() as u32;
+            self.expect(format!("word,{line}\n").as_bytes(), Answer::Done(number), &[]);
+        }
+    }
+
+    pub fn number_of(&self, part: &Part) -> Option<u32> {
+        self.model.wordings.iter().position(|p| p == part).map(|n| n as u32)
+    }
+
+    /// How many of these wordings and their parts are not there yet.
+    pub fn missing(&self, parts: &[Part]) -> usize {
+        let mut all = vec![];
+        parts.iter().for_each(|p| p.collect(&mut all));
+        all.iter().filter(|p| self.number_of(p).is_none()).count()
+    }
+
+    pub fn line_of(&self, part: &Part) -> String {
+        let number = |p: &Part| self.number_of(p).expect("parts are entered first");
+        match &**part {
+            Wording::Atom(p, s) => format!("a,{p},{s}"),
+            Wording::One => "o".to_string(),
+            Wording::At(a, w) => format!("h,{},{},{}", number(a), w.from, w.to),
+            Wording::Says(k, a) => format!("s,{k},{}", number(a)),
+            Wording::Bang(a) => format!("b,{}", number(a)),
+            Wording::Covers(o, i) => format!("g,{},{},{},{}", o.from, o.to, i.from, i.to),
+            other => {
+                let p = other.parts();
+                format!("{},{},{}", other.letter(), number(&p[0]), number(&p[1]))
+            }
+        }
+    }
+
+    /// The wording's number, entered first with its parts where it is not there.
+    pub fn enter(&mut self, part: &Part) -> u32 {
+        if let Some(n) = self.number_of(part) {
+            return n;
+        }
+        for p in part.parts() {
+            self.enter(&p);
+        }
+        let number = self.model.lines.len() as u32;
+        let line = format!("word,{}\n", self.line_of(part));
+        self.expect(line.as_bytes(), Answer::Done(number), &[]);
+        number
+    }
+
+    /// An accepted issue; gives the serial.
+    pub fn issue(&mut self, kind: Kind, part: &Part, w: Window) -> u32 {
+        let n = self.enter(part);
+        let serial = self.model.given + 1;
+        let letter = if kind == Kind::Single { 's' } else { 'r' };
+        let sheet = format!("issue,{letter},{n},{},{}\n", w.from, w.to);
+        self.expect(sheet.as_bytes(), Answer::Done(serial), &[]);
+        serial
+    }
+
+    pub fn tally(&mut self, session: u32, minute: u32) {
+        self.play(format!("tally,{session},{minute}\n").as_bytes(), Steps::Close);
+        self.mark(&["tally"]);
+    }
+
+    /// Tallies for some live coupon's sessions at and beside both ends of its window.
+    pub fn tallies(&mut self, rng: &mut Rng, how_many: usize) {
+        for _ in 0..how_many {
+            let (mut session, mut minute) = (rng.between(0, 255), rng.between(0, LAST_MINUTE));
+            if !self.model.live.is_empty() {
+                let c = rng.pick(&self.model.live);
+                let all: Vec<u32> = c.wording.sessions().into_iter().collect();
+                if !all.is_empty() {
+                    session = rng.pick(&all);
+                }
+                let (from, to) = (c.window.from, c.window.to);
+                minute = rng.pick(&[from, to, from.saturating_sub(1), (to + 1).min(LAST_MINUTE)]);
+            }
+            self.tally(session, minute);
+        }
+    }
+}
+
+/// A sheet from a text with `|` for line ends between lines.
+pub fn sheet_of(text: &str) -> Vec<u8> {
+    let mut sheet = text.replace('|', "\n").into_bytes();
+    sheet.push(b'\n');
+    sheet
+}

@@ -1,0 +1,180 @@
+//! Wordings as trees: size, plainness, weight and balance by plain recursion.
+
+use std::collections::BTreeSet;
+use std::rc::Rc;
+
+pub const LAST_MINUTE: u32 = 9_999_999;
+
+/// A window (the paper's interval).
+#[derive(Clone, Copy, PartialEq, Eq, PartialOrd, Ord, Debug)]
+pub struct Window {
+    pub from: u32,
+    pub to: u32,
+}
+
+pub fn window(from: u32, to: u32) -> Window {
+    Window { from, to }
+}
+
+impl Window {
+    /// self ⊇ inner.
+    pub fn contains(self, inner: Window) -> bool {
+        self.from <= inner.from && inner.to <= self.to
+    }
+
+    pub fn has(self, minute: u32) -> bool {
+        self.from <= minute && minute <= self.to
+    }
+}
+
+pub type Part = Rc<Wording>;
+
+/// A wording (the paper's formula), its parts written out.
+#[derive(Clone, PartialEq, Eq, Debug)]
+pub enum Wording {
+    Atom(u32, u32),
+    One,
+    Tensor(Part, Part),
+    With(Part, Part),
+    Plus(Part, Part),
+    Lolli(Part, Part),
+    Implies(Part, Part),
+    Bang(Part),
+    At(Part, Window),
+    Says(u32, Part),
+    Covers(Window, Window),
+}
+
+use Wording::*;
+
+pub fn atom(predicate: u32, session: u32) -> Part {
+    Rc::new(Atom(predicate, session))
+}
+pub fn one() -> Part {
+    Rc::new(One)
+}
+pub fn tensor(a: &Part, b: &Part) -> Part {
+    Rc::new(Tensor(a.clone(), b.clone()))
+}
+pub fn with(a: &Part, b: &Part) -> Part {
+    Rc::new(With(a.clone(), b.clone()))
+}
+pub fn plus(a: &Part, b: &Part) -> Part {
+    Rc::new(Plus(a.clone(), b.clone()))
+}
+pub fn lolli(a: &Part, b: &Part) -> Part {
+    Rc::new(Lolli(a.clone(), b.clone()))
+}
+pub fn implies(a: &Part, b: &Part) -> Part {
+    Rc::new(Implies(a.clone(), b.clone()))
+}
+pub fn bang(a: &Part) -> Part {
+    Rc::new(Bang(a.clone()))
+}
+pub fn at(a: &Part, w: Window) -> Part {
+    Rc::new(At(a.clone(), w))
+}
+pub fn says(principal: u32, a: &Part) -> Part {
+    Rc::new(Says(principal, a.clone()))
+}
+pub fn covers(outer: Window, inner: Window) -> Part {
+    Rc::new(Covers(outer, inner))
+}
+
+impl Wording {
+    /// The letter that begins the wording's line.
+    pub fn letter(&self) -> char {
+        match self {
+            Atom(..) => 'a',
+            One => 'o',
+            Tensor(..) => 't',
+            With(..) => 'w',
+            Plus(..) => 'p',
+            Lolli(..) => 'l',
+            Implies(..) => 'u',
+            Bang(..) => 'b',
+            At(..) => 'h',
+            Says(..) => 's',
+            Covers(..) => 'g',
+        }
+    }
+
+    pub fn parts(&self) -> Vec<Part> {
+        match self {
+            Atom(..) | One | Covers(..) => vec![],
+            Tensor(a, b) | With(a, b) | Plus(a, b) | Lolli(a, b) | Implies(a, b) => {
+                vec![a.clone(), b.clone()]
+            }
+            Bang(a) | At(a, _) | Says(_, a) => vec![a.clone()],
+        }
+    }
+
+    pub fn size(&self) -> u32 {
+        1 + self.parts().iter().map(|p| p.size()).sum::<u32>()
+    }
+
+    pub fn plain(&self) -> bool {
+        matches!(self.letter(), 'a' | 't' | 's') && self.parts().iter().all(|p| p.plain())
+    }
+
+    /// How often the atom stands in the wording.
+    pub fn count(&self, predicate: u32, session: u32) -> u32 {
+        let here = u32::from(*self == Atom(predicate, session));
+        here + self.parts().iter().map(|p| p.count(predicate, session)).sum::<u32>()
+    }
+
+    pub fn weight(&self, session: u32) -> i64 {
+        match self {
+            Atom(predicate, s) => i64::from((*predicate == 1 || *predicate == 2) && *s == session),
+            One | Covers(..) => 0,
+            Tensor(a, b) => a.weight(session) + b.weight(session),
+            With(a, _) | Plus(a, _) => a.weight(session),
+            Lolli(a, b) => b.weight(session) - a.weight(session),
+            Implies(_, b) => b.weight(session),
+            Bang(a) | At(a, _) | Says(_, a) => a.weight(session),
+        }
+    }
+
+    /// All sessions named by a seat or a place.
+    pub fn sessions(&self) -> BTreeSet<u32> {
+        let mut all: BTreeSet<u32> = self.parts().iter().flat_map(|p| p.sessions()).collect();
+        if let Atom(1 | 2, session) = self {
+            all.insert(*session);
+        }
+        all
+    }
+
+    pub fn weighs_nothing(&self) -> bool {
+        self.sessions().iter().all(|s| self.weight(*s) == 0)
+    }
+
+    /// The two have the same weight for every session.
+    pub fn weighs_like(&self, other: &Wording) -> bool {
+        let all = self.sessions().into_iter().chain(other.sessions());
+        all.into_iter().all(|s| self.weight(s) == other.weight(s))
+    }
+
+    /// The clauses of balance that speak of every part.
+    pub fn even_within(&self) -> bool {
+        let here = match self {
+            With(a, b) | Plus(a, b) => a.weighs_like(b),
+            Bang(a) | Implies(a, _) => a.weighs_nothing(),
+            _ => true,
+        };
+        here && self.parts().iter().all(|p| p.even_within())
+    }
+
+    pub fn balanced(&self) -> bool {
+        self.weighs_nothing() && self.even_within()
+    }
+
+    /// The parts of the wording, itself last, each after its own parts.
+    pub fn collect(self: &Rc<Self>, into: &mut Vec<Part>) {
+        for p in self.parts() {
+            p.collect(into);
+        }
+        if !into.contains(self) {
+            into.push(self.clone());
+        }
+    }
+}

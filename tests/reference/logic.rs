@@ -1,0 +1,115 @@
+//! Intervals, formulas and the steps of a derivation: the ground part of the logic.
+
+/// A closed interval of minutes; the paper's "window".
+#[derive(Clone, Copy, PartialEq, Eq, Debug)]
+pub struct Interval {
+    pub from: u32,
+    pub to: u32,
+}
+
+impl Interval {
+    /// The minute lies in the interval, both ends included.
+    pub fn has(self, minute: u32) -> bool {
+        self.from <= minute && minute <= self.to
+    }
+
+    /// `self ⊇ other`.
+    pub fn covers(self, other: Interval) -> bool {
+        self.from <= other.from && other.to <= self.to
+    }
+}
+
+/// The number of a formula; the paper's "wording" where it names one by number.
+pub type FormulaId = u32;
+
+/// A formula over earlier formulas; the paper's "wording line". Fields have one spelling only, so
+/// two lines are equal exactly if these values are.
+#[derive(Clone, Copy, PartialEq, Eq, Debug)]
+pub enum Formula {
+    /// `a,predicate,session`
+    Atom { predicate: u8, session: u8 },
+    /// `o`: 1
+    One,
+    /// `t,i,j`: i ⊗ j
+    Tensor(FormulaId, FormulaId),
+    /// `w,i,j`: i & j
+    With(FormulaId, FormulaId),
+    /// `p,i,j`: i ⊕ j
+    Plus(FormulaId, FormulaId),
+    /// `l,i,j`: i ⊸ j
+    Lolli(FormulaId, FormulaId),
+    /// `u,i,j`: i ⊃ j
+    Implies(FormulaId, FormulaId),
+    /// `b,i`: !i
+    Bang(FormulaId),
+    /// `h,i,from,to`: i @ from..to
+    At(FormulaId, Interval),
+    /// `s,principal,i`: ⟨principal⟩ i
+    Says(u8, FormulaId),
+    /// `g,from,to,from,to`: first interval ⊇ second
+    Covers(Interval, Interval),
+}
+
+impl Formula {
+    /// The formulas this one refers to, left before right.
+    pub fn parts(self) -> [Option<FormulaId>; 2] {
+        match self {
+            Formula::Atom { .. } | Formula::One | Formula::Covers(..) => [None, None],
+            Formula::Tensor(i, j) | Formula::With(i, j) | Formula::Plus(i, j) => [Some(i), Some(j)],
+            Formula::Lolli(i, j) | Formula::Implies(i, j) => [Some(i), Some(j)],
+            Formula::Bang(i) | Formula::At(i, _) | Formula::Says(_, i) => [Some(i), None],
+        }
+    }
+}
+
+/// A label of a hypothesis, 0 to 63.
+pub type Label = u8;
+
+/// One step line; L is the label it names.
+#[derive(Clone, Copy, PartialEq, Eq, Debug)]
+pub enum Step {
+    /// `ax,L`
+    Init(Label),
+    /// `cp,L`
+    Copy(Label),
+    /// `tr,share`
+    TensorR(u64),
+    /// `tl,L`
+    TensorL(Label),
+    /// `or`
+    OneR,
+    /// `ol,L`
+    OneL(Label),
+    /// `wr`
+    WithR,
+    /// `w1,L`
+    WithL1(Label),
+    /// `w2,L`
+    WithL2(Label),
+    /// `p1`
+    PlusR1,
+    /// `p2`
+    PlusR2,
+    /// `pl,L`
+    PlusL(Label),
+    /// `ll,L,share,from,to`
+    LolliL(Label, u64, Interval),
+    /// `ul,L,from,to`
+    ImpliesL(Label, Interval),
+    /// `br`
+    BangR,
+    /// `bl,L`
+    BangL(Label),
+    /// `hr`
+    AtR,
+    /// `hl,L`
+    AtL(Label),
+    /// `sr`
+    SaysR,
+    /// `af`
+    Affirms,
+    /// `sl,L`
+    SaysL(Label),
+    /// `gr`
+    CoversR,
+}

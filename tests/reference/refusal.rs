@@ -1,0 +1,36 @@
+//! The refusal numbers, in the order in which the checks run ("Where a sheet is stopped").
+
+/// Over 16,384 bytes.
+pub const OVERLONG: u32 = 1;
+/// Form, field count, line count or a range is broken; or the request is empty.
+pub const FORM: u32 = 2;
+/// An interval with from > to, in a head, a step or a formula.
+pub const INTERVAL: u32 = 3;
+/// A named formula is not there.
+pub const NO_FORMULA: u32 = 10;
+/// Formula size over 64.
+pub const SIZE: u32 = 12;
+/// The formula's line is already there.
+pub const SAME_LINE: u32 = 13;
+/// 200 formulas are there.
+pub const FORMULAS_FULL: u32 = 14;
+/// A linear credential, or the goal of a booking, that is not plain.
+pub const NOT_PLAIN: u32 = 20;
+/// An unrestricted credential that is not balanced.
+pub const NOT_BALANCED: u32 = 21;
+/// The booking's minute lies outside the goal's interval.
+pub const NOT_NOW: u32 = 30;
+/// A serial that is not live.
+pub const NOT_LIVE: u32 = 24;
+/// A serial held twice.
+pub const HELD_TWICE: u32 = 31;
+/// A step breaks its rule.
+pub const STEP: u32 = 40;
+/// A step is right but needs label 64.
+pub const LABELS: u32 = 41;
+/// Steps end with a premise open, or lines follow the close.
+pub const STEP_COUNT: u32 = 42;
+/// Live credentials, less the linear ones held, are 512 or more.
+pub const CREDENTIALS_FULL: u32 = 22;
+/// Serial 999,999 was given.
+pub const SERIALS_SPENT: u32 = 23;

@@ -1,0 +1,273 @@
+//! The step checker: does the list of steps derive the goal from the held credentials?
+
+use super::formulas::Formulas;
+use super::logic::{Formula, FormulaId, Interval, Label, Step};
+use super::refusal;
+
+pub const MAX_LABELS: usize = 64;
+
+/// A set of labels; bit k stands for label k.
+pub type Labels = u64;
+
+pub fn just(label: Label) -> Labels {
+    1 << label
+}
+
+/// What a label stands for: a formula true on an interval.
+#[derive(Clone, Copy)]
+pub struct Hypothesis {
+    pub formula: FormulaId,
+    pub interval: Interval,
+}
+
+/// "A", or "K affirms A"; the sequent holds the interval.
+#[derive(Clone, Copy)]
+pub enum Goal {
+    True(FormulaId),
+    Affirms(u8, FormulaId),
+}
+
+/// The paper's "judged line".
+#[derive(Clone, Copy)]
+pub struct Sequent {
+    /// The unrestricted context: the paper's "standing labels R".
+    pub unrestricted: Labels,
+    /// The linear context: the paper's "single-use labels D".
+    pub linear: Labels,
+    pub goal: Goal,
+    pub interval: Interval,
+}
+
+impl Sequent {
+    /// The same sequent with another linear context.
+    fn from_linear(self, linear: Labels) -> Sequent {
+        Sequent { linear, ..self }
+    }
+
+    /// The same hypotheses and interval, to prove "A".
+    fn proving(self, formula: FormulaId) -> Sequent {
+        Sequent { goal: Goal::True(formula), ..self }
+    }
+
+    fn on(self, interval: Interval) -> Sequent {
+        Sequent { interval, ..self }
+    }
+}
+
+/// Hypotheses that enter with a premise; they take their labels in order when it begins.
+#[derive(Clone, Copy)]
+enum Entering {
+    Nothing,
+    Linear(Hypothesis),
+    Linear2(Hypothesis, Hypothesis),
+    Unrestricted(Hypothesis),
+}
+
+type Premise = (Sequent, Entering);
+
+/// What a step that keeps its rule leaves to prove.
+enum Outcome {
+    Closed,
+    One(Premise),
+    Two(Premise, Premise),
+}
+
+use Entering::{Linear, Linear2, Nothing, Unrestricted};
+use Outcome::{Closed, One, Two};
+
+/// A refusal number and the step it names.
+pub type Stop = (u32, u32);
+
+pub struct Checker<'a> {
+    formulas: &'a Formulas,
+    steps: &'a [Step],
+    /// How many steps were read.
+    read: usize,
+    hypotheses: [Hypothesis; MAX_LABELS],
+    /// How many labels were taken in this request; the next new label is this number.
+    taken: usize,
+}
+
+impl<'a> Checker<'a> {
+    pub fn new(formulas: &'a Formulas, steps: &'a [Step]) -> Checker<'a> {
+        let nothing = Hypothesis { formula: 0, interval: Interval { from: 0, to: 0 } };
+        Checker { formulas, steps, read: 0, hypotheses: [nothing; MAX_LABELS], taken: 0 }
+    }
+
+    /// Takes the next label, or None at label 64.
+    pub fn take(&mut self, hypothesis: Hypothesis) -> Option<Labels> {
+        let place = self.hypotheses.get_mut(self.taken)?;
+        *place = hypothesis;
+        self.taken += 1;
+        Some(1 << (self.taken - 1))
+    }
+
+    /// Checks all steps against the sequent. It must close with the last of them.
+    pub fn check(&mut self, sequent: Sequent) -> Result<(), Stop> {
+        self.premise(sequent)?;
+        if self.read < self.steps.len() {
+            return Err((refusal::STEP_COUNT, self.read as u32 + 1));
+        }
+        Ok(())
+    }
+
+    /// Reads steps until the sequent closes. It calls itself for the first of two premises only,
+    /// so no deeper than there are steps.
+    fn premise(&mut self, mut sequent: Sequent) -> Result<(), Stop> {
+        loop {
+            let number = self.read as u32 + 1;
+            let Some(&step) = self.steps.get(self.read) else {
+                return Err((refusal::STEP_COUNT, number));
+            };
+            self.read += 1;
+            let Some(outcome) = self.rule(step, sequent) else {
+                return Err((refusal::STEP, number));
+            };
+            let last = match outcome {
+                Closed => return Ok(()),
+                One(premise) => premise,
+                Two(first, second) => {
+                    let first = self.begin(first).ok_or((refusal::LABELS, number))?;
+                    self.premise(first)?;
+                    second
+                }
+            };
+            sequent = self.begin(last).ok_or((refusal::LABELS, number))?;
+        }
+    }
+
+    /// Begins a premise: what enters takes its labels. None if label 64 is needed.
+    fn begin(&mut self, (mut sequent, entering): Premise) -> Option<Sequent> {
+        match entering {
+            Nothing => {}
+            Linear(hypothesis) => sequent.linear |= self.take(hypothesis)?,
+            Linear2(left, right) => sequent.linear |= self.take(left)? | self.take(right)?,
+            Unrestricted(hypothesis) => sequent.unrestricted |= self.take(hypothesis)?,
+        }
+        Some(sequent)
+    }
+
+    /// What the step leaves to prove; None if it breaks its rule.
+    fn rule(&self, step: Step, sequent: Sequent) -> Option<Outcome> {
+        match step {
+            Step::Copy(label) => self.copy(label, sequent),
+            Step::Affirms => affirms(sequent),
+            Step::TensorL(l) | Step::OneL(l) | Step::WithL1(l) | Step::WithL2(l) | Step::PlusL(l) => {
+                self.left(l, step, sequent)
+            }
+            Step::BangL(l) | Step::AtL(l) | Step::SaysL(l) => self.left(l, step, sequent),
+            Step::LolliL(label, share, interval) => self.lolli(label, share, interval, sequent),
+            Step::ImpliesL(label, interval) => self.implies(label, interval, sequent),
+            _ => self.right(step, sequent),
+        }
+    }
+
+    /// `ax` and the right steps, which need a goal without affirms.
+    fn right(&self, step: Step, sequent: Sequent) -> Option<Outcome> {
+        let Goal::True(goal) = sequent.goal else { return None };
+        let linear = sequent.linear;
+        match (step, self.formulas.line(goal)) {
+            (Step::Init(label), Formula::Atom { .. }) if linear == just(label) => {
+                let hypothesis = self.hypotheses[usize::from(label)];
+                let same = hypothesis.formula == goal;
+                (same && hypothesis.interval.covers(sequent.interval)).then_some(Closed)
+            }
+            (Step::TensorR(share), Formula::Tensor(left, right)) if share & !linear == 0 => {
+                let second = sequent.proving(right).from_linear(linear & !share);
+                Some(Two((sequent.proving(left).from_linear(share), Nothing), (second, Nothing)))
+            }
+            (Step::OneR, Formula::One) if linear == 0 => Some(Closed),
+            (Step::WithR, Formula::With(left, right)) => {
+                Some(Two((sequent.proving(left), Nothing), (sequent.proving(right), Nothing)))
+            }
+            (Step::PlusR1, Formula::Plus(left, _)) => Some(One((sequent.proving(left), Nothing))),
+            (Step::PlusR2, Formula::Plus(_, right)) => Some(One((sequent.proving(right), Nothing))),
+            (Step::BangR, Formula::Bang(part)) if linear == 0 => {
+                Some(One((sequent.proving(part), Nothing)))
+            }
+            (Step::AtR, Formula::At(part, interval)) => {
+                Some(One((sequent.proving(part).on(interval), Nothing)))
+            }
+            (Step::SaysR, Formula::Says(principal, part)) => {
+                let goal = Goal::Affirms(principal, part);
+                Some(One((Sequent { goal, ..sequent }, Nothing)))
+            }
+            (Step::CoversR, Formula::Covers(first, second)) if linear == 0 => {
+                first.covers(second).then_some(Closed)
+            }
+            _ => None,
+        }
+    }
+
+    /// The left steps without an interval of their own: L leaves the linear context, its parts
+    /// enter with its interval.
+    fn left(&self, label: Label, step: Step, sequent: Sequent) -> Option<Outcome> {
+        let (hypothesis, sequent) = self.use_up(label, sequent)?;
+        let part = |formula| Hypothesis { formula, ..hypothesis };
+        let premise = match (step, self.formulas.line(hypothesis.formula)) {
+            (Step::TensorL(_), Formula::Tensor(i, j)) => (sequent, Linear2(part(i), part(j))),
+            (Step::OneL(_), Formula::One) => (sequent, Nothing),
+            (Step::WithL1(_), Formula::With(i, _)) => (sequent, Linear(part(i))),
+            (Step::WithL2(_), Formula::With(_, j)) => (sequent, Linear(part(j))),
+            (Step::PlusL(_), Formula::Plus(i, j)) => {
+                return Some(Two((sequent, Linear(part(i))), (sequent, Linear(part(j)))));
+            }
+            (Step::BangL(_), Formula::Bang(i)) => (sequent, Unrestricted(part(i))),
+            (Step::AtL(_), Formula::At(formula, interval)) => {
+                (sequent, Linear(Hypothesis { formula, interval }))
+            }
+            (Step::SaysL(_), Formula::Says(principal, i)) => {
+                let Goal::Affirms(goal_principal, _) = sequent.goal else { return None };
+                if principal != goal_principal || !hypothesis.interval.covers(sequent.interval) {
+                    return None;
+                }
+                (sequent, Linear(part(i)))
+            }
+            _ => return None,
+        };
+        Some(One(premise))
+    }
+
+    /// `ll`: A on J from the share, then the goal from the rest with B on J.
+    fn lolli(&self, label: Label, share: Labels, on: Interval, sequent: Sequent) -> Option<Outcome> {
+        let (hypothesis, sequent) = self.use_up(label, sequent)?;
+        let Formula::Lolli(a, b) = self.formulas.line(hypothesis.formula) else { return None };
+        // the label is gone from the context here, so a share that has it fails too
+        if !hypothesis.interval.covers(on) || share & !sequent.linear != 0 {
+            return None;
+        }
+        let first = sequent.proving(a).on(on).from_linear(share);
+        let second = sequent.from_linear(sequent.linear & !share);
+        Some(Two((first, Nothing), (second, Linear(Hypothesis { formula: b, interval: on }))))
+    }
+
+    /// `ul`: A on J from an empty linear context, then the goal from the rest with B on J.
+    fn implies(&self, label: Label, on: Interval, sequent: Sequent) -> Option<Outcome> {
+        let (hypothesis, sequent) = self.use_up(label, sequent)?;
+        let Formula::Implies(a, b) = self.formulas.line(hypothesis.formula) else { return None };
+        if !hypothesis.interval.covers(on) {
+            return None;
+        }
+        let first = sequent.proving(a).on(on).from_linear(0);
+        Some(Two((first, Nothing), (sequent, Linear(Hypothesis { formula: b, interval: on }))))
+    }
+
+    /// `cp`: a linear copy of an unrestricted hypothesis.
+    fn copy(&self, label: Label, sequent: Sequent) -> Option<Outcome> {
+        let there = sequent.unrestricted & just(label) != 0;
+        there.then(|| One((sequent, Linear(self.hypotheses[usize::from(label)]))))
+    }
+
+    /// Takes L, which must be in the linear context, out of it.
+    fn use_up(&self, label: Label, sequent: Sequent) -> Option<(Hypothesis, Sequent)> {
+        let there = sequent.linear & just(label) != 0;
+        let rest = sequent.from_linear(sequent.linear & !just(label));
+        there.then(|| (self.hypotheses[usize::from(label)], rest))
+    }
+}
+
+/// `af`: "K affirms A" follows from "A".
+fn affirms(sequent: Sequent) -> Option<Outcome> {
+    let Goal::Affirms(_, formula) = sequent.goal else { return None };
+    Some(One((sequent.proving(formula), Nothing)))
+}

@@ -1,0 +1,270 @@
+//! Balance, tally, room for coupons, serials, and refusals that leave the till as before.
+
+use super::{after, ask, booking, till_after, Answer, Counted, Done, Refused, Till};
+
+/// The answer to issuing the last of these words as a standing coupon.
+fn stand(words: &[&str]) -> Answer {
+    let words: Vec<String> = words.iter().map(|word| format!("word,{word}")).collect();
+    let words: Vec<&str> = words.iter().map(String::as_str).collect();
+    after(&words, &format!("issue,r,{},0,9", words.len() - 1))
+}
+
+const RIGHT: Answer = Done(1);
+const WRONG: Answer = Refused(21, 0);
+
+#[test]
+fn balanced_needs_weight_0_for_every_session() {
+    assert_eq!(stand(&["a,1,7"]), WRONG);
+    assert_eq!(stand(&["a,2,7"]), WRONG);
+    assert_eq!(stand(&["a,0,7"]), RIGHT);
+    assert_eq!(stand(&["a,3,7"]), RIGHT);
+    assert_eq!(stand(&["o"]), RIGHT);
+    assert_eq!(stand(&["g,0,1,0,9"]), RIGHT);
+    assert_eq!(stand(&["a,1,7", "a,2,7", "l,0,1"]), RIGHT);
+    assert_eq!(stand(&["a,1,7", "a,2,8", "l,0,1"]), WRONG);
+    assert_eq!(stand(&["a,1,0", "a,2,255", "l,0,1"]), WRONG);
+    assert_eq!(stand(&["a,1,255", "a,2,255", "l,0,1"]), RIGHT);
+    assert_eq!(stand(&["a,1,7", "a,9,7", "l,0,1"]), WRONG);
+}
+
+#[test]
+fn weights_of_tensor_lolli_and_says() {
+    assert_eq!(stand(&["a,1,7", "l,0,0", "t,0,1"]), WRONG);
+    assert_eq!(stand(&["a,1,7", "a,2,7", "t,0,0", "t,0,1", "l,2,3"]), RIGHT);
+    assert_eq!(stand(&["a,1,7", "s,3,0", "h,1,0,5", "l,0,2"]), RIGHT);
+    // negative and positive weights meet: (seat ⊸ 1) ⊗ place
+    assert_eq!(stand(&["a,1,7", "a,2,7", "o", "l,0,2", "t,3,1"]), RIGHT);
+    assert_eq!(stand(&["a,1,7", "o", "l,0,1"]), WRONG);
+    // (1 ⊸ seat) ⊸ (1 ⊸ place)
+    assert_eq!(stand(&["a,1,7", "a,2,7", "o", "l,2,0", "l,2,1", "l,3,4"]), RIGHT);
+}
+
+#[test]
+fn arms_weigh_alike_and_count_once() {
+    for letter in ["w", "p"] {
+        let arms = |i: u32, j: u32| format!("{letter},{i},{j}");
+        // seat ⊸ (seat & place)
+        assert_eq!(stand(&["a,1,7", "a,2,7", &arms(0, 1), "l,0,2"]), RIGHT);
+        // both arms added would need two
+        assert_eq!(stand(&["a,1,7", "a,2,7", &arms(0, 1), "t,0,0", "l,3,2"]), WRONG);
+        // left 0, right 1
+        assert_eq!(stand(&["o", "a,1,7", &arms(0, 1)]), WRONG);
+        assert_eq!(stand(&["o", "a,1,7", &arms(1, 0)]), WRONG);
+        // unlike for another session than the left arm's
+        assert_eq!(stand(&["a,1,7", "a,1,8", &arms(0, 1), "l,0,2"]), WRONG);
+        // unlike arms deep inside, though the whole weighs 0
+        assert_eq!(stand(&["o", "a,1,7", &arms(0, 1), "l,2,0", "s,1,3"]), WRONG);
+        assert_eq!(stand(&["o", "a,1,7", &arms(0, 1), "l,2,2"]), WRONG);
+    }
+}
+
+#[test]
+fn under_bang_and_left_of_implies_weighs_0() {
+    assert_eq!(stand(&["a,9,7", "b,0"]), RIGHT);
+    assert_eq!(stand(&["a,1,7", "b,0"]), WRONG);
+    assert_eq!(stand(&["a,1,7", "b,0", "l,1,1"]), WRONG);
+    assert_eq!(stand(&["a,1,7", "l,0,0", "b,1"]), RIGHT);
+    assert_eq!(stand(&["a,9,7", "a,1,7", "u,0,1"]), WRONG);
+    assert_eq!(stand(&["a,9,7", "a,1,7", "u,1,0"]), WRONG);
+    assert_eq!(stand(&["a,9,7", "a,1,7", "u,0,1", "l,1,2"]), RIGHT);
+    assert_eq!(stand(&["a,9,7", "a,1,7", "u,1,1", "l,1,2"]), WRONG);
+    assert_eq!(stand(&["a,9,7", "a,1,7", "a,2,7", "l,1,2", "u,3,0"]), RIGHT);
+    // an odd part left of ⊃ is a part all the same
+    assert_eq!(stand(&["a,9,7", "a,1,7", "b,1", "l,2,2", "u,3,0"]), WRONG);
+}
+
+#[test]
+fn plain_standing_coupons_need_balance_not_plainness_alone() {
+    assert_eq!(stand(&["a,1,7", "s,1,0"]), WRONG);
+    assert_eq!(stand(&["a,9,7", "s,1,0"]), RIGHT);
+}
+
+#[test]
+fn tally_counts_seats_by_window_and_places_in_any() {
+    let mut till = till_after(&[
+        "word,a,1,7", "word,a,2,7", "word,a,1,8", "word,t,0,0", "word,t,3,1", "word,s,1,4", "word,t,5,2",
+        "issue,s,6,10,20", "issue,s,0,15,30", "issue,s,1,0,5", "issue,s,2,12,12",
+    ]);
+    assert_eq!(ask(&mut till, "tally,7,9"), Counted(0, 3, 2));
+    assert_eq!(ask(&mut till, "tally,7,10"), Counted(2, 1, 2));
+    assert_eq!(ask(&mut till, "tally,7,15"), Counted(3, 0, 2));
+    assert_eq!(ask(&mut till, "tally,7,20"), Counted(3, 0, 2));
+    assert_eq!(ask(&mut till, "tally,7,21"), Counted(1, 2, 2));
+    assert_eq!(ask(&mut till, "tally,8,12"), Counted(2, 0, 0));
+    assert_eq!(ask(&mut till, "tally,8,13"), Counted(1, 1, 0));
+    assert_eq!(ask(&mut till, "tally,9,13"), Counted(0, 0, 0));
+    assert_eq!(ask(&mut till, "withdraw,1"), Done(1));
+    assert_eq!(ask(&mut till, "tally,7,15"), Counted(1, 0, 1));
+}
+
+#[test]
+fn tally_leaves_standing_coupons_out() {
+    let mut till = till_after(&["word,a,1,7", "word,a,2,7", "word,l,0,1", "issue,r,2,0,9", "issue,s,0,0,9"]);
+    assert_eq!(ask(&mut till, "tally,7,0"), Counted(1, 0, 0));
+    assert_eq!(ask(&mut till, "withdraw,1"), Done(1));
+    assert_eq!(ask(&mut till, "tally,7,0"), Counted(1, 0, 0));
+}
+
+#[test]
+fn tally_of_an_empty_till_is_zero() {
+    assert_eq!(after(&[], "tally,0,0"), Counted(0, 0, 0));
+    assert_eq!(after(&[], "tally,255,9999999"), Counted(0, 0, 0));
+}
+
+#[test]
+fn a_booking_spends_singles_keeps_standing_and_gives_the_goal() {
+    let mut till = till_after(&["word,a,9,7", "word,o", "issue,r,1,0,0", "issue,s,0,0,9"]);
+    let book = |hold| booking("3,0,2,4", &[1, hold], &["cp,0", "ol,2", "ax,1"]);
+    assert_eq!(ask(&mut till, &book(2)), Done(3));
+    assert_eq!(ask(&mut till, &book(2)), Refused(24, 0));
+    assert_eq!(ask(&mut till, &book(3)), Done(4));
+    // the goal's own window is the new coupon's
+    assert_eq!(ask(&mut till, &booking("3,0,1,4", &[4], &["ax,0"])), Refused(40, 1));
+    assert_eq!(ask(&mut till, "withdraw,1"), Done(1));
+}
+
+#[test]
+fn a_refused_booking_moves_nothing() {
+    let mut till = till_after(&["word,a,1,7", "issue,s,0,0,9"]);
+    for steps in [&["or"][..], &["ax,0", "ax,0"], &["ax,1"]] {
+        assert!(matches!(ask(&mut till, &booking("0,0,0,9", &[1], steps)), Refused(40..=42, _)));
+        assert_eq!(ask(&mut till, "tally,7,0"), Counted(1, 0, 0));
+    }
+    assert_eq!(ask(&mut till, &booking("0,0,0,9", &[1], &["ax,0"])), Done(2));
+}
+
+/// One standing coupon (serial 1) and 511 singles, all of the free atom 0.
+fn full() -> Till {
+    let mut till = till_after(&["word,a,9,7", "word,a,1,7", "issue,r,0,0,9"]);
+    for serial in 2..=512 {
+        assert_eq!(ask(&mut till, "issue,s,0,0,9"), Done(serial));
+    }
+    till
+}
+
+#[test]
+fn refusal_22_at_512_live_less_singles_held() {
+    let mut till = full();
+    assert_eq!(ask(&mut till, "issue,s,0,0,9"), Refused(22, 0));
+    assert_eq!(ask(&mut till, "issue,r,0,0,9"), Refused(22, 0));
+    let copy = ["cp,0", "ax,1"];
+    assert_eq!(ask(&mut till, &booking("0,0,0,9", &[1], &copy)), Refused(22, 0));
+    assert_eq!(ask(&mut till, &booking("0,0,0,9", &[2], &["ax,0"])), Done(513));
+    assert_eq!(ask(&mut till, "withdraw,100"), Done(100));
+    assert_eq!(ask(&mut till, &booking("0,0,0,9", &[1], &copy)), Done(514));
+    assert_eq!(ask(&mut till, &booking("0,0,0,9", &[1], &copy)), Refused(22, 0));
+}
+
+#[test]
+fn refusals_20_21_24_31_40_42_come_before_22() {
+    let mut till = full();
+    assert_eq!(ask(&mut till, "word,o"), Done(2));
+    assert_eq!(ask(&mut till, "issue,s,2,0,9"), Refused(20, 0));
+    assert_eq!(ask(&mut till, "issue,r,1,0,9"), Refused(21, 0));
+    assert_eq!(ask(&mut till, &booking("0,0,0,9", &[513], &["ax,0"])), Refused(24, 0));
+    assert_eq!(ask(&mut till, &booking("0,0,0,9", &[1, 1], &["ax,0"])), Refused(31, 0));
+    assert_eq!(ask(&mut till, &booking("0,0,0,9", &[1], &["ax,0"])), Refused(40, 1));
+    assert_eq!(ask(&mut till, &booking("0,0,0,9", &[1], &["cp,0"])), Refused(42, 2));
+}
+
+#[test]
+fn refusal_23_after_serial_999_999_and_after_22() {
+    let mut till = till_after(&["word,a,9,7", "issue,r,0,0,9"]);
+    let mut withdraw = String::new();
+    for serial in 2..=999_999 {
+        assert_eq!(till.call(b"issue,s,0,0,9\n"), Done(serial));
+        if serial < 999_990 {
+            use std::fmt::Write;
+            withdraw.clear();
+            writeln!(withdraw, "withdraw,{serial}").unwrap();
+            assert_eq!(till.call(withdraw.as_bytes()), Done(serial));
+        }
+    }
+    assert_eq!(ask(&mut till, "issue,s,0,0,9"), Refused(23, 0));
+    let book = |hold| booking("0,0,0,9", &[hold], &["ax,0"]);
+    assert_eq!(ask(&mut till, &book(999_999)), Refused(23, 0));
+    assert_eq!(ask(&mut till, &book(999_989)), Refused(24, 0));
+    assert_eq!(ask(&mut till, &booking("0,0,0,9", &[1], &["ax,0"])), Refused(40, 1));
+    assert_eq!(ask(&mut till, "withdraw,999999"), Done(999_999));
+    assert_eq!(ask(&mut till, "issue,s,0,0,9"), Refused(23, 0));
+}
+
+#[test]
+fn refusal_22_comes_before_23() {
+    let mut till = full();
+    for serial in 513..=999_999 {
+        let sheet = format!("book,0,0,0,9,1,1\nhold,{}\nax,0\n", serial - 1);
+        assert_eq!(till.call(sheet.as_bytes()), Done(serial));
+    }
+    assert_eq!(ask(&mut till, "issue,s,0,0,9"), Refused(22, 0));
+    assert_eq!(ask(&mut till, &booking("0,0,0,9", &[999_999], &["ax,0"])), Refused(23, 0));
+    assert_eq!(ask(&mut till, "withdraw,3"), Done(3));
+    assert_eq!(ask(&mut till, "issue,s,0,0,9"), Refused(23, 0));
+}
+
+/// A small generator of numbers (xorshift), the same at every run.
+struct Numbers(u64);
+
+impl Numbers {
+    fn below(&mut self, bound: usize) -> usize {
+        self.0 ^= self.0 << 13;
+        self.0 ^= self.0 >> 7;
+        self.0 ^= self.0 << 17;
+        (self.0 % bound as u64) as usize
+    }
+}
+
+#[test]
+fn live_serials_are_found_as_in_a_plain_list() {
+    let mut till = till_after(&["word,a,1,7"]);
+    let mut live: Vec<u32> = Vec::new();
+    let mut last = 0;
+    let mut numbers = Numbers(7);
+    for turn in 0..60_000 {
+        let issues = if turn / 3000 % 2 == 0 { 6 } else { 4 };
+        if numbers.below(10) < issues {
+            let wanted = if live.len() < 512 { Done(last + 1) } else { Refused(22, 0) };
+            assert_eq!(ask(&mut till, "issue,s,0,0,9"), wanted);
+            if let Done(serial) = wanted {
+                live.push(serial);
+                last = serial;
+            }
+            continue;
+        }
+        let serial = if numbers.below(8) == 0 || live.is_empty() {
+            1 + numbers.below(last as usize + 5) as u32
+        } else {
+            live[numbers.below(live.len())]
+        };
+        let wanted = if live.contains(&serial) { Done(serial) } else { Refused(24, 0) };
+        assert_eq!(ask(&mut till, &format!("withdraw,{serial}")), wanted);
+        live.retain(|other| *other != serial);
+        assert_eq!(ask(&mut till, "tally,7,9"), Counted(live.len() as u32, 0, 0));
+    }
+}
+
+#[test]
+fn no_bytes_make_the_call_panic() {
+    let steps = "cp,0\nll,3,0000000000000006,540,600\ntr,0000000000000002\nsr\nsl,1\naf\n".to_string()
+        + "ax,4\nwr\npl,1\nul,0,1,2\n";
+    let seeds = [
+        "word,a,1,7\n", "word,t,0,0\n", "word,g,0,9,1,2\n", "word,h,0,0,9\n", "issue,s,0,0,9\n",
+        "issue,r,1,0,9\n", "withdraw,1\n", "tally,7,540\n",
+        &format!("book,0,0,0,9,2,10\nhold,1\nhold,2\n{steps}"),
+    ];
+    let alphabet = b"0123456789abcdefghijklmnopqrstuvwxyz,\n\r \0\xff-";
+    let mut numbers = Numbers(99);
+    let mut till = Till::new();
+    for _ in 0..200_000 {
+        let mut sheet = seeds[numbers.below(seeds.len())].as_bytes().to_vec();
+        for _ in 0..numbers.below(4) {
+            let at = numbers.below(sheet.len());
+            match numbers.below(3) {
+                0 => sheet[at] = alphabet[numbers.below(alphabet.len())],
+                1 => sheet.truncate(at + 1),
+                _ => sheet.insert(at, alphabet[numbers.below(alphabet.len())]),
+            }
+        }
+        till.call(&sheet);
+    }
+}

@@ -1,0 +1,163 @@
+//! The booking till: formulas, live credentials, and the one call that answers a request.
+
+#[path = "credentials.rs"]
+mod credentials;
+#[path = "form.rs"]
+mod form;
+#[path = "formulas.rs"]
+mod formulas;
+#[path = "logic.rs"]
+mod logic;
+#[path = "refusal.rs"]
+mod refusal;
+#[path = "steps.rs"]
+mod steps;
+#[cfg(test)]
+#[path = "tests/mod.rs"]
+mod tests;
+
+use credentials::{Credentials, Slot, MAX_LIVE};
+use form::{Booking, Page, Request, MAX_HOLDS};
+use formulas::Formulas;
+use logic::{Formula, FormulaId, Interval};
+use steps::{Checker, Goal, Hypothesis, Sequent, Stop};
+
+/// The state: what calls give, beginning from the empty till.
+pub struct Till {
+    formulas: Formulas,
+    credentials: Credentials,
+    /// Room for the lines of a booking while it is answered; no part of the state.
+    page: Page,
+}
+
+/// The answer to one request.
+#[derive(Clone, Copy, PartialEq, Eq, Debug)]
+pub enum Answer {
+    /// The number (word) or serial (issue, withdraw, book).
+    Done(u32),
+    /// Open, shut and placed (tally).
+    Counted(u32, u32, u32),
+    /// The refusal number, and the step for 40 to 42, else 0.
+    Refused(u32, u32),
+}
+
+impl Till {
+    /// The empty till.
+    pub fn new() -> Till {
+        Till { formulas: Formulas::new(), credentials: Credentials::new(), page: Page::new() }
+    }
+
+    /// Answers one request, the paper's "sheet". A refusal leaves the till as before.
+    pub fn call(&mut self, sheet: &[u8]) -> Answer {
+        let answer = match form::read(sheet, &mut self.page) {
+            Ok(Request::Book(booking)) => self.book(booking),
+            Ok(Request::Word(formula)) => self.word(formula).map_err(without_step),
+            Ok(Request::Issue { linear, formula, interval }) => {
+                self.issue(linear, formula, interval).map_err(without_step)
+            }
+            Ok(Request::Withdraw { serial }) => self.withdraw(serial).map_err(without_step),
+            Ok(Request::Tally { session, minute }) => return self.tally(session, minute),
+            Err(number) => Err(without_step(number)),
+        };
+        match answer {
+            Ok(number) => Answer::Done(number),
+            Err((number, step)) => Answer::Refused(number, step),
+        }
+    }
+
+    fn word(&mut self, formula: Formula) -> Result<u32, u32> {
+        self.formulas.add(formula)
+    }
+
+    fn issue(&mut self, linear: bool, formula: FormulaId, interval: Interval) -> Result<u32, u32> {
+        if !self.formulas.is_there(formula) {
+            return Err(refusal::NO_FORMULA);
+        }
+        if linear && !self.formulas.plain(formula) {
+            return Err(refusal::NOT_PLAIN);
+        }
+        if !linear && !self.formulas.balanced(formula) {
+            return Err(refusal::NOT_BALANCED);
+        }
+        self.credentials.check_room(0)?;
+        Ok(self.credentials.add(linear, formula, interval))
+    }
+
+    fn withdraw(&mut self, serial: u32) -> Result<u32, u32> {
+        self.credentials.remove(serial).ok_or(refusal::NOT_LIVE)
+    }
+
+    fn tally(&self, session: u8, minute: u32) -> Answer {
+        let (open, shut, placed) = self.credentials.tally(minute, self.formulas.atoms(session));
+        Answer::Counted(open, shut, placed)
+    }
+
+    fn book(&mut self, booking: Booking) -> Result<u32, Stop> {
+        self.check_head(booking).map_err(without_step)?;
+        let slots = self.find_holds(booking.holds).map_err(without_step)?;
+        let slots = &slots[..booking.holds];
+        self.check_steps(booking, slots)?;
+        let spent = slots.iter().filter(|&&slot| self.credentials.at(slot).linear).count();
+        self.credentials.check_room(spent).map_err(without_step)?;
+        for hold in &self.page.holds[..booking.holds] {
+            if self.credentials.slot(*hold).is_some_and(|slot| self.credentials.at(slot).linear) {
+                self.credentials.remove(*hold);
+            }
+        }
+        Ok(self.credentials.add(true, booking.formula, booking.interval))
+    }
+
+    /// Refusals 10, 20 and 30 of a booking.
+    fn check_head(&self, booking: Booking) -> Result<(), u32> {
+        if !self.formulas.is_there(booking.formula) {
+            return Err(refusal::NO_FORMULA);
+        }
+        if !self.formulas.plain(booking.formula) {
+            return Err(refusal::NOT_PLAIN);
+        }
+        if !booking.interval.has(booking.now) {
+            return Err(refusal::NOT_NOW);
+        }
+        Ok(())
+    }
+
+    /// The slots of the holds. All must be live (24) before any is found held twice (31).
+    fn find_holds(&self, holds: usize) -> Result<[Slot; MAX_HOLDS], u32> {
+        let mut slots = [0; MAX_HOLDS];
+        for (slot, &serial) in slots.iter_mut().zip(&self.page.holds[..holds]) {
+            *slot = self.credentials.slot(serial).ok_or(refusal::NOT_LIVE)?;
+        }
+        let mut seen = [0u64; MAX_LIVE / 64];
+        for &slot in &slots[..holds] {
+            let (word, bit) = (usize::from(slot / 64), 1 << (slot % 64));
+            if seen[word] & bit != 0 {
+                return Err(refusal::HELD_TWICE);
+            }
+            seen[word] |= bit;
+        }
+        Ok(slots)
+    }
+
+    /// Refusals 40 to 42: the goal from the holds, which take labels 0, 1, .. in order.
+    fn check_steps(&self, booking: Booking, slots: &[Slot]) -> Result<(), Stop> {
+        let mut checker = Checker::new(&self.formulas, &self.page.steps[..booking.steps]);
+        let goal = Goal::True(booking.formula);
+        let mut sequent = Sequent { unrestricted: 0, linear: 0, goal, interval: booking.interval };
+        for &slot in slots {
+            let held = self.credentials.at(slot);
+            let hypothesis = Hypothesis { formula: held.formula, interval: held.interval };
+            // 32 holds at most, so there is a label for each
+            let label = checker.take(hypothesis).unwrap_or(0);
+            if held.linear {
+                sequent.linear |= label;
+            } else {
+                sequent.unrestricted |= label;
+            }
+        }
+        checker.check(sequent)
+    }
+}
+
+fn without_step(number: u32) -> Stop {
+    (number, 0)
+}
