@@ -4,3 +4,4 @@ pub mod Texts
 pub mod Readers
 pub mod Fields
 pub mod Lines
+pub mod Requests

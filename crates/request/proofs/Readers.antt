@@ -52,6 +52,14 @@ pub only-return : {A : Type 0} {P : A → Type 0} {w : A → Texts} {before : Te
 unfolding return
 only-return a h e = record { from = λ ts. just (h, ap (λ (ws : Texts). ws ++ ts) e) }
 
+-- the texts before count among its own
+pub only-after : {A : Type 0} {P : A → Type 0} {w : A → Texts} {r : Reader A} {before : Texts}
+    → Only P w [] r → Only P (λ a. before ++ w a) before r
+only-after {w} {before} h = record {
+  from = λ ts. gives-so (h .from ts) (λ x p.
+    (p .0, append-assoc before (w (x .0)) (x .1) ∙ ap (λ (us : Texts). before ++ us) (p .1)))
+}
+
 pub spells-return : {A : Type 0} (lo : ℕ) (a : A) → Spells lo (return a) a [] 0
 unfolding return
 spells-return lo a = record { reads = λ ts. refl; plain = tt; short = omega arith }
