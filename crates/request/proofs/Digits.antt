@@ -23,9 +23,13 @@ use Rattle.request.proofs.Gives.{Gives, nothing, just, gives-then, give
 abbrev pub Plain : ℕ → List ℕ → Type 0
 Plain lo t = Every (λ x. lo ≤ x) t
 
-pub plain-append : (lo : ℕ) (s t : List ℕ) → Plain lo s → Plain lo t → Plain lo (s ++ t)
-plain-append lo [] t h k = k
-plain-append lo (x ∷ s) t h k = (h .0, plain-append lo s t (h .1) k)
+pub every-append : {A : Type 0} (P : A → Type 0) (xs ys : List A) → Every P xs → Every P ys → Every P (xs ++ ys)
+every-append P [] ys h k = k
+every-append P (x ∷ xs) ys h k = (h .0, every-append P xs ys (h .1) k)
+
+-- a byte moves from one text to the next
+moved : {s : List ℕ} {c x : ℕ} (t u : List ℕ) → s ≡ t ++ (c ∷ []) → c ≡ x → s ++ u ≡ t ++ (x ∷ u)
+moved {x} t u e q = rw (e, q) (append-assoc t (x ∷ []) u)
 
 -- Digits of a base
 
@@ -126,6 +130,12 @@ written-high : (k n : ℕ) → 10 ≤ n → written (suc k) n ≡ written k (n /
 unfolding written
 written-high k n h = rw (le-ltb n 10 h, written)
 
+written-more : (k v d : ℕ) → 1 ≤ v → d < 10 → written (suc k) (v * 10 + d) ≡ written k v ++ ((48 + d) ∷ [])
+written-more k v d h l =
+    let q : (v * 10 + d) / 10 ≡ v = omega arith in
+    let r : (v * 10 + d) % 10 ≡ d = omega arith in
+    written-high k (v * 10 + d) (omega arith) ∙ rw (q, r)
+
 -- more digits than are needed make no difference
 written-enough : (j k n : ℕ) → n ≤ j → n ≤ k → written j n ≡ written k n
 written-enough zero k n h i = written-low 0 n (omega arith) ∙ sym (written-low k n (omega arith))
@@ -144,10 +154,9 @@ digits-one d h = written-low d d h
 digits-more : (v d : ℕ) → 1 ≤ v → d < 10 → digits (v * 10 + d) ≡ digits v ++ ((48 + d) ∷ [])
 unfolding digits
 digits-more v d h l =
-    let q : (v * 10 + d) / 10 ≡ v = omega arith in
-    let r : (v * 10 + d) % 10 ≡ d = omega arith in
     written-enough (v * 10 + d) (suc (v * 10 + d)) (v * 10 + d) (omega arith) (omega arith)
-    ∙ written-high (v * 10 + d) (v * 10 + d) (omega arith) ∙ rw (q, r) (ap (λ (t : List ℕ). t ++ ((48 + d) ∷ [])) (written-enough (v * 10 + d) v v (omega arith) (omega arith)))
+    ∙ written-more (v * 10 + d) v d h l
+    ∙ ap (λ (t : List ℕ). t ++ ((48 + d) ∷ [])) (written-enough (v * 10 + d) v v (omega arith) (omega arith))
 
 -- every number is a digit, or has one digit after those of a smaller one
 by-digits : (P : ℕ → Type 0) → ((d : ℕ) → d < 10 → P d)
@@ -156,7 +165,9 @@ by-digits P one more n = go n n (omega arith)
   where
     go : (k n : ℕ) → n ≤ k → P n
     go zero n h = one n (omega arith)
-    go (suc k) n h = by-ten P n (one n) (λ l. let e : n / 10 * 10 + n % 10 ≡ n = omega arith in subst P e (more (n / 10) (n % 10) (omega arith) (omega arith) (go k (n / 10) (omega arith))))
+    go (suc k) n h = by-ten P n (one n) (λ l.
+        let e : n / 10 * 10 + n % 10 ≡ n = omega arith in
+        subst P e (more (n / 10) (n % 10) (omega arith) (omega arith) (go k (n / 10) (omega arith))))
 
 -- every number is read from its digits: the first is no zero, unless it is the only one
 
@@ -186,7 +197,7 @@ decimal-first [] f = absurd f
 decimal-first (x ∷ []) f = refl
 decimal-first (x ∷ y ∷ ys) f = rw (ne-eqb x 48 (λ e. omega arith), decimal)
 
-decimal-digits : (n : ℕ) → decimal (digits n) ≡ some n
+pub decimal-digits : (n : ℕ) → decimal (digits n) ≡ some n
 unfolding decimal digits written reads decimalDigit andThen
 decimal-digits zero = refl
 decimal-digits (suc n) = decimal-first (digits (suc n)) (first-digit (suc n) (omega arith)) ∙ reads-digits (suc n)
@@ -198,30 +209,27 @@ unfolding reads
 digits-after [] v h = just (sym (append-nil (digits v)))
 digits-after (x ∷ xs) v h =
     gives-then (decimal-digit .only x) (λ d p.
-    gives-so (digits-after xs (v * 10 + d) (omega arith)) (λ n e.
-    e ∙ ap (λ (t : List ℕ). t ++ xs) (digits-more v d h (p .0)) ∙ append-assoc (digits v) ((48 + d) ∷ []) xs
-    ∙ ap (λ (y : ℕ). digits v ++ (y ∷ xs)) (p .1)))
+    gives-so (digits-after xs (v * 10 + d) (omega arith)) (λ n e. e ∙ moved (digits v) xs (digits-more v d h (p .0)) (p .1)))
 
-decimal-only : (t : List ℕ) → Gives (λ n. digits n ≡ t) (decimal t)
+digits-byte : (d x : ℕ) → (d < 10) × (48 + d ≡ x) → digits (0 * 10 + d) ≡ x ∷ []
+digits-byte d x p =
+    let e : 0 * 10 + d ≡ d = omega arith in
+    rw (e, digits-one d (p .0), p .1)
+
+pub decimal-only : (t : List ℕ) → Gives (λ n. digits n ≡ t) (decimal t)
 unfolding decimal reads
 decimal-only [] = nothing
-decimal-only (x ∷ []) =
-    gives-then (decimal-digit .only x) (λ d p.
-    let e : 0 * 10 + d ≡ d = omega arith in
-    just (ap digits e ∙ digits-one d (p .0) ∙ ap (λ (y : ℕ). y ∷ []) (p .1)))
+decimal-only (x ∷ []) = gives-then (decimal-digit .only x) (λ d p. just (digits-byte d x p))
 decimal-only (x ∷ y ∷ ys) =
     gives-if (eqb x 48) (λ e. nothing) (λ f. gives-then (decimal-digit .only x) (λ d p.
-    let e : 0 * 10 + d ≡ d = omega arith in
-    let l : 1 ≤ d = omega (arith, eqb-false x 48 f) in
-    gives-so (digits-after (y ∷ ys) (0 * 10 + d) (omega arith)) (λ n q.
-    q ∙ ap (λ (t : List ℕ). t ++ (y ∷ ys)) (ap digits e ∙ digits-one d (p .0) ∙ ap (λ (y : ℕ). y ∷ []) (p .1)))))
+    gives-so (digits-after (y ∷ ys) (0 * 10 + d) (omega (arith, eqb-false x 48 f))) (λ n q.
+    q ∙ ap (λ (t : List ℕ). t ++ (y ∷ ys)) (digits-byte d x p))))
 
 -- how many, and that they are digits
 
 pub digits-length : (n k : ℕ) → n < 10 ^ suc k → length (digits n) ≤ suc k
 digits-length = by-digits (λ n. (k : ℕ) → n < 10 ^ suc k → length (digits n) ≤ suc k)
-    (λ d l k h. rw (digits-one d l) (omega arith))
-    (λ v d i l ih k. more v d i l ih k)
+    (λ d l k h. rw (digits-one d l) (omega arith)) more
   where
     more : (v d : ℕ) → 1 ≤ v → d < 10 → ((k : ℕ) → v < 10 ^ suc k → length (digits v) ≤ suc k)
         → (k : ℕ) → v * 10 + d < 10 ^ suc k → length (digits (v * 10 + d)) ≤ suc k
@@ -233,7 +241,7 @@ digits-length = by-digits (λ n. (k : ℕ) → n < 10 ^ suc k → length (digits
 pub digits-plain : (n : ℕ) → Plain 48 (digits n)
 digits-plain = by-digits (λ n. Plain 48 (digits n))
     (λ d l. rw (digits-one d l) (omega arith, tt))
-    (λ v d h l ih. rw (digits-more v d h l) (plain-append 48 (digits v) ((48 + d) ∷ []) ih (omega arith, tt)))
+    (λ v d h l ih. rw (digits-more v d h l) (every-append _ (digits v) ((48 + d) ∷ []) ih (omega arith, tt)))
 
 -- A number of a range
 
@@ -267,7 +275,7 @@ hex-back (suc k) s h =
     let q : s / 16 * 16 + d ≡ s = omega arith in
     record {
       size = omega (arith, ih .size, length-append t (hexByte d ∷ []));
-      plain = plain-append 48 t (hexByte d ∷ []) (ih .plain) (hex-digit .plain d, tt);
+      plain = every-append _ t (hexByte d ∷ []) (ih .plain) (hex-digit .plain d, tt);
       back = reads-more hexDigit 16 t (s / 16) (hexByte d) d (ih .back) (hex-digit .back d l) ∙ ap some q;
     }
 
@@ -286,11 +294,8 @@ hex-after m [] k v e h =
     just (subst (λ (j : ℕ). v < 16 ^ j) (sym i) h, ap (λ (j : ℕ). hexWritten j v) i ∙ sym (append-nil (hexWritten k v)))
 hex-after m (x ∷ xs) k v e h =
     gives-then (hex-digit .only x) (λ d p.
-    gives-so (hex-after m xs (suc k) (v * 16 + d) (omega arith) (omega (arith, pow-suc 16 k, p .0))) (λ s q. (
-      q .0,
-      q .1 ∙ ap (λ (t : List ℕ). t ++ xs) (hex-more k v d (p .0)) ∙ append-assoc (hexWritten k v) (hexByte d ∷ []) xs
-          ∙ ap (λ (y : ℕ). hexWritten k v ++ (y ∷ xs)) (p .1),
-    )))
+    gives-so (hex-after m xs (suc k) (v * 16 + d) (omega arith) (omega (arith, pow-suc 16 k, p .0)))
+    (λ s q. (q .0, q .1 ∙ moved (hexWritten k v) xs (hex-more k v d (p .0)) (p .1))))
 
 pub set-back : (s : ℕ) → LabelSet s → labelSetIn (hexDigits s) ≡ some s
 unfolding labelSetIn hexDigits

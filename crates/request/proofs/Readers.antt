@@ -3,7 +3,7 @@ use mathlib.Core.Path.{_≡_, refl, sym, ap, subst, _∙_}
 use mathlib.Core.List.{List, [], _∷_, _++_, map, append-assoc, append-nil}
 use mathlib.Core.Option.{Option, none, some}
 use mathlib.Core.Bool.{Bool, true, false, _&&_}
-use Prim.Native.Nat.{ℕ, zero, suc, _+_, _*_, _^_, _≤_, _<_}
+use Prim.Native.Nat.{ℕ, zero, suc, _+_, _*_, _≤_, _<_}
 use Prim.Native.String.{String}
 use native.Mathlib.Omega.{arith}
 use lib.Dec.{eqb, leb}
@@ -11,20 +11,20 @@ use lib.ListN.{length}
 use borrow.Author.Tests.{eqb-true, leb-true}
 use Rattle.logic.specs.Multiset.{Every}
 use Rattle.logic.specs.Counts.{all}
-use Rattle.logic.proofs.Tests.{no-truth, and-decides, le-decides, eq-decides}
+use Rattle.logic.proofs.Tests.{no-truth, and-decides}
 use Rattle.request.specs.Text.{bytes, sameBytes, andThen, fields}
 use Rattle.request.specs.Reader.{Reader, return, _>>=_, next, many, named, choose, ended, whole, line}
 use Rattle.request.specs.Write.{joined}
 use Rattle.request.proofs.Gives.{Gives, nothing, just, given, gives-then, gives-so}
-use Rattle.request.proofs.Digits.{Plain}
+use Rattle.request.proofs.Digits.{Plain, every-append}
 use Rattle.request.proofs.Texts.{size, fields-joined, joined-fields, joined-plain, joined-size}
 
 abbrev pub Texts : Type 0
 Texts = List (List ℕ)
 
 -- r reads a from the texts ws, all of bytes from lo on, at most n bytes with those that end the texts
-pub record Spells {A : Type 0} (lo : ℕ) (r : Reader A) (a : A) (ws : Texts) (n : ℕ) : Type 0 where
-  pub reads : (ts : Texts) → r (ws ++ ts) ≡ some (a, ts)
+pub record Reads {A : Type 0} (lo : ℕ) (r : Reader A) (a : A) (ws : Texts) (n : ℕ) : Type 0 where
+  pub back : (ts : Texts) → r (ws ++ ts) ≡ some (a, ts)
   pub plain : Every (Plain lo) ws
   pub short : size ws ≤ n
 
@@ -33,13 +33,9 @@ pub record Only {A : Type 0} (P : A → Type 0) (w : A → Texts) (before : Text
   pub from : (ts : Texts) → Gives (λ x. P (x .0) × (w (x .0) ++ x .1 ≡ before ++ ts)) (r ts)
 
 -- r reads just the values with P, each from its texts w
-pub record Spelt {A : Type 0} (lo : ℕ) (r : Reader A) (P : A → Type 0) (w : A → Texts) (n : ℕ) : Type 0 where
-  pub spells : (a : A) → P a → Spells lo r a (w a) n
+pub record Exact {A : Type 0} (lo : ℕ) (r : Reader A) (P : A → Type 0) (w : A → Texts) (n : ℕ) : Type 0 where
+  pub reads : (a : A) → P a → Reads lo r a (w a) n
   pub only : Only P w [] r
-
-every-append : {A : Type 0} (P : A → Type 0) (xs ys : List A) → Every P xs → Every P ys → Every P (xs ++ ys)
-every-append P [] ys h k = k
-every-append P (x ∷ xs) ys h k = (h .0, every-append P xs ys (h .1) k)
 
 size-append : (ss ts : Texts) → size (ss ++ ts) ≡ size ss + size ts
 size-append [] ts = omega arith
@@ -57,12 +53,12 @@ pub only-after : {A : Type 0} {P : A → Type 0} {w : A → Texts} {r : Reader A
     → Only P w [] r → Only P (λ a. before ++ w a) before r
 only-after {w} {before} h = record {
   from = λ ts. gives-so (h .from ts) (λ x p.
-    (p .0, append-assoc before (w (x .0)) (x .1) ∙ ap (λ (us : Texts). before ++ us) (p .1)))
+      (p .0, append-assoc before (w (x .0)) (x .1) ∙ ap (λ (us : Texts). before ++ us) (p .1)));
 }
 
-pub spells-return : {A : Type 0} (lo : ℕ) (a : A) → Spells lo (return a) a [] 0
+pub reads-return : {A : Type 0} (lo : ℕ) (a : A) → Reads lo (return a) a [] 0
 unfolding return
-spells-return lo a = record { reads = λ ts. refl; plain = tt; short = omega arith }
+reads-return lo a = record { back = λ ts. refl; plain = tt; short = omega arith }
 
 module _ {A B : Type 0} {r : Reader A} (k : A → Reader B) where
   pub only-then : {P : A → Type 0} {w : A → Texts} {Q : B → Type 0} {v : B → Texts} {before : Texts}
@@ -74,36 +70,36 @@ module _ {A B : Type 0} {r : Reader A} (k : A → Reader B) where
         (q .0, q .1 ∙ append-assoc before (w (x .0)) (x .1) ∙ ap (λ (us : Texts). before ++ us) (p .1))));
   }
 
-  pub spells-then : {lo : ℕ} {a : A} {b : B} {ws vs : Texts} {m n : ℕ}
-      → Spells lo r a ws m → Spells lo (k a) b vs n → Spells lo (r >>= k) b (ws ++ vs) (m + n)
+  pub reads-then : {lo : ℕ} {a : A} {b : B} {ws vs : Texts} {m n : ℕ}
+      → Reads lo r a ws m → Reads lo (k a) b vs n → Reads lo (r >>= k) b (ws ++ vs) (m + n)
   unfolding _>>=_ andThen
-  spells-then {ws} {vs} s t = record {
-    reads = λ ts. rw (append-assoc ws vs ts, s .reads (vs ++ ts), andThen) (t .reads ts);
-    plain = every-append (Plain _) ws vs (s .plain) (t .plain);
+  reads-then {ws} {vs} s t = record {
+    back = λ ts. rw (append-assoc ws vs ts, s .back (vs ++ ts), andThen) (t .back ts);
+    plain = every-append _ ws vs (s .plain) (t .plain);
     short = omega (arith, size-append ws vs, s .short, t .short);
   }
 
-  -- a last bind
-  pub spells-last : {lo : ℕ} {a : A} {b : B} {ws : Texts} {n : ℕ}
-      → Spells lo r a ws n → ((ts : Texts) → k a ts ≡ some (b, ts)) → Spells lo (r >>= k) b ws n
-  unfolding _>>=_ andThen
-  spells-last {ws} s e = record { reads = λ ts. rw (s .reads ts, andThen) (e ts); plain = s .plain; short = s .short }
+-- the last of several
+pub reads-last : {A B : Type 0} {r : Reader A} (f : A → B) {lo : ℕ} {a : A} {ws : Texts} {n : ℕ}
+    → Reads lo r a ws n → Reads lo (r >>= (λ x. return (f x))) (f a) ws n
+unfolding _>>=_ andThen return
+reads-last f s = record { back = λ ts. rw (s .back ts, andThen); plain = s .plain; short = s .short }
 
 -- a longer bound
-pub spells-within : {A : Type 0} {lo : ℕ} {r : Reader A} {a : A} {ws : Texts} {m n : ℕ}
-    → m ≤ n → Spells lo r a ws m → Spells lo r a ws n
-spells-within h s = record { reads = s .reads; plain = s .plain; short = omega (arith, s .short) }
+pub reads-within : {A : Type 0} {lo : ℕ} {r : Reader A} {a : A} {ws : Texts} {m n : ℕ}
+    → m ≤ n → Reads lo r a ws m → Reads lo r a ws n
+reads-within h s = record { back = s .back; plain = s .plain; short = omega (arith, s .short) }
 
 -- The next text, and lines
 
 module _ {A : Type 0} {read : List ℕ → Option A} {P : A → Type 0} {t : A → List ℕ} {lo n : ℕ} where
-  pub next-spelt : ((a : A) → P a → read (t a) ≡ some a) → ((a : A) → P a → Plain lo (t a))
+  pub next-exact : ((a : A) → P a → read (t a) ≡ some a) → ((a : A) → P a → Plain lo (t a))
       → ((a : A) → P a → length (t a) < n) → ((x : List ℕ) → Gives (λ a. P a × (t a ≡ x)) (read x))
-      → Spelt lo (next read) P (λ a. t a ∷ []) n
+      → Exact lo (next read) P (λ a. t a ∷ []) n
   unfolding next andThen
-  next-spelt back plain short only = record {
-    spells = λ a h. record {
-      reads = λ ts. rw (back a h, andThen);
+  next-exact back plain short only = record {
+    reads = λ a h. record {
+      back = λ ts. rw (back a h, andThen);
       plain = (plain a h, tt);
       short = omega (arith, short a h);
     };
@@ -116,9 +112,9 @@ module _ {A : Type 0} {read : List ℕ → Option A} {P : A → Type 0} {t : A �
 
 -- all texts, and no more
 module _ {A : Type 0} {r : Reader A} where
-  pub whole-back : {lo : ℕ} {a : A} {ws : Texts} {n : ℕ} → Spells lo r a ws n → whole r ws ≡ some a
+  pub whole-back : {lo : ℕ} {a : A} {ws : Texts} {n : ℕ} → Reads lo r a ws n → whole r ws ≡ some a
   unfolding whole andThen ended
-  whole-back {a} {ws} s = let e : r ws ≡ some (a, []) = rw append-nil at (s .reads []) in rw (e, whole, andThen, ended)
+  whole-back {a} {ws} s = let e : r ws ≡ some (a, []) = rw append-nil at (s .back []) in rw (e, whole, andThen, ended)
 
   pub whole-only : {P : A → Type 0} {w : A → Texts} → Only P w [] r
       → (ts : Texts) → Gives (λ a. P a × (w a ≡ ts)) (whole r ts)
@@ -131,23 +127,23 @@ module _ {A : Type 0} {r : Reader A} where
 
 -- a line, whose fields a reader reads that reads nothing from no field
 module _ {A : Type 0} {r : Reader A} (none-read : r [] ≡ none) where
-  nothing-read : {a : A} {n : ℕ} → Spells 48 r a [] n → ⊥
-  nothing-read s = given {P = λ x. ⊥} nothing (sym none-read ∙ s .reads [])
+  nothing-read : {a : A} {n : ℕ} → Reads 48 r a [] n → ⊥
+  nothing-read s = given {P = λ x. ⊥} nothing (sym none-read ∙ s .back [])
 
-  line-back : {a : A} {ws : Texts} {n : ℕ} → Spells 48 r a ws n → whole r (fields (joined ws)) ≡ some a
+  line-back : {a : A} {ws : Texts} {n : ℕ} → Reads 48 r a ws n → whole r (fields (joined ws)) ≡ some a
   line-back {ws = []} s = absurd (nothing-read s)
   line-back {ws = t ∷ ts} s = rw (fields-joined t ts (s .plain)) (whole-back s)
 
-  line-short : {a : A} {ws : Texts} {n : ℕ} → Spells 48 r a ws n → length (joined ws) < n
+  line-short : {a : A} {ws : Texts} {n : ℕ} → Reads 48 r a ws n → length (joined ws) < n
   line-short {ws = []} s = absurd (nothing-read s)
   line-short {ws = t ∷ ts} s = omega (arith, joined-size t ts, s .short)
 
-  pub line-spelt : {P : A → Type 0} {w : A → Texts} {n : ℕ}
-      → Spelt 48 r P w n → Spelt 44 (line r) P (λ a. joined (w a) ∷ []) n
+  pub line-exact : {P : A → Type 0} {w : A → Texts} {n : ℕ}
+      → Exact 48 r P w n → Exact 44 (line r) P (λ a. joined (w a) ∷ []) n
   unfolding line
-  line-spelt {w} s = next-spelt
-      (λ a h. line-back (s .spells a h)) (λ a h. joined-plain (w a) (s .spells a h .plain))
-      (λ a h. line-short (s .spells a h))
+  line-exact {w} s = next-exact
+      (λ a h. line-back (s .reads a h)) (λ a h. joined-plain (w a) (s .reads a h .plain))
+      (λ a h. line-short (s .reads a h))
       (λ l. gives-so (whole-only (s .only) (fields l)) (λ a p. (p .0, ap joined (p .1) ∙ joined-fields l)))
 
 -- Tables of words
@@ -200,13 +196,13 @@ all-plain [] e = tt
 all-plain (x ∷ t) e = let h = both (leb 48 x) (all (leb 48) t) e in (leb-true 48 x (h .0), all-plain t (h .1))
 
 -- a table that goes on with the word's reader
-pub word-spells : {A : Type 0} {r table : Reader A} {a : A} {ws : Texts} {m n : ℕ} (t : String)
+pub word-reads : {A : Type 0} {r table : Reader A} {a : A} {ws : Texts} {m n : ℕ} (t : String)
     → fits t m n ≡ true → ((us : Texts) → table (bytes t ∷ us) ≡ r us)
-    → Spells 48 r a ws m → Spells 48 table a (bytes t ∷ ws) n
-word-spells {ws} {m} {n} t e f s =
+    → Reads 48 r a ws m → Reads 48 table a (bytes t ∷ ws) n
+word-reads {ws} {m} {n} t e f s =
     let h = both (all (leb 48) (bytes t)) (leb (suc (length (bytes t)) + m) n) e in
     record {
-      reads = λ ts. f (ws ++ ts) ∙ s .reads ts;
+      back = λ ts. f (ws ++ ts) ∙ s .back ts;
       plain = (all-plain (bytes t) (h .0), s .plain);
       short = omega (arith, leb-true (suc (length (bytes t)) + m) n (h .1), s .short);
     }
@@ -214,13 +210,13 @@ word-spells {ws} {m} {n} t e f s =
 -- Several of a kind, each one text
 
 module _ {A : Type 0} {r : Reader A} {P : A → Type 0} {t : A → List ℕ} {lo n : ℕ}
-    (s : Spelt lo r P (λ a. t a ∷ []) n) where
-  pub many-spells : (xs : List A) → Every P xs → Spells lo (many (length xs) r) xs (map t xs) (length xs * n)
+    (s : Exact lo r P (λ a. t a ∷ []) n) where
+  pub many-read : (xs : List A) → Every P xs → Reads lo (many (length xs) r) xs (map t xs) (length xs * n)
   unfolding many return
-  many-spells [] h = record { reads = λ ts. refl; plain = tt; short = omega arith }
-  many-spells (x ∷ xs) h =
-      spells-within (omega arith)
-      (spells-then _ (s .spells x (h .0)) (spells-last _ (many-spells xs (h .1)) (λ ts. refl)))
+  many-read [] h = record { back = λ ts. refl; plain = tt; short = omega arith }
+  many-read (x ∷ xs) h =
+      reads-within (omega arith)
+      (reads-then _ (s .reads x (h .0)) (reads-last _ (many-read xs (h .1))))
 
   pub many-only : (m : ℕ) → Only (λ xs. (length xs ≡ m) × Every P xs) (map t) [] (many m r)
   unfolding many

@@ -1,7 +1,7 @@
 -- Fields joined by commas and lines ended by byte 10: taken apart they are what they were, and put together again too.
-use mathlib.Core.Path.{_≡_, refl, sym, ap, _∙_}
+use mathlib.Core.Path.{_≡_, refl, ap, _∙_}
 use mathlib.Core.List.{List, [], _∷_, _++_}
-use mathlib.Core.Option.{Option, none, some}
+use mathlib.Core.Option.{some}
 use mathlib.Core.Bool.{Bool, true, false}
 use Prim.Native.Nat.{ℕ, suc, _+_, _≤_}
 use native.Mathlib.Omega.{arith}
@@ -12,7 +12,7 @@ use Rattle.logic.specs.Multiset.{Every}
 use Rattle.request.specs.Text.{andThen, push, fields, pushLine, lines}
 use Rattle.request.specs.Write.{joined, endedLines}
 use Rattle.request.proofs.Gives.{Gives, nothing, just, gives-then, gives-so, gives-if}
-use Rattle.request.proofs.Digits.{Plain, plain-append}
+use Rattle.request.proofs.Digits.{Plain, every-append}
 
 -- the bytes of texts, each with one that ends it
 abbrev pub size : List (List ℕ) → ℕ
@@ -53,7 +53,11 @@ push-several x (t ∷ ts) = tt
 fields-several : (l : List ℕ) → Several (fields l)
 unfolding fields
 fields-several [] = tt
-fields-several (x ∷ xs) = elim (eqb x 44) as (λ b. Several (elim b as (λ z. List (List ℕ)) [ true ↦ [] ∷ fields xs | false ↦ push x (fields xs) ])) [ true ↦ tt | false ↦ push-several x (fields xs) ]
+fields-several (x ∷ xs) = go (eqb x 44)
+  where
+    go : (b : Bool) → Several (elim b as (λ z. List (List ℕ)) [ true ↦ [] ∷ fields xs | false ↦ push x (fields xs) ])
+    go true = tt
+    go false = push-several x (fields xs)
 
 joined-push : (x : ℕ) (ts : List (List ℕ)) → joined (push x ts) ≡ x ∷ joined ts
 unfolding joined push
@@ -85,7 +89,7 @@ unfolding joined
 joined-plain [] h = tt
 joined-plain (f ∷ []) h = plain-down f (h .0)
 joined-plain (f ∷ g ∷ gs) h =
-    plain-append 44 f (44 ∷ joined (g ∷ gs)) (plain-down f (h .0)) (omega arith, joined-plain (g ∷ gs) (h .1))
+    every-append _ f (44 ∷ joined (g ∷ gs)) (plain-down f (h .0)) (omega arith, joined-plain (g ∷ gs) (h .1))
 
 pub joined-size : (f : List ℕ) (fs : List (List ℕ)) → suc (length (joined (f ∷ fs))) ≡ size (f ∷ fs)
 unfolding joined
@@ -94,7 +98,8 @@ joined-size f (g ∷ gs) = omega (arith, length-append f (44 ∷ joined (g ∷ g
 
 -- Lines: their bytes are from 44 on
 
-lines-more : (l r : List ℕ) (ls : List (List ℕ)) → Plain 44 l → lines r ≡ some ls → lines (l ++ (10 ∷ r)) ≡ some (l ∷ ls)
+lines-more : (l r : List ℕ) (ls : List (List ℕ)) → Plain 44 l → lines r ≡ some ls
+    → lines (l ++ (10 ∷ r)) ≡ some (l ∷ ls)
 unfolding lines andThen pushLine
 lines-more [] r ls h e = rw (e, lines, andThen)
 lines-more (x ∷ l) r ls h e =

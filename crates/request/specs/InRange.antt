@@ -1,6 +1,5 @@
 -- The ranges that the fields of a request keep. Intervals may be reversed: that is a check of its own (refusal 3).
 use Prim.Native.Nat.{ℕ, _^_, _≤_, _<_}
-use mathlib.Core.List.{List}
 use lib.ListN.{length}
 use Rattle.logic.specs.declared.Interval.{Interval}
 use Rattle.logic.specs.Multiset.{Every}
