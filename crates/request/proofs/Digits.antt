@@ -209,7 +209,8 @@ unfolding reads
 digits-after [] v h = just (sym (append-nil (digits v)))
 digits-after (x ∷ xs) v h =
     gives-then (decimal-digit .only x) (λ d p.
-    gives-so (digits-after xs (v * 10 + d) (omega arith)) (λ n e. e ∙ moved (digits v) xs (digits-more v d h (p .0)) (p .1)))
+    gives-so (digits-after xs (v * 10 + d) (omega arith))
+    (λ n e. e ∙ moved (digits v) xs (digits-more v d h (p .0)) (p .1)))
 
 digits-byte : (d x : ℕ) → (d < 10) × (48 + d ≡ x) → digits (0 * 10 + d) ≡ x ∷ []
 digits-byte d x p =

@@ -207,6 +207,34 @@ word-reads {ws} {m} {n} t e f s =
       short = omega (arith, leb-true (suc (length (bytes t)) + m) n (h .1), s .short);
     }
 
+-- A value made of one field, or of two, after a word
+
+module _ {A B : Type 0} {r : Reader A} {P : A → Type 0} {u : A → Texts} {m : ℕ} (e : Exact 48 r P u m)
+    (make : A → B) where
+  pub one-reads : {table : Reader B} {n : ℕ} (t : String) (a : A) → P a → fits t m n ≡ true
+      → ((us : Texts) → table (bytes t ∷ us) ≡ (r >>= (λ a. return (make a))) us)
+      → Reads 48 table (make a) (bytes t ∷ u a) n
+  one-reads t a h b f = word-reads t b f (reads-last make (e .reads a h))
+
+  pub one-only : {Q : B → Type 0} {w : B → Texts} {before : Texts}
+      → ((a : A) → P a → Q (make a) × (w (make a) ≡ before ++ u a)) → Only Q w before (r >>= (λ a. return (make a)))
+  one-only f = only-then _ (e .only) (λ a h. let p = f a h in only-return _ (p .0) (p .1))
+
+module _ {A B C : Type 0} {r : Reader A} {s : Reader B} {P : A → Type 0} {Q : B → Type 0} {u : A → Texts}
+    {v : B → Texts} {l m : ℕ} (d : Exact 48 r P u l) (e : Exact 48 s Q v m) (make : A → B → C) where
+  pub two-reads : {table : Reader C} {n : ℕ} (t : String) (a : A) (b : B) → P a → Q b → fits t (l + m) n ≡ true
+      → ((us : Texts) → table (bytes t ∷ us) ≡ (r >>= (λ a. s >>= (λ b. return (make a b)))) us)
+      → Reads 48 table (make a b) (bytes t ∷ u a ++ v b) n
+  two-reads t a b h k c f = word-reads t c f (reads-then _ (d .reads a h) (reads-last (make a) (e .reads b k)))
+
+  pub two-only : {R : C → Type 0} {w : C → Texts} {before : Texts}
+      → ((a : A) (b : B) → P a → Q b → R (make a b) × (w (make a b) ≡ before ++ (u a ++ v b)))
+      → Only R w before (r >>= (λ a. s >>= (λ b. return (make a b))))
+  two-only {before} f =
+      only-then _ (d .only) (λ a h. one-only e (make a) (λ b k.
+      let p = f a b h k in
+      (p .0, p .1 ∙ sym (append-assoc before (u a) (v b)))))
+
 -- Several of a kind, each one text
 
 module _ {A : Type 0} {r : Reader A} {P : A → Type 0} {t : A → List ℕ} {lo n : ℕ}

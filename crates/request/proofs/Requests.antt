@@ -7,7 +7,7 @@ use lib.ListN.{length}
 use Rattle.logic.specs.Counts.{all}
 use Rattle.request.specs.Range.{serial, minute, formulaNumber, holds, steps}
 use Rattle.request.specs.Text.{bytes, sameBytes, andThen, lines}
-use Rattle.request.specs.Reader.{return, named, choose, line}
+use Rattle.request.specs.Reader.{named, choose, line}
 use Rattle.request.specs.Request.{Booking, Request, word, issue, withdraw, book, tally}
 use Rattle.request.specs.Read.{holdLine, stepLine, Head, alone, booking, bookLine, firstLine, rest}
 use Rattle.request.specs.Read.{requestLines, requestOf}
@@ -20,17 +20,12 @@ use Rattle.request.proofs.Texts.{lines-ended, ended-lines, ended-size}
 use Rattle.request.proofs.Readers.{Texts, Reads, Only, Exact, done, _also_, only-return, only-then}
 use Rattle.request.proofs.Readers.{reads-return, reads-then, reads-last, reads-within, choose-only, word-reads}
 use Rattle.request.proofs.Readers.{line-exact, many-read, many-only, whole-back, whole-only}
-use Rattle.request.proofs.Fields.{NumberExact, number-exact, formula-exact, session-exact, serial-exact}
+use Rattle.request.proofs.Readers.{one-reads, one-only, two-reads, two-only}
+use Rattle.request.proofs.Fields.{formula-exact, session-exact, holds-exact, steps-exact, serial-exact}
 use Rattle.request.proofs.Fields.{minute-exact, interval-exact, kind-exact}
-use Rattle.request.proofs.Lines.{formula-line-exact, step-fields-exact, hold-fields-exact}
+use Rattle.request.proofs.Lines.{formula-line-exact, step-line-exact, hold-line-exact}
 
 -- The first line: at most 40 bytes
-
-holds-exact : NumberExact holds 3
-holds-exact = number-exact holds 1 (omega arith)
-
-steps-exact : NumberExact steps 4
-steps-exact = number-exact steps 2 (omega arith)
 
 abbrev HeadInRange : Head → Type 0
 HeadInRange (alone (word l)) = InRange (word l)
@@ -51,41 +46,33 @@ headTexts (alone r) = headFields r
 headTexts (booking now n i h k) = bookFields now n i h k
 
 head-reads : (h : Head) → HeadInRange h → Reads 48 firstLine h (headTexts h) 40
-unfolding firstLine headTexts headFields bookFields bookLine return bytes sameBytes choose named all
-head-reads (alone (word l)) h =
-    word-reads "word" refl (λ us. refl) (reads-last _ (formula-line-exact .reads l h))
+unfolding firstLine headTexts headFields bookFields bookLine bytes sameBytes choose named all
+head-reads (alone (word l)) h = one-reads formula-line-exact _ "word" l h refl (λ us. refl)
 head-reads (alone (issue k n i)) h =
     word-reads "issue" refl (λ us. refl) (reads-then _ (kind-exact .reads k tt)
-    (reads-then _ (formula-exact .reads n (h .formula))
-    (reads-last _ (interval-exact .reads i (h .interval)))))
-head-reads (alone (withdraw n)) h =
-    word-reads "withdraw" refl (λ us. refl) (reads-last _ (serial-exact .reads n h))
+    (reads-then _ (formula-exact .reads n (h .formula)) (reads-last _ (interval-exact .reads i (h .interval)))))
+head-reads (alone (withdraw n)) h = one-reads serial-exact _ "withdraw" n h refl (λ us. refl)
 head-reads (alone (book b)) h = absurd h
 head-reads (alone (tally s m)) h =
-    word-reads "tally" refl (λ us. refl) (reads-then _ (session-exact .reads s (h .session))
-    (reads-last _ (minute-exact .reads m (h .minute))))
+    two-reads session-exact minute-exact _ "tally" s m (h .session) (h .minute) refl (λ us. refl)
 head-reads (booking now n i h k) r =
     word-reads "book" refl (λ us. refl) (reads-then _ (minute-exact .reads now (r .now))
-    (reads-then _ (formula-exact .reads n (r .formula))
-    (reads-then _ (interval-exact .reads i (r .interval))
-    (reads-then _ (holds-exact .reads h (r .holdCount))
-    (reads-last _ (steps-exact .reads k (r .stepCount)))))))
+    (reads-then _ (formula-exact .reads n (r .formula)) (reads-then _ (interval-exact .reads i (r .interval))
+    (reads-then _ (holds-exact .reads h (r .holdCount)) (reads-last _ (steps-exact .reads k (r .stepCount)))))))
 
 head-exact : Exact 48 firstLine HeadInRange headTexts 40
 unfolding firstLine headTexts headFields bookFields bookLine minutes
 head-exact = record {
   reads = head-reads;
   only = choose-only (
-      only-then _ (formula-line-exact .only) (λ l h. only-return _ h refl)
-      also only-then _ (kind-exact .only) (λ k u. only-then _ (formula-exact .only) (λ n h.
-      only-then _ (interval-exact .only) (λ i j. only-return _ (record { formula = h; interval = j }) refl)))
-      also only-then _ (serial-exact .only) (λ n h. only-return _ h refl)
+      one-only formula-line-exact _ (λ l h. (h, refl))
+      also only-then _ (kind-exact .only) (λ k u. two-only formula-exact interval-exact _
+      (λ n i h j. (record { formula = h; interval = j }, refl)))
+      also one-only serial-exact _ (λ n h. (h, refl))
       also only-then _ (minute-exact .only) (λ now a. only-then _ (formula-exact .only) (λ n b.
-      only-then _ (interval-exact .only) (λ i c. only-then _ (holds-exact .only) (λ h d.
-      only-then _ (steps-exact .only) (λ k e.
-      only-return _ (record { now = a; formula = b; interval = c; holdCount = d; stepCount = e }) refl)))))
-      also only-then _ (session-exact .only) (λ s h. only-then _ (minute-exact .only) (λ m k.
-      only-return _ (record { session = h; minute = k }) refl))
+      only-then _ (interval-exact .only) (λ i c. two-only holds-exact steps-exact _
+      (λ h k d e. (record { now = a; formula = b; interval = c; holdCount = d; stepCount = e }, refl)))))
+      also two-only session-exact minute-exact _ (λ s m h k. (record { session = h; minute = k }, refl))
       also done);
 }
 
@@ -97,11 +84,11 @@ head-line = line-exact refl head-exact
 
 hold-line : Exact 44 (line holdLine) (λ n. n ∈ serial) (λ n. joined (holdFields n) ∷ []) 12
 unfolding holdLine choose
-hold-line = line-exact refl hold-fields-exact
+hold-line = line-exact refl hold-line-exact
 
 step-line : Exact 44 (line stepLine) StepInRange (λ s. joined (stepFields s) ∷ []) 39
 unfolding stepLine choose
-step-line = line-exact refl step-fields-exact
+step-line = line-exact refl step-line-exact
 
 -- a request of one line
 single-reads : (r : Request) → HeadInRange (alone r) → moreLines r ≡ []
@@ -123,7 +110,7 @@ book-head b h = record {
 }
 
 request-reads : (r : Request) → InRange r → Reads 44 requestLines r (requestTexts r) longest
-unfolding requestLines requestTexts moreLines headFields headTexts rest return
+unfolding requestLines requestTexts moreLines headFields headTexts rest
 request-reads (word l) h = single-reads (word l) h refl
 request-reads (issue k n i) h = single-reads (issue k n i) h refl
 request-reads (withdraw n) h = single-reads (withdraw n) h refl
