@@ -1,6 +1,5 @@
 -- The ranges that the fields of a request keep. Intervals may be reversed: that is a check of its own (refusal 3).
 use Prim.Native.Nat.{ℕ, _^_, _≤_, _<_}
-use mathlib.Core.List.{List}
 use lib.ListN.{length}
 use Rattle.logic.specs.declared.Interval.{Interval}
 use Rattle.logic.specs.Multiset.{Every}
@@ -22,14 +21,19 @@ pub record IntervalInRange (i : Interval) : Type 0 where
   pub from : i .from ∈ minute
   pub to : i .to ∈ minute
 
+-- the numbers of two earlier formulas
+pub record Parts (i j : ℕ) : Type 0 where
+  pub left : i ∈ formulaNumber
+  pub right : j ∈ formulaNumber
+
 abbrev pub LineInRange : Line → Type 0
 LineInRange (Line.atom p s) = record { predicate : p ∈ predicate; session : s ∈ session }
 LineInRange Line.one = Unit {0}
-LineInRange (Line.tensor i j) = record { left : i ∈ formulaNumber; right : j ∈ formulaNumber }
-LineInRange (Line.with i j) = record { left : i ∈ formulaNumber; right : j ∈ formulaNumber }
-LineInRange (Line.plus i j) = record { left : i ∈ formulaNumber; right : j ∈ formulaNumber }
-LineInRange (Line.lolli i j) = record { left : i ∈ formulaNumber; right : j ∈ formulaNumber }
-LineInRange (Line.implies i j) = record { left : i ∈ formulaNumber; right : j ∈ formulaNumber }
+LineInRange (Line.tensor i j) = Parts i j
+LineInRange (Line.with i j) = Parts i j
+LineInRange (Line.plus i j) = Parts i j
+LineInRange (Line.lolli i j) = Parts i j
+LineInRange (Line.implies i j) = Parts i j
 LineInRange (Line.bang i) = i ∈ formulaNumber
 LineInRange (Line.at i w) = record { part : i ∈ formulaNumber; interval : IntervalInRange w }
 LineInRange (Line.says k i) = record { principal : k ∈ principal; part : i ∈ formulaNumber }
