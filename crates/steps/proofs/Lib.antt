@@ -4,3 +4,5 @@ pub mod Premises
 pub mod Sound
 pub mod Lines
 pub mod Complete
+pub mod Unroll
+pub mod Agree
