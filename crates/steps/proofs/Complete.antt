@@ -44,7 +44,8 @@ module _ (ls : Labels) (d : ℕ) (known : Known ls d) (low : length ls ≤ maxLa
 at-right : {R D : List Hyp} {g g′ : Judgment} {u v : ℕ} (s : Step) → Writable s
     → ((label : ℕ → Hyp) (r d : ℕ) → Rule label r d s g (premise (from d g′ [])))
     → Spelled R D g′ u v → Spelled R D g (suc u) v
-at-right s w rule ih = λ ls r d fits sub m room. going ls r d fits {s = s} (rule (named ls) r d) w ih sub m (omega arith) room
+at-right s w rule ih = λ ls r d fits sub m room.
+    going ls r d fits {s = s} (rule (named ls) r d) w ih sub m (omega arith) room
 
 -- a step at the label of h, the first hypothesis, with new labels for hs in its place
 at-left : {R D : List Hyp} {h : Hyp} {g : Judgment} {u v n : ℕ} (s : ℕ → Step) (hs : List Hyp)
@@ -72,14 +73,18 @@ complete (Derives.tr {D = D} {E = E} x y) mn = λ ls r d fits sub m room.
     let s = choose (named ls) maxLabels d D E m in
     parting ls r d fits (Rule.tr (s .1)) (narrow ls d (fits .linear) (fits .room) (s .0) (s .1))
     (complete x (mn .0)) sub (s .2) (complete y (mn .1)) sub (s .3) (omega arith) room
-complete (Derives.tl x) mn = at-left Step.tl (_ ∷ _ ∷ []) (λ k l. l) (λ f r d k m e. Rule.tl m e) (omega arith) (complete x mn)
+complete (Derives.tl x) mn =
+    at-left Step.tl (_ ∷ _ ∷ []) (λ k l. l) (λ f r d k m e. Rule.tl m e) (omega arith) (complete x mn)
 complete Derives.or mn = λ ls r d fits sub m room.
     closing ls r d fits (Rule.or (empty ls d (fits .linear) (fits .room) m)) tt
-complete (Derives.ol x) mn = at-left Step.ol [] (λ k l. l) (λ f r d k m e. Rule.ol m e) (omega arith) (complete x mn)
+complete (Derives.ol x) mn =
+    at-left Step.ol [] (λ k l. l) (λ f r d k m e. Rule.ol m e) (omega arith) (complete x mn)
 complete (Derives.wr x y) mn = λ ls r d fits sub m room.
     parting ls r d fits Rule.wr tt (complete x (mn .0)) sub m (complete y (mn .1)) sub m (omega arith) room
-complete (Derives.w1 x) mn = at-left Step.w1 (_ ∷ []) (λ k l. l) (λ f r d k m e. Rule.w1 m e) (omega arith) (complete x mn)
-complete (Derives.w2 x) mn = at-left Step.w2 (_ ∷ []) (λ k l. l) (λ f r d k m e. Rule.w2 m e) (omega arith) (complete x mn)
+complete (Derives.w1 x) mn =
+    at-left Step.w1 (_ ∷ []) (λ k l. l) (λ f r d k m e. Rule.w1 m e) (omega arith) (complete x mn)
+complete (Derives.w2 x) mn =
+    at-left Step.w2 (_ ∷ []) (λ k l. l) (λ f r d k m e. Rule.w2 m e) (omega arith) (complete x mn)
 complete (Derives.p1 x) mn = at-right Step.p1 tt (λ f r d. Rule.p1) (complete x mn)
 complete (Derives.p2 x) mn = at-right Step.p2 tt (λ f r d. Rule.p2) (complete x mn)
 complete (Derives.pl x y) mn = λ ls r d fits sub m room.
@@ -103,7 +108,8 @@ complete (Derives.bl x) mn = λ ls r d fits sub m room.
     let k = head ls d (fits .linear) (fits .room) m in
     going ls r d fits (Rule.bl (k .2) (k .3)) (k .1) (complete x mn) (within-cons sub) (k .4) (omega arith) room
 complete (Derives.hr x) mn = at-right Step.hr tt (λ f r d. Rule.hr) (complete x mn)
-complete (Derives.hl x) mn = at-left Step.hl (_ ∷ []) (λ k l. l) (λ f r d k m e. Rule.hl m e) (omega arith) (complete x mn)
+complete (Derives.hl x) mn =
+    at-left Step.hl (_ ∷ []) (λ k l. l) (λ f r d k m e. Rule.hl m e) (omega arith) (complete x mn)
 complete (Derives.sr x) mn = at-right Step.sr tt (λ f r d. Rule.sr) (complete x mn)
 complete (Derives.af x) mn = at-right Step.af tt (λ f r d. Rule.af) (complete x mn)
 complete (Derives.sl c x) mn =

@@ -6,3 +6,5 @@ pub mod Lines
 pub mod Complete
 pub mod Unroll
 pub mod Agree
+pub mod Runs
+pub mod Tables
