@@ -8,3 +8,4 @@ pub mod Unroll
 pub mod Agree
 pub mod Runs
 pub mod Tables
+pub mod Checker
