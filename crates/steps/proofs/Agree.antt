@@ -57,15 +57,16 @@ module _ {row : ℕ → Row} {f : ℕ → Formula} (u : Unrolls row f) (names : 
     same-decides : (g : Goal) (l : ℕ) (x : Row) → Decides (sameAtom row label R D g l x) (SameAtom l x)
     same-decides g l x =
         let d = and-decides (eq-decides (rowAt l .letter) (code "a"))
-          (and-decides (eq-decides (rowAt l .a) (x .a)) (eq-decides (rowAt l .b) (x .b))) in
-        (λ e. let h = d .0 e in record { atomic = h .0; predicates = h .1 .0; sessions = h .1 .1 },
-        λ s. d .1 (s .atomic, (s .predicates, s .sessions)))
+        (and-decides (eq-decides (rowAt l .a) (x .a)) (eq-decides (rowAt l .b) (x .b))) in (
+          λ e. let h = d .0 e in record { atomic = h .0; predicates = h .1 .0; sessions = h .1 .1 },
+          λ s. d .1 (s .atomic, (s .predicates, s .sessions)),
+        )
 
     -- From the plan to the rule
 
     ruled-left : (j : Judgment) (g : Goal) (s : Step) (l : ℕ) (c : Char) (k : Interval → Row → Plan)
         → (D ∋ l → names l ≡ made f (code c) (rowAt l) ⟦ label l .interval ⟧
-          → Ruled j s (k (label l .interval) (rowAt l)))
+        → Ruled j s (k (label l .interval) (rowAt l)))
         → Ruled j s (left row label R D g l c k)
     unfolding left
     ruled-left j g s l c k h =
@@ -149,7 +150,7 @@ module _ {row : ℕ → Row} {f : ℕ → Formula} (u : Unrolls row f) (names : 
     left-plan : (g : Goal) (l : ℕ) (c : Char) (k : Interval → Row → Plan) {a : Formula} {i : Interval} {w : Leaves}
         → D ∋ l → names l ≡ a ⟦ i ⟧ → letter a ≡ code c
         → (made f (letter a) (rowAt l) ≡ a → label l .interval ≡ i
-          → leaves u (k (label l .interval) (rowAt l)) ≡ some w)
+        → leaves u (k (label l .interval) (rowAt l)) ≡ some w)
         → leaves u (left row label R D g l c k) ≡ some w
     unfolding left
     left-plan g l c k {a} {i} m e q h =
@@ -183,9 +184,13 @@ module _ {row : ℕ → Row} {f : ℕ → Formula} (u : Unrolls row f) (names : 
         let v : i ≡ label l .interval = sym (ap (λ (h : Hyp). h .interval) x) in
         right-plan g "a" _ y refl (λ n z.
         passes _ Closed (and-decides (eq-decides D (2 ^ l))
-        (and-decides (same-decides g l (row n)) (contains-decides (label l .interval) j)))
-        (q, (record { atomic = o .0; predicates = cc (o .1); sessions = cc (o .1) },
-        subst (λ (w : Interval). w ⊇ j) v c)) refl)
+        (and-decides (same-decides g l (row n)) (contains-decides (label l .interval) j))) (
+          q,
+          (
+            record { atomic = o .0; predicates = cc (o .1); sessions = cc (o .1) },
+            subst (λ (w : Interval). w ⊇ j) v c,
+          ),
+        ) refl)
     rule-plan (Rule.cp {l = l} m) g y = passes _ _ (itself (member R l)) m (cc (on-R l m))
     rule-plan (Rule.tr h) g y = right-plan g "t" _ y refl (λ n q. passes _ _ (itself _) h (cc))
     rule-plan (Rule.tl {l = l} m e) g y = left-plan g l "t" _ m e refl (λ o v. cc)

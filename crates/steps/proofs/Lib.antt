@@ -9,3 +9,6 @@ pub mod Agree
 pub mod Runs
 pub mod Tables
 pub mod Checker
+pub mod Finish
+pub mod Holds
+pub mod Steps

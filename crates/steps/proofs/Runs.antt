@@ -1,7 +1,7 @@
 -- How step lines end, one step at a time: a sequent is closed (Spells) or halted (Stops) by its step's rule and by how
 -- what the step leaves ends.
-use mathlib.Core.List.{List, [], _∷_}
-use Prim.Native.Nat.{ℕ, _+_, _-_, _<_}
+use mathlib.Core.List.{List, _∷_}
+use Prim.Native.Nat.{ℕ, _-_, _<_}
 use lib.ListN.{length}
 use Rattle.request.specs.Request.{Step}
 use Rattle.steps.specs.Check.{maxLabels}

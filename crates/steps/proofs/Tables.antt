@@ -1,11 +1,9 @@
 -- Tables of labels: what a table shows when labels are put into it, and when a premise begins.
-use mathlib.Core.Path.{_≡_, refl, sym, ap, ap₂, subst, _∙_}
+use mathlib.Core.Path.{_≡_, refl, sym, ap, subst, _∙_}
 use mathlib.Core.List.{List, [], _∷_, _++_, map}
-use mathlib.Core.Bool.{Bool, true, false}
 use Prim.Native.Nat.{ℕ, suc, _+_, _<_, _≤_}
 use native.Mathlib.Omega.{arith}
 use native.Mathlib.Decide.{decLt, decLe}
-use lib.Dec.{leb}
 use lib.ListN.{length, List·getD-append, length-map}
 use lib.Seq.{getD-append-seam}
 use borrow.Author.Tests.{le-leb, lt-leb}
@@ -17,7 +15,7 @@ use Rattle.steps.specs.declared.Sequent.{Sequent}
 use Rattle.steps.specs.declared.Premise.{Premise}
 use Rattle.steps.specs.Check.{maxLabels, linears, joins, puts, adds, Beginning, full, begun, begin}
 use Rattle.steps.specs.Rule.{Branch}
-use Rattle.steps.specs.Spells.{Labels, noHyp, named, grown, adding, Labelled, beginning, Room}
+use Rattle.steps.specs.Spells.{Labels, noHyp, named, grown, adding, beginning, Room}
 use Rattle.steps.specs.Spells.{begun as labels-begun}
 use Rattle.steps.proofs.Labelling.{length-snoc, ext-grown, length-grown}
 use Rattle.steps.proofs.Premises.{length-begun}
@@ -91,12 +89,16 @@ module _ {row : ℕ → Row} {formula : ℕ → Formula} (u : Unrolls row formul
     where
       l : List Hypothesis
       l = linears (p .fresh)
+
       j : List Hypothesis
       j = joins (p .fresh)
+
       size : length (labels-begun ls (branchOf u p)) ≡ n + (length l + length j)
       size = omega (arith, s .next, length-begun ls (branchOf u p), length-map l (hypOf u), length-map j (hypOf u))
+
       size₁ : n + length l ≡ length (grown ls (map (hypOf u) l))
       size₁ = omega (arith, s .next, length-grown ls (map (hypOf u) l), length-map l (hypOf u))
+
       go : Dec (Room ls (branchOf u p)) → Starts ls r (branchOf u p) (begin put t n r p)
       go (yes room) =
           let x = ext-grown (grown ls (map (hypOf u) l)) (map (hypOf u) j) in
