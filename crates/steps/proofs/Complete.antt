@@ -44,7 +44,8 @@ module _ (ls : Labels) (d : ℕ) (known : Known ls d) (low : length ls ≤ maxLa
 at-right : {R D : List Hyp} {g g′ : Judgment} {u v : ℕ} (s : Step) → Writable s
     → ((label : ℕ → Hyp) (r d : ℕ) → Rule label r d s g (premise (from d g′ [])))
     → Spelled R D g′ u v → Spelled R D g (suc u) v
-at-right s w rule ih = λ ls r d fits sub m room. going ls r d fits {s = s} (rule (named ls) r d) w ih sub m (omega arith) room
+at-right s w rule ih = λ ls r d fits sub m room.
+    going ls r d fits {s = s} (rule (named ls) r d) w ih sub m (omega arith) room
 
 -- a step at the label of h, the first hypothesis, with new labels for hs in its place
 at-left : {R D : List Hyp} {h : Hyp} {g : Judgment} {u v n : ℕ} (s : ℕ → Step) (hs : List Hyp)
@@ -57,56 +58,61 @@ at-left s hs w rule e ih = λ ls r d fits sub m room.
     going ls r d fits {s = s (k .0)} (rule (named ls) r d (k .0) (k .2) (k .3)) (w (k .0) (k .1)) ih sub
     (before hs (k .4)) (omega arith) room
 
-pub complete : {R D : List Hyp} {g : Judgment} (x : Derives R D g) → Minutes x → Spelled R D g (uses x) (taken x)
+pub spelled : {R D : List Hyp} {g : Judgment} (x : Derives R D g) → Minutes x → Spelled R D g (uses x) (taken x)
 unfolding uses taken
-complete (Derives.same n k x) mn = λ ls r d fits sub m room.
-    complete x mn ls r d fits (λ h i. sub h (perm-in n h i)) (perm-trans k m) room
-complete (Derives.ax c) mn = λ ls r d fits sub m room.
+spelled (Derives.same n k x) mn = λ ls r d fits sub m room.
+    spelled x mn ls r d fits (λ h i. sub h (perm-in n h i)) (perm-trans k m) room
+spelled (Derives.ax c) mn = λ ls r d fits sub m room.
     let k = head ls d (fits .linear) (fits .room) m in
     let z = empty ls (remove d (k .0)) (omega (arith, without-le d (2 ^ k .0), fits .linear)) (fits .room) (k .4) in
     closing ls r d fits (Rule.ax (only-is d (k .0) (k .2) z) (k .3) c) (k .1)
-complete (Derives.cp {h = h} i x) mn = λ ls r d fits sub m room.
+spelled (Derives.cp {h = h} i x) mn = λ ls r d fits sub m room.
     let k = head ls r (fits .unrestricted) (fits .room) (in-front (hyps ls r) (sub h i) .1) in
-    going ls r d fits (Rule.cp (k .2)) (k .1) (complete x mn) sub (more (here (sym (k .3))) m) (omega arith) room
-complete (Derives.tr {D = D} {E = E} x y) mn = λ ls r d fits sub m room.
+    going ls r d fits (Rule.cp (k .2)) (k .1) (spelled x mn) sub (more (here (sym (k .3))) m) (omega arith) room
+spelled (Derives.tr {D = D} {E = E} x y) mn = λ ls r d fits sub m room.
     let s = choose (named ls) maxLabels d D E m in
     parting ls r d fits (Rule.tr (s .1)) (narrow ls d (fits .linear) (fits .room) (s .0) (s .1))
-    (complete x (mn .0)) sub (s .2) (complete y (mn .1)) sub (s .3) (omega arith) room
-complete (Derives.tl x) mn = at-left Step.tl (_ ∷ _ ∷ []) (λ k l. l) (λ f r d k m e. Rule.tl m e) (omega arith) (complete x mn)
-complete Derives.or mn = λ ls r d fits sub m room.
+    (spelled x (mn .0)) sub (s .2) (spelled y (mn .1)) sub (s .3) (omega arith) room
+spelled (Derives.tl x) mn =
+    at-left Step.tl (_ ∷ _ ∷ []) (λ k l. l) (λ f r d k m e. Rule.tl m e) (omega arith) (spelled x mn)
+spelled Derives.or mn = λ ls r d fits sub m room.
     closing ls r d fits (Rule.or (empty ls d (fits .linear) (fits .room) m)) tt
-complete (Derives.ol x) mn = at-left Step.ol [] (λ k l. l) (λ f r d k m e. Rule.ol m e) (omega arith) (complete x mn)
-complete (Derives.wr x y) mn = λ ls r d fits sub m room.
-    parting ls r d fits Rule.wr tt (complete x (mn .0)) sub m (complete y (mn .1)) sub m (omega arith) room
-complete (Derives.w1 x) mn = at-left Step.w1 (_ ∷ []) (λ k l. l) (λ f r d k m e. Rule.w1 m e) (omega arith) (complete x mn)
-complete (Derives.w2 x) mn = at-left Step.w2 (_ ∷ []) (λ k l. l) (λ f r d k m e. Rule.w2 m e) (omega arith) (complete x mn)
-complete (Derives.p1 x) mn = at-right Step.p1 tt (λ f r d. Rule.p1) (complete x mn)
-complete (Derives.p2 x) mn = at-right Step.p2 tt (λ f r d. Rule.p2) (complete x mn)
-complete (Derives.pl x y) mn = λ ls r d fits sub m room.
+spelled (Derives.ol x) mn =
+    at-left Step.ol [] (λ k l. l) (λ f r d k m e. Rule.ol m e) (omega arith) (spelled x mn)
+spelled (Derives.wr x y) mn = λ ls r d fits sub m room.
+    parting ls r d fits Rule.wr tt (spelled x (mn .0)) sub m (spelled y (mn .1)) sub m (omega arith) room
+spelled (Derives.w1 x) mn =
+    at-left Step.w1 (_ ∷ []) (λ k l. l) (λ f r d k m e. Rule.w1 m e) (omega arith) (spelled x mn)
+spelled (Derives.w2 x) mn =
+    at-left Step.w2 (_ ∷ []) (λ k l. l) (λ f r d k m e. Rule.w2 m e) (omega arith) (spelled x mn)
+spelled (Derives.p1 x) mn = at-right Step.p1 tt (λ f r d. Rule.p1) (spelled x mn)
+spelled (Derives.p2 x) mn = at-right Step.p2 tt (λ f r d. Rule.p2) (spelled x mn)
+spelled (Derives.pl x y) mn = λ ls r d fits sub m room.
     let k = head ls d (fits .linear) (fits .room) m in
-    parting ls r d fits (Rule.pl (k .2) (k .3)) (k .1) (complete x (mn .0)) sub (on (k .4)) (complete y (mn .1)) sub
+    parting ls r d fits (Rule.pl (k .2) (k .3)) (k .1) (spelled x (mn .0)) sub (on (k .4)) (spelled y (mn .1)) sub
     (on (k .4)) (omega arith) room
-complete (Derives.ll {D = D} {E = E} c x y) mn = λ ls r d fits sub m room.
+spelled (Derives.ll {D = D} {E = E} c x y) mn = λ ls r d fits sub m room.
     let k = head ls d (fits .linear) (fits .room) m in
     let d′ = remove d (k .0) in
     let s = choose (named ls) maxLabels d′ D E (k .4) in
     let w = narrow ls d′ (omega (arith, without-le d (2 ^ k .0), fits .linear)) (fits .room) (s .0) (s .1) in
-    parting ls r d fits (Rule.ll (k .2) (k .3) c (s .1)) (k .1, w, mn .0) (complete x (mn .1)) sub (s .2)
-    (complete y (mn .2)) sub (on (s .3)) (omega arith) room
-complete (Derives.ul c x y) mn = λ ls r d fits sub m room.
+    parting ls r d fits (Rule.ll (k .2) (k .3) c (s .1)) (k .1, w, mn .0) (spelled x (mn .1)) sub (s .2)
+    (spelled y (mn .2)) sub (on (s .3)) (omega arith) room
+spelled (Derives.ul c x y) mn = λ ls r d fits sub m room.
     let k = head ls d (fits .linear) (fits .room) m in
-    parting ls r d fits (Rule.ul (k .2) (k .3) c) (k .1, mn .0) (complete x (mn .1)) sub (no-hyps ls)
-    (complete y (mn .2)) sub (on (k .4)) (omega arith) room
-complete (Derives.br x) mn = λ ls r d fits sub m room.
-    going ls r d fits (Rule.br (empty ls d (fits .linear) (fits .room) m)) tt (complete x mn) sub m (omega arith) room
-complete (Derives.bl x) mn = λ ls r d fits sub m room.
+    parting ls r d fits (Rule.ul (k .2) (k .3) c) (k .1, mn .0) (spelled x (mn .1)) sub (no-hyps ls)
+    (spelled y (mn .2)) sub (on (k .4)) (omega arith) room
+spelled (Derives.br x) mn = λ ls r d fits sub m room.
+    going ls r d fits (Rule.br (empty ls d (fits .linear) (fits .room) m)) tt (spelled x mn) sub m (omega arith) room
+spelled (Derives.bl x) mn = λ ls r d fits sub m room.
     let k = head ls d (fits .linear) (fits .room) m in
-    going ls r d fits (Rule.bl (k .2) (k .3)) (k .1) (complete x mn) (within-cons sub) (k .4) (omega arith) room
-complete (Derives.hr x) mn = at-right Step.hr tt (λ f r d. Rule.hr) (complete x mn)
-complete (Derives.hl x) mn = at-left Step.hl (_ ∷ []) (λ k l. l) (λ f r d k m e. Rule.hl m e) (omega arith) (complete x mn)
-complete (Derives.sr x) mn = at-right Step.sr tt (λ f r d. Rule.sr) (complete x mn)
-complete (Derives.af x) mn = at-right Step.af tt (λ f r d. Rule.af) (complete x mn)
-complete (Derives.sl c x) mn =
-    at-left Step.sl (_ ∷ []) (λ k l. l) (λ f r d k m e. Rule.sl m e c) (omega arith) (complete x mn)
-complete (Derives.gr c) mn = λ ls r d fits sub m room.
+    going ls r d fits (Rule.bl (k .2) (k .3)) (k .1) (spelled x mn) (within-cons sub) (k .4) (omega arith) room
+spelled (Derives.hr x) mn = at-right Step.hr tt (λ f r d. Rule.hr) (spelled x mn)
+spelled (Derives.hl x) mn =
+    at-left Step.hl (_ ∷ []) (λ k l. l) (λ f r d k m e. Rule.hl m e) (omega arith) (spelled x mn)
+spelled (Derives.sr x) mn = at-right Step.sr tt (λ f r d. Rule.sr) (spelled x mn)
+spelled (Derives.af x) mn = at-right Step.af tt (λ f r d. Rule.af) (spelled x mn)
+spelled (Derives.sl c x) mn =
+    at-left Step.sl (_ ∷ []) (λ k l. l) (λ f r d k m e. Rule.sl m e c) (omega arith) (spelled x mn)
+spelled (Derives.gr c) mn = λ ls r d fits sub m room.
     closing ls r d fits (Rule.gr (empty ls d (fits .linear) (fits .room) m) c) tt

@@ -4,3 +4,11 @@ pub mod Premises
 pub mod Sound
 pub mod Lines
 pub mod Complete
+pub mod Unroll
+pub mod Agree
+pub mod Runs
+pub mod Tables
+pub mod Checker
+pub mod Finish
+pub mod Holds
+pub mod Steps

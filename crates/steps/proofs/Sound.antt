@@ -91,7 +91,7 @@ module _ (ls : Labels) (R D : ℕ) (known-R : R < 2 ^ length ls) (known-D : D < 
   makes (Rule.gr e c) = (Derives.same rest (perm-sym (bare D e)) (Derives.gr c), refl, refl)
 
 -- The derivation that the lines spell: as many uses of rules as lines, as many labels as it takes.
-pub record Spelt (ss : List Step) (ls : Labels) (q : Labelled) (rest : List Step) (ls′ : Labels) : Type 0 where
+pub record Derived (ss : List Step) (ls : Labels) (q : Labelled) (rest : List Step) (ls′ : Labels) : Type 0 where
   pub derivation : Derives (hyps ls (q .unrestricted)) (hyps ls (q .linear)) (q .goal)
   pub lines : length ss ≡ uses derivation + length rest
   pub labels : length ls′ ≡ length ls + taken derivation
@@ -110,14 +110,14 @@ unlabelled p x fits low room y = (
   refl,
 )
 
-pub spelt : {ss rest : List Step} {ls ls′ : Labels} {q : Labelled} → Spells ss ls q rest ls′ → Fits ls q
-    → Spelt ss ls q rest ls′
-spelt {ls = ls} {q = q} (Spells.closes r) f =
+pub derived : {ss rest : List Step} {ls ls′ : Labels} {q : Labelled} → Spells ss ls q rest ls′ → Fits ls q
+    → Derived ss ls q rest ls′
+derived {ls = ls} {q = q} (Spells.closes r) f =
     let m = makes ls (q .unrestricted) (q .linear) (f .unrestricted) (f .linear) (f .room) r in
     record { derivation = m .0; lines = omega (arith, m .1); labels = omega (arith, m .2); room = f .room }
-spelt {ls = ls} {q = q} (Spells.goes {p = p} r room s) f =
+derived {ls = ls} {q = q} (Spells.goes {p = p} r room s) f =
     let low = lowers r in
-    let c = spelt s (fits-begun p (ext-refl ls) f low room) in
+    let c = derived s (fits-begun p (ext-refl ls) f low room) in
     let y = unlabelled p (ext-refl ls) f low room (c .derivation) in
     let m = makes ls (q .unrestricted) (q .linear) (f .unrestricted) (f .linear) (f .room) r (y .0) in
     record {
@@ -126,11 +126,11 @@ spelt {ls = ls} {q = q} (Spells.goes {p = p} r room s) f =
       labels = omega (arith, m .2, y .2, c .labels, length-begun ls p);
       room = c .room;
     }
-spelt {ls = ls} {q = q} (Spells.parts {ls₁ = ls₁} {p₁ = p₁} {p₂ = p₂} r room₁ s₁ room₂ s₂) f =
+derived {ls = ls} {q = q} (Spells.parts {ls₁ = ls₁} {p₁ = p₁} {p₂ = p₂} r room₁ s₁ room₂ s₂) f =
     let low = lowers r in
     let x = ext-trans (ext-begun ls p₁) (spells-extends s₁ .0) in
-    let c₁ = spelt s₁ (fits-begun p₁ (ext-refl ls) f (low .0) room₁) in
-    let c₂ = spelt s₂ (fits-begun p₂ x f (low .1) room₂) in
+    let c₁ = derived s₁ (fits-begun p₁ (ext-refl ls) f (low .0) room₁) in
+    let c₂ = derived s₂ (fits-begun p₂ x f (low .1) room₂) in
     let y₁ = unlabelled p₁ (ext-refl ls) f (low .0) room₁ (c₁ .derivation) in
     let y₂ = unlabelled p₂ x f (low .1) room₂ (c₂ .derivation) in
     let m = makes ls (q .unrestricted) (q .linear) (f .unrestricted) (f .linear) (f .room) r (y₁ .0) (y₂ .0) in

@@ -1,0 +1,227 @@
+-- A step's plan is what its rule says: the plan on numbers and the rule on formulas, both ways.
+use mathlib.Core.Path.{_≡_, refl, sym, ap, ap₂, subst, subst₂, _∙_}
+use mathlib.Core.List.{[], _∷_}
+use mathlib.Core.Bool.{Bool, true, false}
+use mathlib.Core.Option.{some}
+use Prim.Native.Nat.{ℕ, _^_}
+use Prim.Native.Char.{Char, code}
+use native.Mathlib.Omega.{arith}
+use Rattle.logic.specs.declared.Interval.{Interval}
+use Rattle.logic.specs.Interval.{_⊇_, span}
+use Rattle.logic.specs.Formula.{Formula, atom, says, superset}
+use Rattle.logic.specs.Derives.{Hyp, _⟦_⟧, Judgment, holds, affirms}
+use Rattle.logic.proofs.Tests.{Decides, and-decides, eq-decides, no-truth}
+use Rattle.logic.proofs.Intervals.{contains-decides}
+use Rattle.request.specs.Request.{Step}
+use Rattle.labels.specs.Labels.{member, _∋_, remove}
+use Rattle.labels.proofs.Sets.{only-member}
+use Rattle.steps.specs.declared.Row.{Row}
+use Rattle.steps.specs.declared.Hypothesis.{Hypothesis}
+use Rattle.steps.specs.declared.Goal.{Goal}
+use Rattle.steps.specs.declared.Goal.the-variants.{Holds, Affirms}
+use Rattle.steps.specs.declared.Plan.{Plan}
+use Rattle.steps.specs.declared.Plan.the-variants.{Refused, Closed, One, Two}
+use Rattle.steps.specs.Plans.{is, when, right, affirmed, left, sameAtom, planOf}
+use Rattle.steps.specs.Rule.{Leaves, nothing, premise, premises, from, Rule}
+use Rattle.steps.proofs.Unroll.{letter, made, Unrolls, of-letter, letter-of, hypOf, goalOf, branchOf, leaves}
+
+itself : (b : Bool) → Decides b (b ≡ true)
+itself b = (λ e. e, λ e. e)
+
+-- `names` and `label` tell what a label stands for, on formulas and on numbers
+module _ {row : ℕ → Row} {f : ℕ → Formula} (u : Unrolls row f) (names : ℕ → Hyp) (R D : ℕ) where
+  -- the rule of what a plan leaves, if it is no refusal
+  abbrev pub Ruled : Judgment → Step → Plan → Type 0
+  Ruled g s Refused = Unit {0}
+  Ruled g s Closed = Rule names R D s g nothing
+  Ruled g s (One p) = Rule names R D s g (premise (branchOf u p))
+  Ruled g s (Two p₁ p₂) = Rule names R D s g (premises (branchOf u p₁) (branchOf u p₂))
+
+  ruled-when : (g : Judgment) (s : Step) (b : Bool) (p : Plan) {P : Type 0} → Decides b P → (P → Ruled g s p)
+      → Ruled g s (when b p)
+  unfolding when
+  ruled-when g s true p d h = h (d .0 refl)
+  ruled-when g s false p d h = tt
+
+  module _ (label : ℕ → Hypothesis) (on-R : (k : ℕ) → R ∋ k → names k ≡ hypOf u (label k))
+      (on-D : (k : ℕ) → D ∋ k → names k ≡ hypOf u (label k)) where
+    abbrev rowAt : ℕ → Row
+    rowAt l = row (label l .formula)
+
+    -- L is an atom equal to that of the row
+    record SameAtom (l : ℕ) (x : Row) : Type 0 where
+      atomic : rowAt l .letter ≡ code "a"
+      predicates : rowAt l .a ≡ x .a
+      sessions : rowAt l .b ≡ x .b
+
+    same-decides : (g : Goal) (l : ℕ) (x : Row) → Decides (sameAtom row label R D g l x) (SameAtom l x)
+    same-decides g l x =
+        let d = and-decides (eq-decides (rowAt l .letter) (code "a"))
+        (and-decides (eq-decides (rowAt l .a) (x .a)) (eq-decides (rowAt l .b) (x .b))) in (
+          λ e. let h = d .0 e in record { atomic = h .0; predicates = h .1 .0; sessions = h .1 .1 },
+          λ s. d .1 (s .atomic, (s .predicates, s .sessions)),
+        )
+
+    -- From the plan to the rule
+
+    ruled-left : (j : Judgment) (g : Goal) (s : Step) (l : ℕ) (c : Char) (k : Interval → Row → Plan)
+        → (D ∋ l → names l ≡ made f (code c) (rowAt l) ⟦ label l .interval ⟧
+        → Ruled j s (k (label l .interval) (rowAt l)))
+        → Ruled j s (left row label R D g l c k)
+    unfolding left
+    ruled-left j g s l c k h =
+        ruled-when j s _ _ (and-decides (itself (member D l)) (eq-decides (rowAt l .letter) (code c))) (λ t.
+        h (t .0) (on-D l (t .0)
+        ∙ ap (λ (a : Formula). a ⟦ label l .interval ⟧) (of-letter u (label l .formula) (code c) (t .1))))
+
+    ruled-right : (g : Goal) (s : Step) (c : Char) (k : Row → Interval → Plan)
+        → ((n : ℕ) (i : Interval) → Ruled (holds (made f (code c) (row n)) i) s (k (row n) i))
+        → Ruled (goalOf u g) s (right row label R D g g c k)
+    unfolding right
+    ruled-right (Holds n i) s c k h =
+        ruled-when (holds (f n) i) s _ _ (eq-decides (row n .letter) (code c)) (λ e.
+        subst (λ (a : Formula). Ruled (holds a i) s (k (row n) i)) (sym (of-letter u n (code c) e)) (h n i))
+    ruled-right (Affirms p n i) s c k h = tt
+
+    ruled-affirmed : (g : Goal) (s : Step) (k : ℕ → ℕ → Interval → Plan)
+        → ((p n : ℕ) (i : Interval) → g ≡ Affirms p n i → Ruled (affirms p (f n) i) s (k p n i))
+        → Ruled (goalOf u g) s (affirmed row label R D g g k)
+    unfolding affirmed
+    ruled-affirmed (Holds n i) s k h = tt
+    ruled-affirmed (Affirms p n i) s k h = h p n i refl
+
+    pub plan-rule : (g : Goal) (s : Step) → Ruled (goalOf u g) s (planOf row label R D g s)
+    unfolding planOf
+    plan-rule g (Step.ax l) =
+        ruled-right g (Step.ax l) "a" _ (λ n i. ruled-when _ (Step.ax l) _ Closed
+        (and-decides (eq-decides D (2 ^ l))
+        (and-decides (same-decides g l (row n)) (contains-decides (label l .interval) i)))
+        (λ t. Rule.ax (t .0) (on-D l (only-member D l (t .0)) ∙ ap (λ (a : Formula). a ⟦ label l .interval ⟧)
+        (of-letter u (label l .formula) (code "a") (t .1 .0 .atomic)
+        ∙ ap₂ atom (t .1 .0 .predicates) (t .1 .0 .sessions))) (t .1 .1)))
+    plan-rule g (Step.cp l) = ruled-when (goalOf u g) (Step.cp l) _ _ (itself (member R l)) (λ m.
+        subst (λ (h : Hyp). Rule names R D (Step.cp l) (goalOf u g) (premise (from D (goalOf u g) (h ∷ []))))
+        (on-R l m) (Rule.cp m))
+    plan-rule g (Step.tr s) =
+        ruled-right g (Step.tr s) "t" _ (λ n i. ruled-when _ (Step.tr s) _ _ (itself _) (λ h. Rule.tr h))
+    plan-rule g (Step.tl l) = ruled-left (goalOf u g) g (Step.tl l) l "t" _ (λ m e. Rule.tl m e)
+    plan-rule g Step.or =
+        ruled-right g Step.or "o" _ (λ n i. ruled-when _ Step.or _ Closed (eq-decides D 0) (λ z. Rule.or z))
+    plan-rule g (Step.ol l) = ruled-left (goalOf u g) g (Step.ol l) l "o" _ (λ m e. Rule.ol m e)
+    plan-rule g Step.wr = ruled-right g Step.wr "w" _ (λ n i. Rule.wr)
+    plan-rule g (Step.w1 l) = ruled-left (goalOf u g) g (Step.w1 l) l "w" _ (λ m e. Rule.w1 m e)
+    plan-rule g (Step.w2 l) = ruled-left (goalOf u g) g (Step.w2 l) l "w" _ (λ m e. Rule.w2 m e)
+    plan-rule g Step.p1 = ruled-right g Step.p1 "p" _ (λ n i. Rule.p1)
+    plan-rule g Step.p2 = ruled-right g Step.p2 "p" _ (λ n i. Rule.p2)
+    plan-rule g (Step.pl l) = ruled-left (goalOf u g) g (Step.pl l) l "p" _ (λ m e. Rule.pl m e)
+    plan-rule g (Step.ll l s j) =
+        ruled-left (goalOf u g) g (Step.ll l s j) l "l" _ (λ m e. ruled-when (goalOf u g) (Step.ll l s j) _ _
+        (and-decides (contains-decides (label l .interval) j) (itself _)) (λ t. Rule.ll m e (t .0) (t .1)))
+    plan-rule g (Step.ul l j) =
+        ruled-left (goalOf u g) g (Step.ul l j) l "u" _ (λ m e. ruled-when (goalOf u g) (Step.ul l j) _ _
+        (contains-decides (label l .interval) j) (λ c. Rule.ul m e c))
+    plan-rule g Step.br =
+        ruled-right g Step.br "b" _ (λ n i. ruled-when _ Step.br _ _ (eq-decides D 0) (λ z. Rule.br z))
+    plan-rule g (Step.bl l) = ruled-left (goalOf u g) g (Step.bl l) l "b" _ (λ m e. Rule.bl m e)
+    plan-rule g Step.hr = ruled-right g Step.hr "h" _ (λ n i. Rule.hr)
+    plan-rule g (Step.hl l) = ruled-left (goalOf u g) g (Step.hl l) l "h" _ (λ m e. Rule.hl m e)
+    plan-rule g Step.sr = ruled-right g Step.sr "s" _ (λ n i. Rule.sr)
+    plan-rule g Step.af = ruled-affirmed g Step.af _ (λ p n i e. Rule.af)
+    plan-rule g (Step.sl l) =
+        ruled-affirmed g (Step.sl l) _ (λ p n j q. ruled-left (affirms p (f n) j) g (Step.sl l) l "s" _ (λ m e.
+        ruled-when (affirms p (f n) j) (Step.sl l) _ _
+        (and-decides (eq-decides (rowAt l .a) p) (contains-decides (label l .interval) j)) (λ t.
+        subst (λ (y : Judgment). Rule names R D (Step.sl l) (affirms p (f n) j)
+        (premise (from (remove D l) y (f (rowAt l .b) ⟦ label l .interval ⟧ ∷ [])))) (sym (ap (goalOf u) q))
+        (Rule.sl m (e ∙ ap (λ (k : ℕ). says k (f (rowAt l .b)) ⟦ label l .interval ⟧) (t .0)) (t .1)))))
+    plan-rule g Step.gr = ruled-right g Step.gr "g" _ (λ n i. ruled-when _ Step.gr _ Closed
+        (and-decides (eq-decides D 0) (contains-decides (span (row n .a) (row n .b)) (span (row n .c) (row n .d))))
+        (λ t. Rule.gr (t .0) (t .1)))
+
+    -- From the rule to the plan
+
+    passes : (b : Bool) (p : Plan) {P : Type 0} {w : Leaves} → Decides b P → P → leaves u p ≡ some w
+        → leaves u (when b p) ≡ some w
+    unfolding when
+    passes true p d h e = e
+    passes false p d h e = absurd (no-truth (d .1 h))
+
+    -- a left step at a label that stands for what the rule asks
+    left-plan : (g : Goal) (l : ℕ) (c : Char) (k : Interval → Row → Plan) {a : Formula} {i : Interval} {w : Leaves}
+        → D ∋ l → names l ≡ a ⟦ i ⟧ → letter a ≡ code c
+        → (made f (letter a) (rowAt l) ≡ a → label l .interval ≡ i
+        → leaves u (k (label l .interval) (rowAt l)) ≡ some w)
+        → leaves u (left row label R D g l c k) ≡ some w
+    unfolding left
+    left-plan g l c k {a} {i} m e q h =
+        let x : hypOf u (label l) ≡ a ⟦ i ⟧ = sym (on-D l m) ∙ e in
+        let o = letter-of u (label l .formula) (ap (λ (y : Hyp). y .formula) x) in
+        passes _ _ (and-decides (itself (member D l)) (eq-decides (rowAt l .letter) (code c))) (m, o .0 ∙ q)
+        (h (o .1) (ap (λ (y : Hyp). y .interval) x))
+
+    -- a right step at a goal without affirms
+    right-plan : (g : Goal) (c : Char) (k : Row → Interval → Plan) {a : Formula} {i : Interval} {w : Leaves}
+        → holds a i ≡ goalOf u g → letter a ≡ code c
+        → ((n : ℕ) → made f (letter a) (row n) ≡ a → leaves u (k (row n) i) ≡ some w)
+        → leaves u (right row label R D g g c k) ≡ some w
+    unfolding right
+    right-plan (Holds n j) c k {a} {i} {w} e q h =
+        let o = letter-of u n {a = a} (cc) in
+        let v : i ≡ j = cc in
+        passes _ _ (eq-decides (row n .letter) (code c)) (o .0 ∙ q)
+        (subst (λ (x : Interval). leaves u (k (row n) x) ≡ some w) v (h n (o .1)))
+    right-plan (Affirms p n j) c k e q h = let z : _≡_ {A = ℕ} 0 1 = cc in absurd (omega arith)
+
+    superset-inv : {i j k l : Interval} → superset i j ≡ superset k l → (i ≡ k) × (j ≡ l)
+    superset-inv e = (cc, cc)
+
+    pub rule-plan : {s : Step} {y : Judgment} {w : Leaves} → Rule names R D s y w → (g : Goal) → y ≡ goalOf u g
+        → leaves u (planOf row label R D g s) ≡ some w
+    unfolding planOf affirmed
+    rule-plan (Rule.ax {l = l} {p = p} {s = t} {i = i} {j = j} q e c) g y =
+        let x : hypOf u (label l) ≡ atom p t ⟦ i ⟧ = sym (on-D l (only-member D l q)) ∙ e in
+        let o = letter-of u (label l .formula) (ap (λ (h : Hyp). h .formula) x) in
+        let v : i ≡ label l .interval = sym (ap (λ (h : Hyp). h .interval) x) in
+        right-plan g "a" _ y refl (λ n z.
+        passes _ Closed (and-decides (eq-decides D (2 ^ l))
+        (and-decides (same-decides g l (row n)) (contains-decides (label l .interval) j))) (
+          q,
+          (
+            record { atomic = o .0; predicates = cc (o .1); sessions = cc (o .1) },
+            subst (λ (w : Interval). w ⊇ j) v c,
+          ),
+        ) refl)
+    rule-plan (Rule.cp {l = l} m) g y = passes _ _ (itself (member R l)) m (cc (on-R l m))
+    rule-plan (Rule.tr h) g y = right-plan g "t" _ y refl (λ n q. passes _ _ (itself _) h (cc))
+    rule-plan (Rule.tl {l = l} m e) g y = left-plan g l "t" _ m e refl (λ o v. cc)
+    rule-plan (Rule.or z) g y = right-plan g "o" _ y refl (λ n q. passes _ Closed (eq-decides D 0) z refl)
+    rule-plan (Rule.ol {l = l} m e) g y = left-plan g l "o" _ m e refl (λ o v. cc)
+    rule-plan Rule.wr g y = right-plan g "w" _ y refl (λ n q. cc)
+    rule-plan (Rule.w1 {l = l} m e) g y = left-plan g l "w" _ m e refl (λ o v. cc)
+    rule-plan (Rule.w2 {l = l} m e) g y = left-plan g l "w" _ m e refl (λ o v. cc)
+    rule-plan Rule.p1 g y = right-plan g "p" _ y refl (λ n q. cc)
+    rule-plan Rule.p2 g y = right-plan g "p" _ y refl (λ n q. cc)
+    rule-plan (Rule.pl {l = l} m e) g y = left-plan g l "p" _ m e refl (λ o v. cc)
+    rule-plan (Rule.ll {l = l} {j = j} m e c h) g y = left-plan g l "l" _ m e refl (λ o v.
+        passes _ _ (and-decides (contains-decides (label l .interval) j) (itself _))
+        (subst (λ (w : Interval). w ⊇ j) (sym v) c, h) (cc))
+    rule-plan (Rule.ul {l = l} {j = j} m e c) g y = left-plan g l "u" _ m e refl (λ o v.
+        passes _ _ (contains-decides (label l .interval) j) (subst (λ (w : Interval). w ⊇ j) (sym v) c) (cc))
+    rule-plan (Rule.br z) g y = right-plan g "b" _ y refl (λ n q. passes _ _ (eq-decides D 0) z (cc))
+    rule-plan (Rule.bl {l = l} m e) g y = left-plan g l "b" _ m e refl (λ o v. cc)
+    rule-plan Rule.hr g y = right-plan g "h" _ y refl (λ n q. cc)
+    rule-plan (Rule.hl {l = l} m e) g y = left-plan g l "h" _ m e refl (λ o v. cc)
+    rule-plan Rule.sr g y = right-plan g "s" _ y refl (λ n q. cc)
+    rule-plan Rule.af (Holds n j) y = let z : _≡_ {A = ℕ} 0 1 = cc in absurd (omega arith)
+    rule-plan Rule.af (Affirms p n j) y = cc
+    rule-plan (Rule.sl m e c) (Holds n j) y = let z : _≡_ {A = ℕ} 0 1 = cc in absurd (omega arith)
+    rule-plan (Rule.sl {l = l} {j = i} m e c) (Affirms p n j) y =
+        left-plan (Affirms p n j) l "s" _ m e refl (λ o v.
+        let x : i ≡ j = cc in
+        passes _ _ (and-decides (eq-decides (rowAt l .a) p) (contains-decides (label l .interval) j))
+        (cc, subst₂ (λ (a b : Interval). a ⊇ b) (sym v) x c) (cc))
+    rule-plan (Rule.gr z c) g y = right-plan g "g" _ y refl (λ n q.
+        let t = superset-inv q in
+        passes _ Closed
+        (and-decides (eq-decides D 0) (contains-decides (span (row n .a) (row n .b)) (span (row n .c) (row n .d))))
+        (z, subst₂ (λ (a b : Interval). a ⊇ b) (sym (t .0)) (sym (t .1)) c) refl)
