@@ -58,7 +58,7 @@ module _ {row : ℕ → Row} {formula : ℕ → Formula} (u : Unrolls row formul
           ap (named (ls ++ (hypOf u h ∷ []))) z ∙ getD-append-seam ls (hypOf u h) [] noHyp
           ∙ ap (hypOf u) (sym (table .reads t n h (s .good) (omega arith)) ∙ ap (held (put t n h)) (sym z′))
 
-  shows-puts : (t : T) (n : ℕ) (ls : Labels) (hs : List Hypothesis) → Shows t n ls
+  pub shows-puts : (t : T) (n : ℕ) (ls : Labels) (hs : List Hypothesis) → Shows t n ls
       → length (grown ls (map (hypOf u) hs)) ≤ maxLabels
       → Shows (puts put t n hs) (n + length hs) (grown ls (map (hypOf u) hs))
   shows-puts t n ls [] s room = subst (λ (m : ℕ). Shows t m ls) (omega arith) s
