@@ -5,13 +5,11 @@ use mathlib.Core.Option.{none, some}
 use Prim.Native.Nat.{ℕ}
 use Rattle.request.specs.Request.{Request}
 use Rattle.request.specs.Read.{requestOf}
-use Rattle.ledger.specs.declared.Answer.{Answer}
-use Rattle.ledger.specs.declared.Answer.the-variants.{Refused}
 use Rattle.ledger.specs.Ledger.{Ledger}
 use Rattle.ledger.specs.Checks.{Refusal, Check, first, checksOf}
-use Rattle.ledger.specs.Calls.{Reply, accept, call}
+use Rattle.ledger.specs.Calls.{Reply, Told, accept, call, says}
 use Rattle.ledger.specs.Statements.{Pass, FirstFails, here, later, IsAccepted}
-use Rattle.ledger.proofs.Answers.{some-none, some-inj, Does, refuses, accepts, does, accept-accepts, refusalOf}
+use Rattle.ledger.proofs.Answers.{some-none, some-inj, Does, refuses, accepts, does, accept-accepts, refusalOf, heard}
 use Rattle.demands.specs.Demands.{Demand1, Accepts}
 
 pass-first : (cs : List Check) → Pass cs → first cs ≡ none
@@ -31,7 +29,7 @@ unfolding first
 fails-first here = refl
 fails-first (later h) = fails-first h
 
-refused-not : (a : Answer) {n k : ℕ} → IsAccepted a → a ≡ Refused n k → ⊥
+refused-not : (a : Told) {n k : ℕ} → IsAccepted a → a ≡ Told.no n k → ⊥
 refused-not a x e = subst IsAccepted e x
 
 pub demand-1 : (t : Ledger) (bytes : List ℕ) → Demand1 t bytes
@@ -39,11 +37,11 @@ demand-1 t b = go (does t b)
   where
     go : Does t b → Demand1 t b
     go (refuses f e q) =
-        let a = ap (λ (d : Reply). d .answer) q in
+        let a = ap heard q in
         record {
           refused = λ n k. (
             λ h. first-fails (checksOf t b) (e ∙ ap some (ap refusalOf (sym a ∙ h))),
-            λ h. a ∙ ap (λ (x : Refusal). Refused (x .number) (x .step)) (some-inj (sym e ∙ fails-first h)),
+            λ h. a ∙ ap (λ (x : Refusal). Told.no (x .number) (x .step)) (some-inj (sym e ∙ fails-first h)),
           );
           stays = λ n k h. ap (λ (d : Reply). d .ledger) q;
           accepted =
@@ -65,5 +63,5 @@ pub call-accepts : Accepts
 call-accepts t b a = go (does t b)
   where
     go : Does t b → (r : Request) × (requestOf b ≡ some r) × (call t b ≡ accept t r)
-    go (refuses f e q) = absurd (subst IsAccepted (ap (λ (d : Reply). d .answer) q) a)
+    go (refuses f e q) = absurd (subst IsAccepted (ap heard q) a)
     go (accepts r e p c q) = (r, e, q)

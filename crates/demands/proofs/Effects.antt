@@ -17,7 +17,7 @@ use Rattle.request.specs.Read.{requestOf}
 use Rattle.ledger.specs.declared.Credential.{Credential}
 use Rattle.ledger.specs.Ledger.{Ledger, empty, byKind, isKind, find, withoutSerial, held, spend}
 use Rattle.ledger.specs.Checks.{any}
-use Rattle.ledger.specs.Calls.{Reply, accept, call}
+use Rattle.ledger.specs.Calls.{Reply, told, accept, call}
 use Rattle.ledger.proofs.Answers.{some-inj}
 use Rattle.ledger.specs.History.{History}
 use Rattle.ledger.proofs.Walk.{Keeps, walk}
@@ -142,7 +142,7 @@ find-spend lo cs (h ∷ hs) m r = go (h .kind) (λ ds. find-spend lo ds hs m)
         ∙ ap (λ (b : Bool). Found (b || spent hs m) none (find cs m)) (eqb-sym m (h .serial))
     go Unrestricted ih = ih cs r
 
-effect : (t : Ledger) → Bounded t → (r : Request) → EffectOf t r (accept t r .answer) (accept t r .ledger)
+effect : (t : Ledger) → Bounded t → (r : Request) → EffectOf t r (told (accept t r .answer)) (accept t r .ledger)
 unfolding accept
 effect t b (word l) = record { answer = refl; ledger = refl }
 effect t b (issue k n i) = record {
@@ -173,7 +173,7 @@ effects t reached bytes r e a =
     let c = call-accepts t bytes a in
     let same : c .0 ≡ r = some-inj (sym (c .1) ∙ e) in
     let b : Bounded t = subst Bounded (reached .gives) (bounded (reached .calls)) in
-    subst (λ (d : Reply). EffectOf t r (d .answer) (d .ledger)) (sym (c .2 ∙ ap (accept t) same)) (effect t b r)
+    subst (λ (d : Reply). EffectOf t r (told (d .answer)) (d .ledger)) (sym (c .2 ∙ ap (accept t) same)) (effect t b r)
 
 -- Serials, in order
 

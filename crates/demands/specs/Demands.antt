@@ -24,12 +24,10 @@ use Rattle.steps.specs.Check.{maxLabels}
 use Rattle.steps.specs.Writable.{Proper, Minutes}
 use Rattle.steps.specs.Spells.{Labels, Labelled, Spells, Refused as StepsRefused}
 use Rattle.ledger.specs.declared.Credential.{Credential}
-use Rattle.ledger.specs.declared.Answer.{Answer}
-use Rattle.ledger.specs.declared.Answer.the-variants.{Accepted, Counted, Refused}
 use Rattle.ledger.specs.Ledger.{Ledger, empty, formula, isKind, held}
 use Rattle.ledger.specs.Checks.{Refusal, Check, any, missing, dead, twice, labelsOf, steps}
 use Rattle.ledger.specs.Checks.{checksOf}
-use Rattle.ledger.specs.Calls.{accept, call, after}
+use Rattle.ledger.specs.Calls.{Told, ok, accept, call, says, after}
 use Rattle.ledger.specs.History.{Event, History, historyOf, issued, withdrawn}
 use Rattle.ledger.specs.Statements.{Pass, FirstFails, IsAccepted}
 
@@ -44,11 +42,11 @@ pub record Reached (t : Ledger) : Type 0 where
 pub record Demand1 (t : Ledger) (bytes : List ℕ) : Type 0 where
   -- refused with these two numbers exactly where they are the first check's that fails
   pub refused : (n k : ℕ)
-      → (call t bytes .answer ≡ Refused n k) ↔ FirstFails (record { number = n; step = k }) (checksOf t bytes)
+      → (says t bytes ≡ Told.no n k) ↔ FirstFails (record { number = n; step = k }) (checksOf t bytes)
   -- and the ledger is as before
-  pub stays : (n k : ℕ) → call t bytes .answer ≡ Refused n k → call t bytes .ledger ≡ t
+  pub stays : (n k : ℕ) → says t bytes ≡ Told.no n k → call t bytes .ledger ≡ t
   -- accepted exactly where no check fails
-  pub accepted : IsAccepted (call t bytes .answer) ↔ Pass (checksOf t bytes)
+  pub accepted : IsAccepted (says t bytes) ↔ Pass (checksOf t bytes)
 
 -- DEMAND 2. "A booking is accepted exactly when the other checks pass and its steps are a derivation; every derivation
 -- within the limits has step lines that pass."
@@ -74,7 +72,7 @@ pub record SoundFor (t : Ledger) (b : Booking) : Type 0 where
 
 abbrev pub Soundness : Type 0
 Soundness = (t : Ledger) → Reached t → (bytes : List ℕ) (b : Booking) → requestOf bytes ≡ some (book b)
-    → IsAccepted (call t bytes .answer) → SoundFor t b
+    → IsAccepted (says t bytes) → SoundFor t b
 
 -- Completeness, down to bytes: "Its limits there: 32 coupons, 256 uses of rules, 64 for coupons plus labels taken,
 -- minutes in range, wordings of this till."
@@ -95,18 +93,16 @@ pub record WithinLimits {R D : List Hyp} {g : Judgment} (coupons : ℕ) (x : Der
   pub labels : coupons + taken x ≤ maxLabels
   pub minutes : Minutes x
 
--- an answer past the checks up to 42: if it is a refusal, it is 22 or 23
-abbrev pub PastSteps : Answer → Type 0
-PastSteps (Accepted n) = Unit {0}
-PastSteps (Counted o s p) = Unit {0}
-PastSteps (Refused n k) = (n ≡ 22) ⊎ (n ≡ 23)
+-- past the checks up to 42: accepted with the next serial, or refused by 22 or 23
+abbrev pub PastSteps : Ledger → Told → Type 0
+PastSteps t a = (a ≡ ok (t .next ∷ [])) ⊎ (a ≡ Told.no 22 0) ⊎ (a ≡ Told.no 23 0)
 
 -- every derivation within the limits has step lines with which the request's bytes pass every check up to 42
 abbrev pub Completeness : Type 0
 Completeness = (t : Ledger) → Reached t → (now n : ℕ) (i : Interval) (hs : List ℕ) → May t now n i hs
     → (x : Derivation t (held (t .live) hs) n i) → WithinLimits (length hs) x
-    → (ss : List Step) × (length ss ≡ uses x) × PastSteps (call t
-    (write (book (record { now = now; formula = n; interval = i; holds = hs; steps = ss }))) .answer)
+    → (ss : List Step) × (length ss ≡ uses x) × PastSteps t (says t
+    (write (book (record { now = now; formula = n; interval = i; holds = hs; steps = ss }))))
 
 -- Exactly
 
@@ -144,7 +140,7 @@ OnlySteps (some f) = (40 ≤ f .number) × (f .number ≤ 42)
 
 pub record ExactlyFor (t : Ledger) (bytes : List ℕ) (b : Booking) : Type 0 where
   -- accepted exactly when the other checks pass and its steps are a derivation
-  pub accepted : IsAccepted (call t bytes .answer) ↔ (Every OnlySteps (checksOf t bytes) × StepsDerive t b)
+  pub accepted : IsAccepted (says t bytes) ↔ (Every OnlySteps (checksOf t bytes) × StepsDerive t b)
   -- 40 to 42 are the first fault of the steps, with its step
   pub stopped : (c k : ℕ) → (stepsOf t b ≡ some (record { number = c; step = k })) ↔ StepsStop t b c k
 
@@ -156,11 +152,11 @@ Exactness = (t : Ledger) → Reached t → (bytes : List ℕ) (b : Booking) → 
 
 -- an accepted call answers and leaves what `accept` says of the request that its bytes are
 abbrev pub Accepts : Type 0
-Accepts = (t : Ledger) (bytes : List ℕ) → IsAccepted (call t bytes .answer)
+Accepts = (t : Ledger) (bytes : List ℕ) → IsAccepted (says t bytes)
     → (r : Request) × (requestOf bytes ≡ some r) × (call t bytes ≡ accept t r)
 
--- "DEMAND 3. For every list of calls from an empty till, for every session and minute: open + shut + placed + withdrawn
--- = issued, counted from the accepted sheets and their answers alone."
+-- DEMAND 3. "For every list of calls from an empty till, for every session and minute: open + shut + placed +
+-- withdrawn = issued, counted from the accepted sheets and their answers alone."
 
 -- after the calls, a tally of the session and the minute answers three figures that add up with what was withdrawn to
 -- what was issued
@@ -168,7 +164,7 @@ pub record AddsUp (calls : List (List ℕ)) (s m : ℕ) : Type 0 where
   pub openSeats : ℕ
   pub shutSeats : ℕ
   pub placed : ℕ
-  pub answer : call (after empty calls) (write (tally s m)) .answer ≡ Counted openSeats shutSeats placed
+  pub answer : says (after empty calls) (write (tally s m)) ≡ ok (openSeats ∷ shutSeats ∷ placed ∷ [])
   pub sum : openSeats + shutSeats + placed + withdrawn s (historyOf calls) ≡ issued s (historyOf calls)
 
 abbrev pub Demand3 : Type 0

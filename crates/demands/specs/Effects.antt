@@ -18,15 +18,15 @@ use Rattle.ledger.specs.declared.Answer.{Answer}
 use Rattle.ledger.specs.declared.Answer.the-variants.{Accepted, Counted, Refused}
 use Rattle.ledger.specs.Ledger.{Ledger, isKind, find, held}
 use Rattle.ledger.specs.Checks.{any}
-use Rattle.ledger.specs.Calls.{openSeats, shutSeats, placed, withLine, call}
+use Rattle.ledger.specs.Calls.{Told, ok, openSeats, shutSeats, placed, withLine, call, says}
 use Rattle.ledger.specs.History.{Event, History, historyOf}
 use Rattle.ledger.specs.Statements.{IsAccepted}
 use Rattle.demands.specs.Demands.{Reached}
 
 -- the new credential has the next serial, and the serial after it comes next
-pub record Gives (t : Ledger) (k : Kind) (n : ℕ) (i : Interval) (gone : ℕ → Bool) (a : Answer) (t′ : Ledger) : Type 0
+pub record Gives (t : Ledger) (k : Kind) (n : ℕ) (i : Interval) (gone : ℕ → Bool) (a : Told) (t′ : Ledger) : Type 0
   where
-    pub answer : a ≡ Accepted (t .next)
+    pub answer : a ≡ ok (t .next ∷ [])
     pub lines : t′ .lines ≡ t .lines
     pub next : t′ .next ≡ t .next + 1
     -- every serial: the new one, one that is gone, or as before
@@ -35,8 +35,8 @@ pub record Gives (t : Ledger) (k : Kind) (n : ℕ) (i : Interval) (gone : ℕ �
       | false ↦ elim (gone m) as (λ z. Option Credential) [ true ↦ none | false ↦ find (t .live) m ]
     ]
 
-pub record Removes (t : Ledger) (n : ℕ) (a : Answer) (t′ : Ledger) : Type 0 where
-  pub answer : a ≡ Accepted n
+pub record Removes (t : Ledger) (n : ℕ) (a : Told) (t′ : Ledger) : Type 0 where
+  pub answer : a ≡ ok (n ∷ [])
   pub lines : t′ .lines ≡ t .lines
   pub next : t′ .next ≡ t .next
   pub live : (m : ℕ) → find (t′ .live) m ≡ elim (eqb m n) as (λ z. Option Credential) [
@@ -44,12 +44,12 @@ pub record Removes (t : Ledger) (n : ℕ) (a : Answer) (t′ : Ledger) : Type 0 
     | false ↦ find (t .live) m
   ]
 
-pub record Words (t : Ledger) (l : Line) (a : Answer) (t′ : Ledger) : Type 0 where
-  pub answer : a ≡ Accepted (length (t .lines))
+pub record Words (t : Ledger) (l : Line) (a : Told) (t′ : Ledger) : Type 0 where
+  pub answer : a ≡ ok (length (t .lines) ∷ [])
   pub ledger : t′ ≡ withLine t l
 
-pub record Tallies (t : Ledger) (s m : ℕ) (a : Answer) (t′ : Ledger) : Type 0 where
-  pub answer : a ≡ Counted (openSeats t s m) (shutSeats t s m) (placed t s)
+pub record Tallies (t : Ledger) (s m : ℕ) (a : Told) (t′ : Ledger) : Type 0 where
+  pub answer : a ≡ ok (openSeats t s m ∷ shutSeats t s m ∷ placed t s ∷ [])
   pub ledger : t′ ≡ t
 
 -- an issue takes nothing away
@@ -60,7 +60,7 @@ nothing m = false
 unfoldable pub spent : List Credential → ℕ → Bool
 spent hs m = any (λ c. isKind Linear (c .kind) && eqb (c .serial) m) hs
 
-abbrev pub EffectOf : Ledger → Request → Answer → Ledger → Type 0
+abbrev pub EffectOf : Ledger → Request → Told → Ledger → Type 0
 EffectOf t (word l) = Words t l
 EffectOf t (issue k n i) = Gives t k n i nothing
 EffectOf t (withdraw n) = Removes t n
@@ -69,7 +69,7 @@ EffectOf t (tally s m) = Tallies t s m
 
 abbrev pub Effects : Type 0
 Effects = (t : Ledger) → Reached t → (bytes : List ℕ) (r : Request) → requestOf bytes ≡ some r
-    → IsAccepted (call t bytes .answer) → EffectOf t r (call t bytes .answer) (call t bytes .ledger)
+    → IsAccepted (says t bytes) → EffectOf t r (says t bytes) (call t bytes .ledger)
 
 -- "Serials run from 1, given only by accepted calls and never given again": of a list of calls, those that issues and
 -- bookings answered, the latest first

@@ -14,12 +14,11 @@ use Rattle.request.specs.Read.{requestOf}
 use Rattle.steps.specs.Check.{Outcome, done, stopped, checkOf}
 use Rattle.steps.proofs.Outcomes.{Sane, check-sane}
 use Rattle.ledger.specs.declared.Credential.{Credential}
-use Rattle.ledger.specs.declared.Answer.{Answer}
-use Rattle.ledger.specs.declared.Answer.the-variants.{Accepted, Counted, Refused}
+use Rattle.ledger.specs.declared.Answer.the-variants.{Refused}
 use Rattle.ledger.specs.Ledger.{Ledger, row, isNone}
 use Rattle.ledger.specs.Checks.{Refusal, Check, _if_, first, readLabel, writeLabel, verdict, steps, checks}
 use Rattle.ledger.specs.Checks.{readChecks, checksOf}
-use Rattle.ledger.specs.Calls.{Reply, accept, decide, call}
+use Rattle.ledger.specs.Calls.{Reply, Told, ok, told, accept, decide, call}
 use Rattle.ledger.specs.Statements.{Pass, IsAccepted, Refusals, RefusalLeaves}
 
 abbrev IsSome : {A : Type 0} → Option A → Type 0
@@ -64,7 +63,7 @@ does t b = go (first (checksOf t b)) refl (requestOf b) refl
     go none e none q =
         absurd (no-truth (sym (if-none 2 _ (first-passes (checksOf t b) e .1 .0)) ∙ ap isNone q))
 
-pub accept-accepts : (t : Ledger) (r : Request) → IsAccepted (accept t r .answer)
+pub accept-accepts : (t : Ledger) (r : Request) → IsAccepted (told (accept t r .answer))
 unfolding accept
 accept-accepts t (word l) = tt
 accept-accepts t (issue k n i) = tt
@@ -145,11 +144,14 @@ first-proper [] p e = absurd (some-none (sym e))
 first-proper (none ∷ cs) p e = first-proper cs (p .1) e
 first-proper (some g ∷ cs) p e = subst (λ (x : Refusal). Stepped (x .number) (x .step)) (some-inj e) (p .0)
 
--- the refusal of an answer
-abbrev pub refusalOf : Answer → Refusal
-refusalOf (Accepted n) = record { number = 0; step = 0 }
-refusalOf (Counted o s p) = record { number = 0; step = 0 }
-refusalOf (Refused n k) = record { number = n; step = k }
+-- the two numbers of a refusal
+abbrev pub refusalOf : Told → Refusal
+refusalOf (ok values) = record { number = 0; step = 0 }
+refusalOf (Told.no n k) = record { number = n; step = k }
+
+-- what a reply says
+abbrev pub heard : Reply → Told
+heard d = told (d .answer)
 
 pub refusals : Refusals
 refusals t b n k h = go (does t b)
@@ -159,9 +161,7 @@ refusals t b n k h = go (does t b)
 
     go : Does t b → RefusalLeaves t b n k
     go (refuses f e q) =
-        let r : f ≡ record { number = n; step = k } =
-        ap refusalOf (sym (ap (λ (d : Reply). d .answer) q) ∙ h) in
+        let r : f ≡ record { number = n; step = k } = ap refusalOf (sym (ap heard q) ∙ h) in
         leaves (ap (λ (d : Reply). d .ledger) q)
         (subst (λ (x : Refusal). Stepped (x .number) (x .step)) r (first-proper (checksOf t b) (all-proper t b) e))
-    go (accepts r o p c q) =
-        absurd (subst IsAccepted (sym (ap (λ (d : Reply). d .answer) q) ∙ h) (accept-accepts t r))
+    go (accepts r o p c q) = absurd (subst IsAccepted (sym (ap heard q) ∙ h) (accept-accepts t r))

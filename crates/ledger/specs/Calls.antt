@@ -96,6 +96,10 @@ decide t none none = reply (Refused 2 0) t  -- does not occur: check 2 has faile
 unfoldable pub call : Ledger → List ℕ → Reply
 call t bytes = decide t (first (checksOf t bytes)) (requestOf bytes)
 
+-- what a call answers, in document 01's values
+abbrev pub says : Ledger → List ℕ → Told
+says t bytes = told (call t bytes .answer)
+
 -- A list of calls, each at the ledger that the one before left: the ledger after it, and the answers.
 unfoldable pub after : Ledger → List (List ℕ) → Ledger
 after t [] = t

@@ -3,11 +3,9 @@ use mathlib.Core.Path.{_≡_}
 use mathlib.Core.List.{List, [], _∷_}
 use mathlib.Core.Option.{none, some}
 use Prim.Native.Nat.{ℕ, _≤_, _<_}
-use Rattle.ledger.specs.declared.Answer.{Answer}
-use Rattle.ledger.specs.declared.Answer.the-variants.{Accepted, Counted, Refused}
 use Rattle.ledger.specs.Ledger.{Ledger}
 use Rattle.ledger.specs.Checks.{Refusal, Check}
-use Rattle.ledger.specs.Calls.{call}
+use Rattle.ledger.specs.Calls.{Told, ok, call, says}
 
 -- every check passes
 abbrev pub Pass : List Check → Type 0
@@ -19,11 +17,10 @@ pub data FirstFails (f : Refusal) : List Check → Type 0 where
   here : {cs : List Check} → FirstFails f (some f ∷ cs)
   later : {cs : List Check} → FirstFails f cs → FirstFails f (none ∷ cs)
 
--- an answer that is no refusal
-abbrev pub IsAccepted : Answer → Type 0
-IsAccepted (Accepted n) = Unit {0}
-IsAccepted (Counted o s p) = Unit {0}
-IsAccepted (Refused n k) = ⊥
+-- no refusal
+abbrev pub IsAccepted : Told → Type 0
+IsAccepted (ok values) = Unit {0}
+IsAccepted (Told.no n k) = ⊥
 
 -- For every ledger and all bytes: "Any refusal returns these two numbers and the till as before", the second "its step
 -- (from 1) for 40 to 42, else 0".
@@ -34,4 +31,4 @@ pub record RefusalLeaves (t : Ledger) (bytes : List ℕ) (n k : ℕ) : Type 0 wh
   pub step : 40 ≤ n → n ≤ 42 → 1 ≤ k
 
 abbrev pub Refusals : Type 0
-Refusals = (t : Ledger) (bytes : List ℕ) (n k : ℕ) → call t bytes .answer ≡ Refused n k → RefusalLeaves t bytes n k
+Refusals = (t : Ledger) (bytes : List ℕ) (n k : ℕ) → says t bytes ≡ Told.no n k → RefusalLeaves t bytes n k
