@@ -8,7 +8,7 @@ use native.Mathlib.Omega.{arith}
 use native.Mathlib.Nat.{pow-suc}
 use lib.Dec.{eqb, leb, ltb}
 use lib.ListN.{length, length-append}
-use borrow.Author.Tests.{lt-ltb, le-ltb, ltb-true, ltb-false, le-leb, lt-leb, eq-eqb, ne-eqb, eqb-true, eqb-false}
+use borrow.Author.Tests.{lt-ltb, le-ltb, ltb-true, ltb-false, lt-leb, eq-eqb, ne-eqb, eqb-true, eqb-false}
 use Rattle.logic.specs.Multiset.{Every}
 use Rattle.logic.proofs.Tests.{and-decides, le-decides}
 use Rattle.request.specs.Range.{Range}
@@ -16,8 +16,6 @@ use Rattle.request.specs.Text.{andThen, reads, decimalDigit, hexDigit, d
 use Rattle.request.specs.Write.{written, digits, hexByte, hexWritten, hexDigits}
 use Rattle.request.specs.InRange.{_∈_, LabelSet}
 use Rattle.request.proofs.Gives.{Gives, nothing, just, gives-then, gives-so, gives-if}
-
--- Bytes
 
 -- all bytes from lo on
 abbrev pub Plain : ℕ → List ℕ → Type 0
@@ -39,18 +37,34 @@ record Digit (digit : ℕ → Option ℕ) (base : ℕ) (byte : ℕ → ℕ) : Ty
   only : (x : ℕ) → Gives (λ d. (d < base) × (byte d ≡ x)) (digit x)
   plain : (d : ℕ) → 48 ≤ byte d
 
-between : (a b x : ℕ) → (leb a x && leb x b) ≡ true → (a ≤ x) × (x ≤ b)
-between a b x e = and-decides (le-decides a x) (le-decides x b) .0 e
+gives-between : {A : Type 0} {P : A → Type 0} (a b x : ℕ) {y z : Option A} → (a ≤ x → x ≤ b → Gives P y)
+    → Gives P z → Gives P (elim (leb a x && leb x b) as (λ t. Option A) [ true ↦ y | false ↦ z ])
+gives-between a b x f g =
+    gives-if (leb a x && leb x b) (λ e. let h = and-decides (le-decides a x) (le-decides x b) .0 e in f (h .0) (h .1))
+    (λ e. g)
 
 is-between : (a b x : ℕ) → a ≤ x → x ≤ b → (leb a x && leb x b) ≡ true
 is-between a b x h k = and-decides (le-decides a x) (le-decides x b) .1 (h, k)
 
+not-between : (a b x : ℕ) → b < x → (leb a x && leb x b) ≡ false
+not-between a b x h = go (leb a x) (leb x b) (lt-leb x b h)
+  where
+    go : (p q : Bool) → q ≡ false → (p && q) ≡ false
+    go true q e = e
+    go false q e = refl
+
+-- what a test that passes leaves, and one that fails
+if-true : {A : Type 0} {b : Bool} {x : A} (y : A) → b ≡ true → elim b as (λ z. A) [ true ↦ x | false ↦ y ] ≡ x
+if-true y e = rw e
+
+if-false : {A : Type 0} {b : Bool} (x : A) {y : A} → b ≡ false → elim b as (λ z. A) [ true ↦ x | false ↦ y ] ≡ y
+if-false x e = rw e
+
 decimal-digit : Digit decimalDigit 10 (48 +_)
 unfolding decimalDigit
 decimal-digit = record {
-  back = λ d h. let e : 48 + d - 48 ≡ d = omega arith in
-      rw (is-between 48 57 (48 + d) (omega arith) (omega arith), e, decimalDigit);
-  only = λ x. gives-if (leb 48 x && leb x 57) (λ e. just (omega (arith, between 48 57 x e))) (λ e. nothing);
+  back = λ d h. if-true _ (is-between _ _ (48 + d) (omega arith) (omega arith)) ∙ ap some (omega arith);
+  only = λ x. gives-between 48 57 x (λ h k. just (omega arith)) nothing;
   plain = λ d. omega arith;
 }
 
@@ -62,7 +76,7 @@ hex-high : (d : ℕ) → 10 ≤ d → hexByte d ≡ 87 + d
 unfolding hexByte
 hex-high d h = rw (le-ltb d 10 h, hexByte)
 
--- a digit is below 10 or not
+-- a number has one digit, or more
 by-ten : (P : ℕ → Type 0) (n : ℕ) → (n < 10 → P n) → (10 ≤ n → P n) → P n
 by-ten P n low high = go (ltb n 10) refl
   where
@@ -74,21 +88,14 @@ hex-digit : Digit hexDigit 16 hexByte
 unfolding hexDigit
 hex-digit = record {
   back = λ d h. by-ten (λ d. hexDigit (hexByte d) ≡ some d) d
-      (λ l. let e : 48 + d - 48 ≡ d = omega arith in
-      ap hexDigit (hex-low d l) ∙ rw (is-between 48 57 (48 + d) (omega arith) (omega arith), e, hexDigit))
-      (λ l. let e : 87 + d - 87 ≡ d = omega arith in
-      ap hexDigit (hex-high d l) ∙ rw (
-        le-leb 48 (87 + d) (omega arith),
-        lt-leb (87 + d) 57 (omega arith),
-        is-between 97 102 (87 + d) (omega arith) (omega arith),
-        e,
-        hexDigit,
-      ));
-  only = λ x. gives-if (leb 48 x && leb x 57)
-      (λ e. let h = between 48 57 x e in just (omega arith, hex-low (x - 48) (omega arith) ∙ omega arith))
-      (λ e. gives-if (leb 97 x && leb x 102)
-      (λ e. let h = between 97 102 x e in just (omega arith, hex-high (x - 87) (omega arith) ∙ omega arith))
-      (λ e. nothing));
+      (λ l. ap hexDigit (hex-low d l)
+      ∙ if-true _ (is-between _ _ (48 + d) (omega arith) (omega arith)) ∙ ap some (omega arith))
+      (λ l. ap hexDigit (hex-high d l) ∙ if-false _ (not-between _ _ (87 + d) (omega arith))
+      ∙ if-true _ (is-between _ _ (87 + d) (omega arith) (omega arith)) ∙ ap some (omega arith));
+  only = λ x. gives-between 48 57 x
+      (λ h k. just (omega arith, hex-low (x - 48) (omega arith) ∙ omega arith))
+      (gives-between 97 102 x
+      (λ h k. just (omega arith, hex-high (x - 87) (omega arith) ∙ omega arith)) nothing);
   plain = λ d. by-ten (λ d. 48 ≤ hexByte d) d (λ l. omega (arith, hex-low d l)) (λ l. omega (arith, hex-high d l));
 }
 
@@ -195,7 +202,7 @@ decimal-first : (t : List ℕ) → First t → decimal t ≡ reads decimalDigit 
 unfolding decimal
 decimal-first [] f = absurd f
 decimal-first (x ∷ []) f = refl
-decimal-first (x ∷ y ∷ ys) f = rw (ne-eqb x 48 (λ e. omega arith), decimal)
+decimal-first (x ∷ y ∷ ys) f = if-false _ (ne-eqb x _ (λ e. omega arith))
 
 pub decimal-digits : (n : ℕ) → decimal (digits n) ≡ some n
 unfolding decimal digits written reads decimalDigit andThen
@@ -254,9 +261,7 @@ pub number-only : (r : Range) (t : List ℕ) → Gives (λ n. (n ∈ r) × (digi
 unfolding numberIn
 number-only r t =
     gives-then (decimal-only t) (λ n e.
-    gives-if (leb (r .first) n && leb n (r .last))
-    (λ b. let h = between (r .first) (r .last) n b in just (record { least = h .0; most = h .1 }, e))
-    (λ b. nothing))
+    gives-between (r .first) (r .last) n (λ h k. just (record { least = h; most = k }, e)) nothing)
 
 -- A set of labels: hexadecimal, of fixed length
 

@@ -22,12 +22,14 @@ ReadInRange = (b : List ℕ) (r : Request) → requestOf b ≡ some r → InRang
 abbrev pub ReadWrite : Type 0
 ReadWrite = (b : List ℕ) (r : Request) → requestOf b ≡ some r → write r ≡ b
 
--- The longest request, a booking of 32 holds and 256 steps `ll`, has 40 + 32 * 12 + 256 * 39 bytes.
+-- the bytes of a booking with all its fields at their longest: 40 + 32 * 12 + 256 * 39
 abbrev pub longest : ℕ
 longest = 10408
 
+-- No request is longer.
 abbrev pub Longest : Type 0
 Longest = (r : Request) → InRange r → length (write r) ≤ longest
 
+-- So "a sheet has at most 16,384 bytes" stops none that is written.
 abbrev pub WriteShort : Type 0
 WriteShort = (r : Request) → InRange r → length (write r) ≤ maxBytes
