@@ -48,8 +48,7 @@ demand-1 t b = go (does t b)
               (λ h. absurd (subst IsAccepted a h), λ p. absurd (some-none (sym e ∙ pass-first (checksOf t b) p)));
         }
     go (accepts r e p c q) =
-        let a : IsAccepted (call t b .answer) =
-        subst (λ (d : Reply). IsAccepted (d .answer)) (sym q) (accept-accepts t r) in
+        let a : IsAccepted (says t b) = subst (λ (d : Reply). IsAccepted (heard d)) (sym q) (accept-accepts t r) in
         record {
           refused = λ n k. (
             λ h. absurd (refused-not _ a h),
