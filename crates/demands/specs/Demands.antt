@@ -9,7 +9,7 @@ use Prim.Native.Nat.{ℕ, _+_, _≤_, _<_}
 use lib.Dec.{eqb}
 use lib.ListN.{length}
 use Rattle.logic.specs.declared.Interval.{Interval}
-use Rattle.logic.specs.Interval.{has, reversed}
+use Rattle.logic.specs.Interval.{Ordered, has}
 use Rattle.logic.specs.Formula.{plain}
 use Rattle.logic.specs.Multiset.{Every}
 use Rattle.logic.specs.Derives.{Hyp, _⟦_⟧, Judgment, holds, Derives, uses, taken}
@@ -21,7 +21,7 @@ use Rattle.request.specs.Read.{requestOf}
 use Rattle.request.specs.Write.{write}
 use Rattle.request.specs.InRange.{_∈_, IntervalInRange}
 use Rattle.steps.specs.Check.{maxLabels}
-use Rattle.steps.specs.Writable.{Proper, Minutes}
+use Rattle.steps.specs.Limits.{Minutes}
 use Rattle.steps.specs.Spells.{Labels, Labelled, Spells, Refused as StepsRefused}
 use Rattle.ledger.specs.declared.Credential.{Credential}
 use Rattle.ledger.specs.Ledger.{Ledger, empty, formula, isKind, held}
@@ -69,6 +69,7 @@ pub record SoundFor (t : Ledger) (b : Booking) : Type 0 where
   pub derivation : Derivation t (held (t .live) (b .holds)) (b .formula) (b .interval)
   pub lines : length (b .steps) ≡ uses derivation
   pub labels : length (b .holds) + taken derivation ≤ maxLabels
+  pub minutes : Minutes derivation
 
 abbrev pub Soundness : Type 0
 Soundness = (t : Ledger) → Reached t → (bytes : List ℕ) (b : Booking) → requestOf bytes ≡ some (book b)
@@ -85,7 +86,8 @@ pub record May (t : Ledger) (now n : ℕ) (i : Interval) (hs : List ℕ) : Type 
   pub apart : twice hs ≡ false
   pub there : missing t n ≡ false
   pub plain : plain (formula t n) ≡ true
-  pub proper : Proper i
+  pub ordered : Ordered i
+  pub ranged : i .to ≤ minute .last
   pub inside : has i now ≡ true
 
 pub record WithinLimits {R D : List Hyp} {g : Judgment} (coupons : ℕ) (x : Derives R D g) : Type 0 where

@@ -57,7 +57,7 @@ module _ (s : ℕ) where
   conserved (p1 d) r e g = conserved d r e (g .0)
   conserved (p2 d) r e g = omega (arith, g .2, conserved d r e (g .1))
   conserved (pl d f) r e g = conserved d r (e .0 .0, e .1) g
-  conserved (ll {D = D} {E = E} c d f) r e g =
+  conserved (ll {D = D} {E = E} o c d f) r e g =
       omega (
         arith,
         append-sum upOf D E,
@@ -65,7 +65,7 @@ module _ (s : ℕ) where
         conserved d r (every-left EvenHyp D E (e .1)) (e .0 .0),
         conserved f r (e .0 .1, every-right EvenHyp D E (e .1)) g,
       )
-  conserved (ul c d f) r e g = conserved f r (e .0 .1, e .1) g
+  conserved (ul o c d f) r e g = conserved f r (e .0 .1, e .1) g
   conserved (br d) r e g = conserved d r tt (g .0)
   conserved (bl d) r e g = omega (arith, e .0 .1, conserved d ((e .0 .1, e .0 .0), r) (e .1) g)
   conserved (hr d) r e g = conserved d r e g

@@ -1,10 +1,12 @@
 -- Laws of intervals: the test decides ⊇, and ⊇ is an order under which minutes are kept.
 use mathlib.Core.Path.{_≡_}
-use mathlib.Core.Bool.{true}
+use mathlib.Core.Bool.{true, false}
+use mathlib.Core.Logic.{_↔_}
 use Prim.Native.Nat.{ℕ}
 use native.Mathlib.Omega.{arith}
 use Rattle.logic.specs.declared.Interval.{Interval}
-use Rattle.logic.specs.Interval.{_⊇_, contains, has}
+use Rattle.logic.specs.Interval.{_⊇_, contains, has, Ordered, reversed}
+use borrow.Author.Tests.{le-ltb, ltb-false}
 use Rattle.logic.proofs.Tests.{Decides, and-decides, le-decides}
 
 pub contains-decides : (i j : Interval) → Decides (contains i j) (i ⊇ j)
@@ -26,3 +28,7 @@ has-contained {i} {j} c m e =
     let h = and-decides (le-decides (j .from) m) (le-decides m (j .to)) .0 e in
     and-decides (le-decides (i .from) m) (le-decides m (i .to)) .1
     (omega (arith, c .starts, h .0), omega (arith, c .ends, h .1))
+
+pub ordered-decides : (i : Interval) → (reversed i ≡ false) ↔ Ordered i
+unfolding reversed
+ordered-decides i = (ltb-false (i .to) (i .from), le-ltb (i .to) (i .from))

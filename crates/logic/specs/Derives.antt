@@ -3,7 +3,7 @@
 use mathlib.Core.List.{List, [], _∷_, _++_, List·Memᴰ}
 use Prim.Native.Nat.{ℕ, suc, _+_, _≤_}
 use Rattle.logic.specs.declared.Interval.{Interval}
-use Rattle.logic.specs.Interval.{_⊇_}
+use Rattle.logic.specs.Interval.{_⊇_, Ordered}
 use Rattle.logic.specs.Formula.{Formula, atom, one, tensor, with, plus, lolli, implies, bang, at, says}
 use Rattle.logic.specs.Formula.{superset}
 use Rattle.logic.specs.Multiset.{Perm}
@@ -24,6 +24,7 @@ pub data Judgment : Type 0 where
 
 -- Derives R D g: g from the unrestricted hypotheses R (document 01: standing), used as often as wanted, and the linear
 -- hypotheses D (single-use), each used just once. `same` leaves the order of hypotheses free and is no use of a rule.
+-- The interval J that `ll` and `ul` choose is one: "A window from..to needs from ≤ to."
 pub data Derives : List Hyp → List Hyp → Judgment → Type 0 where
   same : {R S D E : List Hyp} {g : Judgment} → Perm R S → Perm D E → Derives R D g → Derives S E g
   ax : {R : List Hyp} {p s : ℕ} {i j : Interval} → i ⊇ j → Derives R (atom p s ⟦ i ⟧ ∷ []) (holds (atom p s) j)
@@ -45,9 +46,11 @@ pub data Derives : List Hyp → List Hyp → Judgment → Type 0 where
   pl : {R D : List Hyp} {a b : Formula} {i : Interval} {g : Judgment}
       → Derives R (a ⟦ i ⟧ ∷ D) g → Derives R (b ⟦ i ⟧ ∷ D) g → Derives R (plus a b ⟦ i ⟧ ∷ D) g
   ll : {R D E : List Hyp} {a b : Formula} {i j : Interval} {g : Judgment}
-      → i ⊇ j → Derives R D (holds a j) → Derives R (b ⟦ j ⟧ ∷ E) g → Derives R (lolli a b ⟦ i ⟧ ∷ (D ++ E)) g
+      → Ordered j → i ⊇ j → Derives R D (holds a j) → Derives R (b ⟦ j ⟧ ∷ E) g
+      → Derives R (lolli a b ⟦ i ⟧ ∷ (D ++ E)) g
   ul : {R D : List Hyp} {a b : Formula} {i j : Interval} {g : Judgment}
-      → i ⊇ j → Derives R [] (holds a j) → Derives R (b ⟦ j ⟧ ∷ D) g → Derives R (implies a b ⟦ i ⟧ ∷ D) g
+      → Ordered j → i ⊇ j → Derives R [] (holds a j) → Derives R (b ⟦ j ⟧ ∷ D) g
+      → Derives R (implies a b ⟦ i ⟧ ∷ D) g
   br : {R : List Hyp} {a : Formula} {i : Interval} → Derives R [] (holds a i) → Derives R [] (holds (bang a) i)
   bl : {R D : List Hyp} {a : Formula} {i : Interval} {g : Judgment}
       → Derives (a ⟦ i ⟧ ∷ R) D g → Derives R (bang a ⟦ i ⟧ ∷ D) g
@@ -77,8 +80,8 @@ uses (Derives.w2 d) = suc (uses d)
 uses (Derives.p1 d) = suc (uses d)
 uses (Derives.p2 d) = suc (uses d)
 uses (Derives.pl d e) = suc (uses d + uses e)
-uses (Derives.ll c d e) = suc (uses d + uses e)
-uses (Derives.ul c d e) = suc (uses d + uses e)
+uses (Derives.ll o c d e) = suc (uses d + uses e)
+uses (Derives.ul o c d e) = suc (uses d + uses e)
 uses (Derives.br d) = suc (uses d)
 uses (Derives.bl d) = suc (uses d)
 uses (Derives.hr d) = suc (uses d)
@@ -103,8 +106,8 @@ taken (Derives.w2 d) = 1 + taken d
 taken (Derives.p1 d) = taken d
 taken (Derives.p2 d) = taken d
 taken (Derives.pl d e) = 2 + (taken d + taken e)
-taken (Derives.ll c d e) = 1 + (taken d + taken e)
-taken (Derives.ul c d e) = 1 + (taken d + taken e)
+taken (Derives.ll o c d e) = 1 + (taken d + taken e)
+taken (Derives.ul o c d e) = 1 + (taken d + taken e)
 taken (Derives.br d) = taken d
 taken (Derives.bl d) = 1 + taken d
 taken (Derives.hr d) = taken d

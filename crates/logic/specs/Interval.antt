@@ -22,6 +22,10 @@ contains i j = leb (i .from) (j .from) && leb (j .to) (i .to)
 unfoldable pub has : Interval → ℕ → Bool
 has i m = leb (i .from) m && leb m (i .to)
 
--- "A window from..to needs from ≤ to": it is reversed where from > to
+-- "A window from..to needs from ≤ to."
+abbrev pub Ordered : Interval → Type 0
+Ordered i = i .from ≤ i .to
+
+-- its test: reversed where from > to
 unfoldable pub reversed : Interval → Bool
 reversed i = ltb (i .to) (i .from)

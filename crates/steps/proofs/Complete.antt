@@ -5,6 +5,8 @@ use Prim.Native.Nat.{ℕ, suc, _+_, _^_, _<_, _≤_}
 use native.Mathlib.Omega.{arith}
 use lib.ListN.{length}
 use lib.Pow.{pow-mono}
+use Rattle.logic.specs.declared.Interval.{Interval}
+use Rattle.logic.specs.Interval.{Ordered}
 use Rattle.logic.specs.Derives.{Hyp, Judgment, Derives, uses, taken}
 use Rattle.logic.specs.Multiset.{here, Perm, more}
 use Rattle.logic.proofs.Multisets.{perm-trans}
@@ -16,7 +18,9 @@ use Rattle.labels.proofs.Pick.{Found, find, choose, pick-nil}
 use Rattle.steps.specs.Check.{maxLabels}
 use Rattle.steps.specs.Rule.{from, premise, Rule}
 use Rattle.steps.specs.Spells.{Labels, named}
-use Rattle.steps.specs.Writable.{Minutes, Writable}
+use Rattle.request.specs.Range.{minute, label}
+use Rattle.request.specs.InRange.{_∈_, LabelSet, IntervalInRange}
+use Rattle.steps.specs.Limits.{Minutes, Writable}
 use Rattle.steps.proofs.Labelling.{hyps, no-hyps, Known}
 use Rattle.steps.proofs.Lines.{Spelled, closing, going, parting}
 
@@ -58,6 +62,25 @@ at-left s hs w rule e ih = λ ls r d fits sub m room.
     going ls r d fits {s = s (k .0)} (rule (named ls) r d (k .0) (k .2) (k .3)) (w (k .0) (k .1)) ih sub
     (before hs (k .4)) (omega arith) room
 
+-- What lines carry is in range
+
+label-in : (k : ℕ) → k < maxLabels → k ∈ label
+unfolding maxLabels
+label-in k l = record { least = omega arith; most = omega arith }
+
+label-writable : (k : ℕ) → k < maxLabels → (k ∈ label) × Unit {0}
+label-writable k l = (label-in k l, tt)
+
+set-in : (s : ℕ) → s < 2 ^ maxLabels → LabelSet s
+unfolding maxLabels
+set-in s l = l
+
+interval-in : (j : Interval) → Ordered j → j .to ≤ minute .last → IntervalInRange j
+interval-in j o l = record {
+  from = record { least = omega arith; most = omega arith };
+  to = record { least = omega arith; most = l };
+}
+
 pub spelled : {R D : List Hyp} {g : Judgment} (x : Derives R D g) → Minutes x → Spelled R D g (uses x) (taken x)
 unfolding uses taken
 spelled (Derives.same n k x) mn = λ ls r d fits sub m room.
@@ -65,54 +88,62 @@ spelled (Derives.same n k x) mn = λ ls r d fits sub m room.
 spelled (Derives.ax c) mn = λ ls r d fits sub m room.
     let k = head ls d (fits .linear) (fits .room) m in
     let z = empty ls (remove d (k .0)) (omega (arith, without-le d (2 ^ k .0), fits .linear)) (fits .room) (k .4) in
-    closing ls r d fits (Rule.ax (only-is d (k .0) (k .2) z) (k .3) c) (k .1)
+    closing ls r d fits (Rule.ax (only-is d (k .0) (k .2) z) (k .3) c) (label-writable (k .0) (k .1))
 spelled (Derives.cp {h = h} i x) mn = λ ls r d fits sub m room.
     let k = head ls r (fits .unrestricted) (fits .room) (in-front (hyps ls r) (sub h i) .1) in
-    going ls r d fits (Rule.cp (k .2)) (k .1) (spelled x mn) sub (more (here (sym (k .3))) m) (omega arith) room
+    going ls r d fits (Rule.cp (k .2)) (label-writable (k .0) (k .1)) (spelled x mn) sub
+    (more (here (sym (k .3))) m) (omega arith) room
 spelled (Derives.tr {D = D} {E = E} x y) mn = λ ls r d fits sub m room.
     let s = choose (named ls) maxLabels d D E m in
-    parting ls r d fits (Rule.tr (s .1)) (narrow ls d (fits .linear) (fits .room) (s .0) (s .1))
+    parting ls r d fits (Rule.tr (s .1)) (set-in (s .0) (narrow ls d (fits .linear) (fits .room) (s .0) (s .1)), tt)
     (spelled x (mn .0)) sub (s .2) (spelled y (mn .1)) sub (s .3) (omega arith) room
 spelled (Derives.tl x) mn =
-    at-left Step.tl (_ ∷ _ ∷ []) (λ k l. l) (λ f r d k m e. Rule.tl m e) (omega arith) (spelled x mn)
+    at-left Step.tl (_ ∷ _ ∷ []) label-writable (λ f r d k m e. Rule.tl m e) (omega arith) (spelled x mn)
 spelled Derives.or mn = λ ls r d fits sub m room.
-    closing ls r d fits (Rule.or (empty ls d (fits .linear) (fits .room) m)) tt
+    closing ls r d fits (Rule.or (empty ls d (fits .linear) (fits .room) m)) (tt, tt)
 spelled (Derives.ol x) mn =
-    at-left Step.ol [] (λ k l. l) (λ f r d k m e. Rule.ol m e) (omega arith) (spelled x mn)
+    at-left Step.ol [] label-writable (λ f r d k m e. Rule.ol m e) (omega arith) (spelled x mn)
 spelled (Derives.wr x y) mn = λ ls r d fits sub m room.
-    parting ls r d fits Rule.wr tt (spelled x (mn .0)) sub m (spelled y (mn .1)) sub m (omega arith) room
+    parting ls r d fits Rule.wr (tt, tt) (spelled x (mn .0)) sub m (spelled y (mn .1)) sub m (omega arith) room
 spelled (Derives.w1 x) mn =
-    at-left Step.w1 (_ ∷ []) (λ k l. l) (λ f r d k m e. Rule.w1 m e) (omega arith) (spelled x mn)
+    at-left Step.w1 (_ ∷ []) label-writable (λ f r d k m e. Rule.w1 m e) (omega arith) (spelled x mn)
 spelled (Derives.w2 x) mn =
-    at-left Step.w2 (_ ∷ []) (λ k l. l) (λ f r d k m e. Rule.w2 m e) (omega arith) (spelled x mn)
-spelled (Derives.p1 x) mn = at-right Step.p1 tt (λ f r d. Rule.p1) (spelled x mn)
-spelled (Derives.p2 x) mn = at-right Step.p2 tt (λ f r d. Rule.p2) (spelled x mn)
+    at-left Step.w2 (_ ∷ []) label-writable (λ f r d k m e. Rule.w2 m e) (omega arith) (spelled x mn)
+spelled (Derives.p1 x) mn = at-right Step.p1 (tt, tt) (λ f r d. Rule.p1) (spelled x mn)
+spelled (Derives.p2 x) mn = at-right Step.p2 (tt, tt) (λ f r d. Rule.p2) (spelled x mn)
 spelled (Derives.pl x y) mn = λ ls r d fits sub m room.
     let k = head ls d (fits .linear) (fits .room) m in
-    parting ls r d fits (Rule.pl (k .2) (k .3)) (k .1) (spelled x (mn .0)) sub (on (k .4)) (spelled y (mn .1)) sub
+    parting ls r d fits (Rule.pl (k .2) (k .3)) (label-writable (k .0) (k .1)) (spelled x (mn .0)) sub
+    (on (k .4)) (spelled y (mn .1)) sub
     (on (k .4)) (omega arith) room
-spelled (Derives.ll {D = D} {E = E} c x y) mn = λ ls r d fits sub m room.
+spelled (Derives.ll {D = D} {E = E} {j = j} o c x y) mn = λ ls r d fits sub m room.
     let k = head ls d (fits .linear) (fits .room) m in
     let d′ = remove d (k .0) in
     let s = choose (named ls) maxLabels d′ D E (k .4) in
     let w = narrow ls d′ (omega (arith, without-le d (2 ^ k .0), fits .linear)) (fits .room) (s .0) (s .1) in
-    parting ls r d fits (Rule.ll (k .2) (k .3) c (s .1)) (k .1, w, mn .0) (spelled x (mn .1)) sub (s .2)
+    parting ls r d fits (Rule.ll (k .2) (k .3) c (s .1))
+    (record { label = label-in (k .0) (k .1); share = set-in (s .0) w; interval = interval-in j o (mn .0) }, (o, tt))
+    (spelled x (mn .1)) sub (s .2)
     (spelled y (mn .2)) sub (on (s .3)) (omega arith) room
-spelled (Derives.ul c x y) mn = λ ls r d fits sub m room.
+spelled (Derives.ul {j = j} o c x y) mn = λ ls r d fits sub m room.
     let k = head ls d (fits .linear) (fits .room) m in
-    parting ls r d fits (Rule.ul (k .2) (k .3) c) (k .1, mn .0) (spelled x (mn .1)) sub (no-hyps ls)
+    parting ls r d fits (Rule.ul (k .2) (k .3) c)
+    (record { label = label-in (k .0) (k .1); interval = interval-in j o (mn .0) }, (o, tt))
+    (spelled x (mn .1)) sub (no-hyps ls)
     (spelled y (mn .2)) sub (on (k .4)) (omega arith) room
 spelled (Derives.br x) mn = λ ls r d fits sub m room.
-    going ls r d fits (Rule.br (empty ls d (fits .linear) (fits .room) m)) tt (spelled x mn) sub m (omega arith) room
+    going ls r d fits (Rule.br (empty ls d (fits .linear) (fits .room) m)) (tt, tt) (spelled x mn) sub m
+    (omega arith) room
 spelled (Derives.bl x) mn = λ ls r d fits sub m room.
     let k = head ls d (fits .linear) (fits .room) m in
-    going ls r d fits (Rule.bl (k .2) (k .3)) (k .1) (spelled x mn) (within-cons sub) (k .4) (omega arith) room
-spelled (Derives.hr x) mn = at-right Step.hr tt (λ f r d. Rule.hr) (spelled x mn)
+    going ls r d fits (Rule.bl (k .2) (k .3)) (label-writable (k .0) (k .1)) (spelled x mn)
+    (within-cons sub) (k .4) (omega arith) room
+spelled (Derives.hr x) mn = at-right Step.hr (tt, tt) (λ f r d. Rule.hr) (spelled x mn)
 spelled (Derives.hl x) mn =
-    at-left Step.hl (_ ∷ []) (λ k l. l) (λ f r d k m e. Rule.hl m e) (omega arith) (spelled x mn)
-spelled (Derives.sr x) mn = at-right Step.sr tt (λ f r d. Rule.sr) (spelled x mn)
-spelled (Derives.af x) mn = at-right Step.af tt (λ f r d. Rule.af) (spelled x mn)
+    at-left Step.hl (_ ∷ []) label-writable (λ f r d k m e. Rule.hl m e) (omega arith) (spelled x mn)
+spelled (Derives.sr x) mn = at-right Step.sr (tt, tt) (λ f r d. Rule.sr) (spelled x mn)
+spelled (Derives.af x) mn = at-right Step.af (tt, tt) (λ f r d. Rule.af) (spelled x mn)
 spelled (Derives.sl c x) mn =
-    at-left Step.sl (_ ∷ []) (λ k l. l) (λ f r d k m e. Rule.sl m e c) (omega arith) (spelled x mn)
+    at-left Step.sl (_ ∷ []) label-writable (λ f r d k m e. Rule.sl m e c) (omega arith) (spelled x mn)
 spelled (Derives.gr c) mn = λ ls r d fits sub m room.
-    closing ls r d fits (Rule.gr (empty ls d (fits .linear) (fits .room) m) c) tt
+    closing ls r d fits (Rule.gr (empty ls d (fits .linear) (fits .room) m) c) (tt, tt)

@@ -12,7 +12,7 @@ use Rattle.labels.proofs.Permutations.{Within, perm-in}
 use Rattle.steps.specs.Check.{maxLabels}
 use Rattle.steps.specs.Rule.{Branch, from, nothing, premise, premises, Rule}
 use Rattle.steps.specs.Spells.{Labels, named, Labelled, begun, beginning, Room, Spells}
-use Rattle.steps.specs.Writable.{Writable}
+use Rattle.steps.specs.Limits.{Writable}
 use Rattle.steps.proofs.Labelling.{hyps, Extends, ext-refl, ext-trans}
 use Rattle.steps.proofs.Premises.{Fits, news, length-begun, ext-begun, lowers, fits-begun, linear-begun}
 use Rattle.steps.proofs.Premises.{unrestricted-begun}

@@ -5,7 +5,7 @@ use Prim.Native.Nat.{ℕ, suc, _+_, _^_, _<_, _≤_}
 use native.Mathlib.Omega.{arith}
 use lib.ListN.{length}
 use Rattle.logic.specs.Derives.{Hyp, Judgment, Derives, uses, taken}
-use Rattle.logic.specs.Multiset.{Perm}
+use Rattle.logic.specs.Multiset.{Perm, Every}
 use Rattle.logic.proofs.Multisets.{perm-refl, perm-sym, perm-trans}
 use Rattle.request.specs.Request.{Step}
 use Rattle.labels.specs.Labels.{_∋_, remove}
@@ -15,13 +15,14 @@ use Rattle.labels.proofs.Pick.{pick-empty, pick-only, pick-share, pick-remove}
 use Rattle.steps.specs.Check.{maxLabels}
 use Rattle.steps.specs.Rule.{Branch, Leaves, nothing, premise, premises, Rule}
 use Rattle.steps.specs.Spells.{Labels, named, Labelled, begun, beginning, Room, Spells}
+use Rattle.steps.specs.Limits.{Minutes, Writable}
 use Rattle.steps.proofs.Labelling.{hyps, Extends, ext-refl, ext-trans}
 use Rattle.steps.proofs.Premises.{Fits, news, length-begun, ext-begun, spells-extends, lowers, fits-begun}
 use Rattle.steps.proofs.Premises.{linear-begun, unrestricted-begun}
 
--- a derivation with u uses of rules that takes v labels
+-- a derivation with u uses of rules that takes v labels, its minutes in range
 abbrev pub Derivation : List Hyp → List Hyp → Judgment → ℕ → ℕ → Type 0
-Derivation R D g u v = (x : Derives R D g) × (uses x ≡ u) × (taken x ≡ v)
+Derivation R D g u v = (x : Derives R D g) × (uses x ≡ u) × (taken x ≡ v) × Minutes x
 
 -- a premise's derivation, before its labels are taken
 abbrev Of : Labels → ℕ → Branch → Type 0
@@ -31,9 +32,9 @@ Of ls r p = Derives (p .joins ++ hyps ls r) (p .linears ++ hyps ls (p .linear)) 
 abbrev Makes : Labels → ℕ → ℕ → Judgment → Leaves → Type 0
 Makes ls r d g nothing = Derivation (hyps ls r) (hyps ls d) g 1 0
 Makes ls r d g (premise p) =
-    (y : Of ls r p) → Derivation (hyps ls r) (hyps ls d) g (suc (uses y)) (news p + taken y)
+    (y : Of ls r p) → Minutes y → Derivation (hyps ls r) (hyps ls d) g (suc (uses y)) (news p + taken y)
 Makes ls r d g (premises p₁ p₂) =
-    (y : Of ls r p₁) (z : Of ls r p₂)
+    (y : Of ls r p₁) → Minutes y → (z : Of ls r p₂) → Minutes z
     → Derivation (hyps ls r) (hyps ls d) g (suc (uses y + uses z)) (news p₁ + news p₂ + (taken y + taken z))
 
 module _ (ls : Labels) (R D : ℕ) (known-R : R < 2 ^ length ls) (known-D : D < 2 ^ length ls)
@@ -60,35 +61,38 @@ module _ (ls : Labels) (R D : ℕ) (known-R : R < 2 ^ length ls) (known-D : D < 
   rest : Perm (hyps ls R) (hyps ls R)
   rest = perm-refl (hyps ls R)
 
-  makes : {s : Step} {g : Judgment} {w : Leaves} → Rule (named ls) R D s g w → Makes ls R D g w
+  makes : {s : Step} {g : Judgment} {w : Leaves} → Rule (named ls) R D s g w → Writable s
+      → Makes ls R D g w
   unfolding uses taken
-  makes (Rule.ax {l = l} q e c) = (Derives.same rest (only l q e) (Derives.ax c), refl, refl)
-  makes (Rule.cp {l = l} m) = λ y. (Derives.cp (copied l m) y, refl, omega arith)
-  makes (Rule.tr {s = s} h) = λ y z.
-      (Derives.same rest (pick-share (named ls) maxLabels s D h) (Derives.tr y z), refl, omega arith)
-  makes (Rule.tl {l = l} m e) = λ y. (Derives.same rest (out l m e) (Derives.tl y), refl, omega arith)
-  makes (Rule.or e) = (Derives.same rest (perm-sym (bare D e)) Derives.or, refl, refl)
-  makes (Rule.ol {l = l} m e) = λ y. (Derives.same rest (out l m e) (Derives.ol y), refl, omega arith)
-  makes Rule.wr = λ y z. (Derives.wr y z, refl, omega arith)
-  makes (Rule.w1 {l = l} m e) = λ y. (Derives.same rest (out l m e) (Derives.w1 y), refl, omega arith)
-  makes (Rule.w2 {l = l} m e) = λ y. (Derives.same rest (out l m e) (Derives.w2 y), refl, omega arith)
-  makes Rule.p1 = λ y. (Derives.p1 y, refl, omega arith)
-  makes Rule.p2 = λ y. (Derives.p2 y, refl, omega arith)
-  makes (Rule.pl {l = l} m e) = λ y z. (Derives.same rest (out l m e) (Derives.pl y z), refl, omega arith)
-  makes (Rule.ll {l = l} {s = s} m e c h) = λ y z.
+  makes (Rule.ax {l = l} q e c) w = (Derives.same rest (only l q e) (Derives.ax c), refl, refl, tt)
+  makes (Rule.cp {l = l} m) w = λ y my. (Derives.cp (copied l m) y, refl, omega arith, my)
+  makes (Rule.tr {s = s} h) w = λ y my z mz.
+      (Derives.same rest (pick-share (named ls) maxLabels s D h) (Derives.tr y z), refl, omega arith, (my, mz))
+  makes (Rule.tl {l = l} m e) w = λ y my. (Derives.same rest (out l m e) (Derives.tl y), refl, omega arith, my)
+  makes (Rule.or e) w = (Derives.same rest (perm-sym (bare D e)) Derives.or, refl, refl, tt)
+  makes (Rule.ol {l = l} m e) w = λ y my. (Derives.same rest (out l m e) (Derives.ol y), refl, omega arith, my)
+  makes Rule.wr w = λ y my z mz. (Derives.wr y z, refl, omega arith, (my, mz))
+  makes (Rule.w1 {l = l} m e) w = λ y my. (Derives.same rest (out l m e) (Derives.w1 y), refl, omega arith, my)
+  makes (Rule.w2 {l = l} m e) w = λ y my. (Derives.same rest (out l m e) (Derives.w2 y), refl, omega arith, my)
+  makes Rule.p1 w = λ y my. (Derives.p1 y, refl, omega arith, my)
+  makes Rule.p2 w = λ y my. (Derives.p2 y, refl, omega arith, my)
+  makes (Rule.pl {l = l} m e) w = λ y my z mz.
+      (Derives.same rest (out l m e) (Derives.pl y z), refl, omega arith, (my, mz))
+  makes (Rule.ll {l = l} {s = s} m e c h) w = λ y my z mz.
       let k = perm-trans (on (pick-share (named ls) maxLabels s (remove D l) h)) (out l m e) in
-      (Derives.same rest k (Derives.ll c y z), refl, omega arith)
-  makes (Rule.ul {l = l} m e c) = λ y z.
-      (Derives.same rest (out l m e) (Derives.ul c (Derives.same rest (bare 0 refl) y) z), refl, omega arith)
-  makes (Rule.br e) = λ y.
-      (Derives.same rest (perm-sym (bare D e)) (Derives.br (Derives.same rest (bare D e) y)), refl, omega arith)
-  makes (Rule.bl {l = l} m e) = λ y. (Derives.same rest (out l m e) (Derives.bl y), refl, omega arith)
-  makes Rule.hr = λ y. (Derives.hr y, refl, omega arith)
-  makes (Rule.hl {l = l} m e) = λ y. (Derives.same rest (out l m e) (Derives.hl y), refl, omega arith)
-  makes Rule.sr = λ y. (Derives.sr y, refl, omega arith)
-  makes Rule.af = λ y. (Derives.af y, refl, omega arith)
-  makes (Rule.sl {l = l} m e c) = λ y. (Derives.same rest (out l m e) (Derives.sl c y), refl, omega arith)
-  makes (Rule.gr e c) = (Derives.same rest (perm-sym (bare D e)) (Derives.gr c), refl, refl)
+      (Derives.same rest k (Derives.ll (w .1 .0) c y z), refl, omega arith, (w .0 .interval .to .most, my, mz))
+  makes (Rule.ul {l = l} m e c) w = λ y my z mz.
+      let u = Derives.ul (w .1 .0) c (Derives.same rest (bare 0 refl) y) z in
+      (Derives.same rest (out l m e) u, refl, omega arith, (w .0 .interval .to .most, my, mz))
+  makes (Rule.br e) w = λ y my.
+      (Derives.same rest (perm-sym (bare D e)) (Derives.br (Derives.same rest (bare D e) y)), refl, omega arith, my)
+  makes (Rule.bl {l = l} m e) w = λ y my. (Derives.same rest (out l m e) (Derives.bl y), refl, omega arith, my)
+  makes Rule.hr w = λ y my. (Derives.hr y, refl, omega arith, my)
+  makes (Rule.hl {l = l} m e) w = λ y my. (Derives.same rest (out l m e) (Derives.hl y), refl, omega arith, my)
+  makes Rule.sr w = λ y my. (Derives.sr y, refl, omega arith, my)
+  makes Rule.af w = λ y my. (Derives.af y, refl, omega arith, my)
+  makes (Rule.sl {l = l} m e c) w = λ y my. (Derives.same rest (out l m e) (Derives.sl c y), refl, omega arith, my)
+  makes (Rule.gr e c) w = (Derives.same rest (perm-sym (bare D e)) (Derives.gr c), refl, refl, tt)
 
 -- The derivation that the lines spell: as many uses of rules as lines, as many labels as it takes.
 pub record Derived (ss : List Step) (ls : Labels) (q : Labelled) (rest : List Step) (ls′ : Labels) : Type 0 where
@@ -96,47 +100,63 @@ pub record Derived (ss : List Step) (ls : Labels) (q : Labelled) (rest : List St
   pub lines : length ss ≡ uses derivation + length rest
   pub labels : length ls′ ≡ length ls + taken derivation
   pub room : length ls′ ≤ maxLabels
+  pub minutes : Minutes derivation
+  pub left : Every Writable rest
 
 -- a premise's derivation from that of its sequent, at labels ls₁ that extend ls
 unlabelled : {ls ls₁ : Labels} {q : Labelled} (p : Branch) → Extends ls ls₁ → Fits ls q → p .linear ≤ q .linear
     → Room ls₁ p
     → (y : Derives (hyps (begun ls₁ p) (beginning ls₁ (q .unrestricted) p .unrestricted))
     (hyps (begun ls₁ p) (beginning ls₁ (q .unrestricted) p .linear)) (p .goal))
-    → (x : Of ls (q .unrestricted) p) × (uses x ≡ uses y) × (taken x ≡ taken y)
+    → Minutes y → Derivation (p .joins ++ hyps ls (q .unrestricted)) (p .linears ++ hyps ls (p .linear)) (p .goal)
+    (uses y) (taken y)
 unfolding uses taken
-unlabelled p x fits low room y = (
+unlabelled p x fits low room y my = (
   Derives.same (perm-sym (unrestricted-begun p x fits low room)) (perm-sym (linear-begun p x fits low room)) y,
   refl,
   refl,
+  my,
 )
 
 pub derived : {ss rest : List Step} {ls ls′ : Labels} {q : Labelled} → Spells ss ls q rest ls′ → Fits ls q
-    → Derived ss ls q rest ls′
-derived {ls = ls} {q = q} (Spells.closes r) f =
-    let m = makes ls (q .unrestricted) (q .linear) (f .unrestricted) (f .linear) (f .room) r in
-    record { derivation = m .0; lines = omega (arith, m .1); labels = omega (arith, m .2); room = f .room }
-derived {ls = ls} {q = q} (Spells.goes {p = p} r room s) f =
+    → Every Writable ss → Derived ss ls q rest ls′
+derived {ls = ls} {q = q} (Spells.closes r) f w =
+    let m = makes ls (q .unrestricted) (q .linear) (f .unrestricted) (f .linear) (f .room) r (w .0) in
+    record {
+      derivation = m .0;
+      lines = omega (arith, m .1);
+      labels = omega (arith, m .2);
+      room = f .room;
+      minutes = m .3;
+      left = w .1;
+    }
+derived {ls = ls} {q = q} (Spells.goes {p = p} r room s) f w =
     let low = lowers r in
-    let c = derived s (fits-begun p (ext-refl ls) f low room) in
-    let y = unlabelled p (ext-refl ls) f low room (c .derivation) in
-    let m = makes ls (q .unrestricted) (q .linear) (f .unrestricted) (f .linear) (f .room) r (y .0) in
+    let c = derived s (fits-begun p (ext-refl ls) f low room) (w .1) in
+    let y = unlabelled p (ext-refl ls) f low room (c .derivation) (c .minutes) in
+    let m = makes ls (q .unrestricted) (q .linear) (f .unrestricted) (f .linear) (f .room) r (w .0) (y .0) (y .3) in
     record {
       derivation = m .0;
       lines = omega (arith, m .1, y .1, c .lines);
       labels = omega (arith, m .2, y .2, c .labels, length-begun ls p);
       room = c .room;
+      minutes = m .3;
+      left = c .left;
     }
-derived {ls = ls} {q = q} (Spells.parts {ls₁ = ls₁} {p₁ = p₁} {p₂ = p₂} r room₁ s₁ room₂ s₂) f =
+derived {ls = ls} {q = q} (Spells.parts {ls₁ = ls₁} {p₁ = p₁} {p₂ = p₂} r room₁ s₁ room₂ s₂) f w =
     let low = lowers r in
     let x = ext-trans (ext-begun ls p₁) (spells-extends s₁ .0) in
-    let c₁ = derived s₁ (fits-begun p₁ (ext-refl ls) f (low .0) room₁) in
-    let c₂ = derived s₂ (fits-begun p₂ x f (low .1) room₂) in
-    let y₁ = unlabelled p₁ (ext-refl ls) f (low .0) room₁ (c₁ .derivation) in
-    let y₂ = unlabelled p₂ x f (low .1) room₂ (c₂ .derivation) in
-    let m = makes ls (q .unrestricted) (q .linear) (f .unrestricted) (f .linear) (f .room) r (y₁ .0) (y₂ .0) in
+    let c₁ = derived s₁ (fits-begun p₁ (ext-refl ls) f (low .0) room₁) (w .1) in
+    let c₂ = derived s₂ (fits-begun p₂ x f (low .1) room₂) (c₁ .left) in
+    let y₁ = unlabelled p₁ (ext-refl ls) f (low .0) room₁ (c₁ .derivation) (c₁ .minutes) in
+    let y₂ = unlabelled p₂ x f (low .1) room₂ (c₂ .derivation) (c₂ .minutes) in
+    let m = makes ls (q .unrestricted) (q .linear) (f .unrestricted) (f .linear) (f .room) r (w .0)
+    (y₁ .0) (y₁ .3) (y₂ .0) (y₂ .3) in
     record {
       derivation = m .0;
       lines = omega (arith, m .1, y₁ .1, y₂ .1, c₁ .lines, c₂ .lines);
       labels = omega (arith, m .2, y₁ .2, y₂ .2, c₁ .labels, c₂ .labels, length-begun ls p₁, length-begun ls₁ p₂);
       room = c₂ .room;
+      minutes = m .3;
+      left = c₂ .left;
     }

@@ -18,7 +18,7 @@ use Rattle.steps.specs.declared.Goal.{Goal}
 use Rattle.steps.specs.declared.Sequent.{Sequent}
 use Rattle.steps.specs.Check.{maxLabels, Outcome, done, stopped, premiseOf, checkOf}
 use Rattle.steps.specs.Spells.{Labels, Labelled, Spells, Refused}
-use Rattle.steps.specs.Writable.{Minutes, Writable}
+use Rattle.steps.specs.Limits.{Minutes, Writable}
 use Rattle.steps.proofs.Labelling.{hyps}
 use Rattle.steps.proofs.Premises.{Fits}
 use Rattle.steps.proofs.Sound.{derived}
@@ -33,11 +33,12 @@ use Rattle.steps.proofs.Holds.{Begins, begins-fits}
 
 -- Lines that spell a derivation give one: a rule for each line, and labels enough.
 pub spelt : {ss : List Step} {ls after : Labels} {q : Labelled} → Spells ss ls q [] after → Fits ls q
+    → Every Writable ss
     → (x : Derives (hyps ls (q .unrestricted)) (hyps ls (q .linear)) (q .goal))
-    × (length ss ≡ uses x) × (length ls + taken x ≤ maxLabels)
-spelt s fits =
-    let d = derived s fits in
-    (d .derivation, omega (arith, d .lines), omega (arith, d .labels, d .room))
+    × (length ss ≡ uses x) × (length ls + taken x ≤ maxLabels) × Minutes x
+spelt s fits w =
+    let d = derived s fits w in
+    (d .derivation, omega (arith, d .lines), omega (arith, d .labels, d .room), d .minutes)
 
 -- Every derivation from hypotheses that labels stand for, with intervals in order and in range and labels enough, has
 -- lines that spell it, whatever comes after them: a line for each rule, and each can be written.
@@ -93,13 +94,13 @@ module _ {row : ℕ → Row} {formula : ℕ → Formula} (u : Unrolls row formul
     abbrev pub Passes : List Step → Type 0
     Passes ss = (t′ : T) × (n′ : ℕ) × (checkOf row held put (length ss) ss t n asked ≡ done [] t′ n′)
 
-    pub sound : (ss : List Step) → length ls ≤ maxLabels → Passes ss
-        → (x : Derives R D (goalOf u g)) × (length ss ≡ uses x) × (length ls + taken x ≤ maxLabels)
+    pub sound : (ss : List Step) → length ls ≤ maxLabels → Every Writable ss → Passes ss
+        → (x : Derives R D (goalOf u g)) × (length ss ≡ uses x) × (length ls + taken x ≤ maxLabels) × Minutes x
     unfolding uses taken
-    sound ss room p =
+    sound ss room writable p =
         let fits = begins-fits u table begins room (goalOf u g) in
-        let w = spelt (exactly t n ls asked (begins .shows) fits ss .0 p .1) fits in
-        (Derives.same (perm-sym (begins .unrestricted)) (perm-sym (begins .linear)) (w .0), w .1, w .2)
+        let w = spelt (exactly t n ls asked (begins .shows) fits ss .0 p .1) fits writable in
+        (Derives.same (perm-sym (begins .unrestricted)) (perm-sym (begins .linear)) (w .0), w .1, w .2, w .3)
 
     pub passing : (x : Derives R D (goalOf u g)) → Minutes x → length ls + taken x ≤ maxLabels
         → (ss : List Step) × (length ss ≡ uses x) × Every Writable ss × Passes ss

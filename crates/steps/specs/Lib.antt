@@ -2,4 +2,4 @@ pub mod Plans
 pub mod Check
 pub mod Rule
 pub mod Spells
-pub mod Writable
+pub mod Limits
