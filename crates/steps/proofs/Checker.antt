@@ -2,7 +2,7 @@
 use mathlib.Core.Path.{_≡_, refl, sym, subst}
 use mathlib.Core.List.{List, [], _∷_}
 use mathlib.Core.Option.{some}
-use Prim.Native.Nat.{ℕ, zero, suc, _+_, _-_, _≤_}
+use Prim.Native.Nat.{ℕ, zero, suc, _+_, _-_, _≤_, _<_}
 use native.Mathlib.Omega.{arith}
 use lib.ListN.{length}
 use Rattle.logic.specs.Formula.{Formula}
@@ -16,9 +16,9 @@ use Rattle.steps.specs.declared.Plan.{Plan}
 use Rattle.steps.specs.declared.Plan.the-variants.{Refused, Closed, One, Two}
 use Rattle.steps.specs.Plans.{planOf}
 use Rattle.steps.specs.Check.{Beginning, begin, Outcome, done, stopped, Judge, judged, onward, follow}
-use Rattle.steps.specs.Check.{premiseOf}
+use Rattle.steps.specs.Check.{maxLabels, premiseOf}
 use Rattle.steps.specs.Rule.{Branch, Leaves, nothing, premise, premises}
-use Rattle.steps.specs.Spells.{Labels, named, Labelled, Right, begun, Stops}
+use Rattle.steps.specs.Spells.{Labels, named, Labelled, Right, begun, beginning, Room, Spells, Stops}
 use Rattle.steps.proofs.Labelling.{Extends, ext-refl, ext-trans}
 use Rattle.steps.proofs.Premises.{Fits, ext-begun, spells-extends, lowers, fits-begun}
 use Rattle.steps.proofs.Unroll.{Unrolls, goalOf, sequentOf, branchOf, leaves}
@@ -52,97 +52,43 @@ module _ {row : ℕ → Row} {formula : ℕ → Formula} (u : Unrolls row formul
     closes : {ss : List Step} {t : T} {n : ℕ} {ls : Labels} → Shows u table t n ls → Shown (done ss t n) (closed ss ls)
     stops : {c m : ℕ} → Shown (stopped c m) (halted c m)
 
-  -- Every outcome is an end of the lines
+  -- the outcome is an end of the lines, and every end of the lines is the outcome
+  pub record Meets (Ending : Result → Type 0) (o : Outcome T) : Type 0 where
+    pub end : Result
+    pub ends : Ending end
+    pub shown : Shown o end
+    pub only : (e : Result) → Ending e → Shown o e
 
-  abbrev Explains : Judge T → ℕ → Type 0
-  Explains judge f =
+  -- so does the judge of all premises with at most f lines
+  abbrev pub Exact : Judge T → ℕ → Type 0
+  Exact judge f =
       (ss : List Step) (t : T) (n : ℕ) (ls : Labels) (q : Sequent) → Shows u table t n ls → Fits ls (sequentOf u q)
-      → length ss ≤ f → (e : Result) × Ends total ss ls (sequentOf u q) e × Shown (judge ss t n q) e
+      → length ss ≤ f → Meets (Ends total ss ls (sequentOf u q)) (judge ss t n q)
+
+  -- Premises that begin
+
+  module _ {m : ℕ} {ss : List Step} {ls : Labels} {r : ℕ} {p : Branch} where
+    over-only : maxLabels < length (begun ls p) → (e : Result) → Enters total m ss ls r p e → Shown (stopped 41 m) e
+    over-only l e (Enters.over l′) = stops
+    over-only l e (Enters.within room x) = absurd (omega arith)
+
+    within-only : {o : Outcome T} → Room ls p → Meets (Ends total ss (begun ls p) (beginning ls r p)) o
+        → (e : Result) → Enters total m ss ls r p e → Shown o e
+    within-only room w e (Enters.over l) = absurd (omega arith)
+    within-only room w e (Enters.within room′ x) = w .only e x
 
   -- a premise p of the sequent q, at labels ls₁ that extend those of q
-  entered : {judge : Judge T} {f : ℕ} → Explains judge f → (m : ℕ) (ss : List Step) → length ss ≤ f
+  enters : {judge : Judge T} {f : ℕ} → Exact judge f → (m : ℕ) (ss : List Step) → length ss ≤ f
       → {ls ls₁ : Labels} {q : Labelled} (p : Branch) → Extends ls ls₁ → Fits ls q → p .linear ≤ q .linear
       → (b : Beginning T) → Starts u table ls₁ (q .unrestricted) p b
-      → (e : Result) × Enters total m ss ls₁ (q .unrestricted) p e × Shown (judged judge m ss b) e
+      → Meets (Enters total m ss ls₁ (q .unrestricted) p) (judged judge m ss b)
   unfolding judged
-  entered ih m ss le p x fits low b (Starts.over l) = (halted 41 m, Enters.over l, stops)
-  entered ih m ss le {ls₁ = ls₁} p x fits low b (Starts.within {t = t} {n = n} {q = q′} room means s) =
-      let w = ih ss t n (begun ls₁ p) q′ s (subst (Fits (begun ls₁ p)) means (fits-begun p x fits low room)) le in (
-        w .0,
-        Enters.within room (subst (λ (y : Labelled). Ends total ss (begun ls₁ p) y (w .0)) (sym means) (w .1)),
-        w .2,
-      )
-
-  module _ {judge : Judge T} {f : ℕ} (ih : Explains judge f) (s : Step) (ss : List Step) (ls : Labels) (q : Sequent)
-      (fits : Fits ls (sequentOf u q)) (le : length ss ≤ f) where
-    -- the first premise has ended so; then the second
-    then-second : (p₁ : Branch) (p₂ : Premise) → Right ls (sequentOf u q) s (premises p₁ (branchOf u p₂))
-        → (o : Outcome T) (e₁ : Result) → Enters total (total - length ss) ss ls (q .unrestricted) p₁ e₁ → Shown o e₁
-        → (e : Result) × After total s ss ls (sequentOf u q) e
-        × Shown (onward o (λ ss₁ t₁ n₁. judged judge (total - length ss) ss₁ (begin put t₁ n₁ (q .unrestricted) p₂))) e
-    unfolding onward
-    then-second p₁ p₂ rule o (halted c m) x stops = (halted c m, After.halts rule x, stops)
-    then-second p₁ p₂ rule o (closed mid ls₁) (Enters.within room sp) (closes {t = t₁} {n = n₁} sh₁) =
-        let y = spells-extends sp in
-        let w = entered ih (total - length ss) mid (omega (arith, y .1)) (branchOf u p₂)
-        (ext-trans (ext-begun ls p₁) (y .0)) fits (lowers rule .1) (begin put t₁ n₁ (q .unrestricted) p₂)
-        (starts u table t₁ n₁ ls₁ (q .unrestricted) p₂ sh₁) in
-        (w .0, After.parts rule (Enters.within room sp) (w .1), w .2)
-
-    followed : (t : T) (n : ℕ) → Shows u table t n ls → (p : Plan) → Agrees ls q s p
-        → (e : Result) × After total s ss ls (sequentOf u q) e
-        × Shown (follow put judge (total - length ss) ss t n (q .unrestricted) p) e
-    unfolding follow
-    followed t n sh Refused a = (
-      halted 40 (total - length ss),
-      After.breaks (λ w r.
-          let e = a .only w r in
-          let z : _≡_ {A = ℕ} 0 1 = cc in
-          omega arith),
-      stops,
-    )
-    followed t n sh Closed a = (closed ss ls, After.closes (a .ruled), closes sh)
-    followed t n sh (One p) a =
-        let r = q .unrestricted in
-        let w = entered ih (total - length ss) ss le (branchOf u p) (ext-refl ls) fits (lowers (a .ruled))
-        (begin put t n r p) (starts u table t n ls r p sh) in
-        (w .0, After.goes (a .ruled) (w .1), w .2)
-    followed t n sh (Two p₁ p₂) a =
-        let r = q .unrestricted in
-        let b = begin put t n r p₁ in
-        let w = entered ih (total - length ss) ss le (branchOf u p₁) (ext-refl ls) fits (lowers (a .ruled) .0) b
-        (starts u table t n ls r p₁ sh) in
-        then-second (branchOf u p₁) p₂ (a .ruled) (judged judge (total - length ss) ss b) (w .0) (w .1) (w .2)
-
-  pub explained : (f : ℕ) → Explains (premiseOf row held put total f) f
-  unfolding premiseOf
-  explained zero [] t n ls q sh fits le = (halted 42 (total + 1), Stops.ends, stops)
-  explained zero (s ∷ ss) t n ls q sh fits le = absurd (omega arith)
-  explained (suc f) [] t n ls q sh fits le = (halted 42 (total + 1), Stops.ends, stops)
-  explained (suc f) (s ∷ ss) t n ls q sh fits le =
-      let w = followed (explained f) s ss ls q fits (omega arith) t n sh
-      (planOf row (held t) (q .unrestricted) (q .linear) (q .goal) s) (agrees t n ls q s sh fits) in
-      (w .0, after-ends total (w .0) (w .1), w .2)
-
-  -- Every end of the lines is the outcome
-
-  abbrev Answers : Judge T → ℕ → Type 0
-  Answers judge f =
-      (ss : List Step) (t : T) (n : ℕ) (ls : Labels) (q : Sequent) → Shows u table t n ls → Fits ls (sequentOf u q)
-      → length ss ≤ f → (e : Result) → Ends total ss ls (sequentOf u q) e → Shown (judge ss t n q) e
-
-  enters : {judge : Judge T} {f : ℕ} → Answers judge f → (m : ℕ) (ss : List Step) → length ss ≤ f
-      → {ls ls₁ : Labels} {q : Labelled} (p : Branch) → Extends ls ls₁ → Fits ls q → p .linear ≤ q .linear
-      → (b : Beginning T) → Starts u table ls₁ (q .unrestricted) p b
-      → (e : Result) → Enters total m ss ls₁ (q .unrestricted) p e → Shown (judged judge m ss b) e
-  unfolding judged
-  enters ih m ss le p x fits low b (Starts.over l) e (Enters.over l′) = stops
-  enters ih m ss le p x fits low b (Starts.over l) e (Enters.within room y) = absurd (omega arith)
-  enters ih m ss le p x fits low b (Starts.within room means s) e (Enters.over l) = absurd (omega arith)
-  enters ih m ss le {ls₁ = ls₁} p x fits low b (Starts.within {t = t} {n = n} {q = q′} room means s) e
-      (Enters.within room′ y) =
-      ih ss t n (begun ls₁ p) q′ s (subst (Fits (begun ls₁ p)) means (fits-begun p x fits low room)) le e
-      (subst (λ (z : Labelled). Ends total ss (begun ls₁ p) z e) means y)
+  enters ih m ss le p x fits low b (Starts.over l) =
+      record { end = halted 41 m; ends = Enters.over l; shown = stops; only = over-only l }
+  enters {judge} ih m ss le {ls₁ = ls₁} p x fits low b (Starts.within {t = t} {n = n} {q = q′} room means s) =
+      let w = subst (λ (y : Labelled). Meets (Ends total ss (begun ls₁ p) y) (judge ss t n q′)) (sym means)
+      (ih ss t n (begun ls₁ p) q′ s (subst (Fits (begun ls₁ p)) means (fits-begun p x fits low room)) le) in
+      record { end = w .end; ends = Enters.within room (w .ends); shown = w .shown; only = within-only room w }
 
   -- a plan that leaves w
   data Leads : Plan → Leaves → Type 0 where
@@ -156,6 +102,9 @@ module _ {row : ℕ → Row} {formula : ℕ → Formula} (u : Unrolls row formul
   leads (One p) w e = subst (Leads (One p)) (cc) one
   leads (Two p₁ p₂) w e = subst (Leads (Two p₁ p₂)) (cc) two
 
+  refused-never : {w : Leaves} → leaves u Refused ≡ some w → ⊥
+  refused-never e = let z : _≡_ {A = ℕ} 0 1 = cc in omega arith
+
   onward-halted : (o : Outcome T) (k : List Step → T → ℕ → Outcome T) {c m : ℕ} → Shown o (halted c m)
       → Shown (onward o k) (halted c m)
   unfolding onward
@@ -167,71 +116,125 @@ module _ {row : ℕ → Row} {formula : ℕ → Formula} (u : Unrolls row formul
   unfolding onward
   onward-closed o k (closes {t = t} {n = n} sh) h = h t n sh
 
-  module _ {judge : Judge T} {f : ℕ} (ih : Answers judge f) (s : Step) (ss : List Step) (ls : Labels) (q : Sequent)
+  -- Step s, with the lines ss after it
+
+  module _ {judge : Judge T} {f : ℕ} (ih : Exact judge f) (s : Step) (ss : List Step) (ls : Labels) (q : Sequent)
       (fits : Fits ls (sequentOf u q)) (le : length ss ≤ f) (t : T) (n : ℕ) (sh : Shows u table t n ls) where
-    abbrev Follows : Plan → Result → Type 0
-    Follows p e = Shown (follow put judge (total - length ss) ss t n (q .unrestricted) p) e
+    -- its number, the unrestricted labels, the rule that it is right by, and the outcome of a plan
+    abbrev number : ℕ
+    number = total - length ss
 
-    follows-break : (p : Plan) → Agrees ls q s p → ((w : Leaves) → Right ls (sequentOf u q) s w → ⊥)
-        → Follows p (halted 40 (total - length ss))
-    unfolding follow
-    follows-break Refused a never = stops
-    follows-break Closed a never = absurd (never nothing (a .ruled))
-    follows-break (One p) a never = absurd (never (premise (branchOf u p)) (a .ruled))
-    follows-break (Two p₁ p₂) a never = absurd (never (premises (branchOf u p₁) (branchOf u p₂)) (a .ruled))
+    abbrev R : ℕ
+    R = q .unrestricted
 
-    follows-close : (p : Plan) → Leads p nothing → Follows p (closed ss ls)
-    unfolding follow
-    follows-close p closing = closes sh
+    abbrev RightBy : Leaves → Type 0
+    RightBy w = Right ls (sequentOf u q) s w
+
+    abbrev outcome : Plan → Outcome T
+    outcome p = follow put judge number ss t n R p
 
     -- the first premise, or the only one
-    first-is : (p : Premise) → branchOf u p .linear ≤ q .linear → (e : Result)
-        → Enters total (total - length ss) ss ls (q .unrestricted) (branchOf u p) e
-        → Shown (judged judge (total - length ss) ss (begin put t n (q .unrestricted) p)) e
-    first-is p low e x =
-        enters ih (total - length ss) ss le (branchOf u p) (ext-refl ls) fits low (begin put t n (q .unrestricted) p)
-        (starts u table t n ls (q .unrestricted) p sh) e x
+    first : (p : Premise) → p .linear ≤ q .linear
+        → Meets (Enters total number ss ls R (branchOf u p)) (judged judge number ss (begin put t n R p))
+    first p low =
+        enters ih number ss le (branchOf u p) (ext-refl ls) fits low (begin put t n R p) (starts u table t n ls R p sh)
 
-    follows-one : (p : Plan) {b : Branch} {e : Result} → Leads p (premise b) → Right ls (sequentOf u q) s (premise b)
-        → Enters total (total - length ss) ss ls (q .unrestricted) b e → Follows p e
-    unfolding follow
-    follows-one p {e = e} (one {p = p′}) rule x = first-is p′ (lowers rule) e x
-
-    follows-halt : (p : Plan) {b₁ b₂ : Branch} {c m : ℕ} → Leads p (premises b₁ b₂)
-        → Right ls (sequentOf u q) s (premises b₁ b₂)
-        → Enters total (total - length ss) ss ls (q .unrestricted) b₁ (halted c m) → Follows p (halted c m)
-    unfolding follow
-    follows-halt p {c = c} {m = m} (two {p₁ = p₁}) rule x =
-        onward-halted (judged judge (total - length ss) ss (begin put t n (q .unrestricted) p₁)) _
-        (first-is p₁ (lowers rule .0) (halted c m) x)
-
-    follows-two : (p : Plan) {b₁ b₂ : Branch} {mid : List Step} {ls₁ : Labels} {e : Result} → Leads p (premises b₁ b₂)
-        → Right ls (sequentOf u q) s (premises b₁ b₂)
-        → Enters total (total - length ss) ss ls (q .unrestricted) b₁ (closed mid ls₁)
-        → Enters total (total - length ss) mid ls₁ (q .unrestricted) b₂ e → Follows p e
-    unfolding follow
-    follows-two p {mid = mid} {ls₁ = ls₁} {e = e} (two {p₁ = p₁} {p₂ = p₂}) rule (Enters.within room sp) y =
+    -- the second, once the first one is closed
+    second : (p₁ : Branch) {mid : List Step} {ls₁ : Labels} → Spells ss (begun ls p₁) (beginning ls R p₁) mid ls₁
+        → (p : Premise) → p .linear ≤ q .linear → (t₁ : T) (n₁ : ℕ) → Shows u table t₁ n₁ ls₁
+        → Meets (Enters total number mid ls₁ R (branchOf u p)) (judged judge number mid (begin put t₁ n₁ R p))
+    second p₁ {mid} {ls₁} sp p low t₁ n₁ sh₁ =
         let x = spells-extends sp in
-        let r = q .unrestricted in
-        onward-closed (judged judge (total - length ss) ss (begin put t n r p₁)) _
-        (first-is p₁ (lowers rule .0) (closed mid ls₁) (Enters.within room sp)) (λ t₁ n₁ sh₁.
-        enters ih (total - length ss) mid (omega (arith, x .1)) (branchOf u p₂)
-        (ext-trans (ext-begun ls (branchOf u p₁)) (x .0)) fits (lowers rule .1) (begin put t₁ n₁ r p₂)
-        (starts u table t₁ n₁ ls₁ r p₂ sh₁) e y)
+        enters ih number mid (omega (arith, x .1)) (branchOf u p) (ext-trans (ext-begun ls p₁) (x .0)) fits low
+        (begin put t₁ n₁ R p) (starts u table t₁ n₁ ls₁ R p sh₁)
 
-    follows : (p : Plan) → Agrees ls q s p → (e : Result) → After total s ss ls (sequentOf u q) e → Follows p e
-    follows p a e (After.breaks never) = follows-break p a never
-    follows p a e (After.closes r) = follows-close p (leads p _ (a .only _ r))
-    follows p a e (After.goes r x) = follows-one p (leads p _ (a .only _ r)) r x
-    follows p a e (After.halts r x) = follows-halt p (leads p _ (a .only _ r)) r x
-    follows p a e (After.parts r x y) = follows-two p (leads p _ (a .only _ r)) r x y
+    abbrev second-of : Premise → List Step → T → ℕ → Outcome T
+    second-of p mid t₁ n₁ = judged judge number mid (begin put t₁ n₁ R p)
 
-  pub answered : (f : ℕ) → Answers (premiseOf row held put total f) f
+    -- the outcome is an end of the lines
+    abbrev Explained : Outcome T → Type 0
+    Explained o = (e : Result) × After total s ss ls (sequentOf u q) e × Shown o e
+
+    explain-two : (p₁ : Branch) (p₂ : Premise) → RightBy (premises p₁ (branchOf u p₂)) → (o : Outcome T) (e : Result)
+        → Enters total number ss ls R p₁ e → Shown o e → Explained (onward o (second-of p₂))
+    unfolding onward
+    explain-two p₁ p₂ r o (halted c m) x stops = (halted c m, After.halts r x, stops)
+    explain-two p₁ p₂ r o (closed mid ls₁) (Enters.within room sp) (closes {t = t₁} {n = n₁} sh₁) =
+        let w = second p₁ sp p₂ (lowers r .1) t₁ n₁ sh₁ in
+        (w .end, After.parts r (Enters.within room sp) (w .ends), w .shown)
+
+    explain : (p : Plan) → Agrees ls q s p → Explained (outcome p)
+    unfolding follow
+    explain Refused a = (halted 40 number, After.breaks (λ w r. refused-never (a .only w r)), stops)
+    explain Closed a = (closed ss ls, After.closes (a .ruled), closes sh)
+    explain (One p) a = let w = first p (lowers (a .ruled)) in (w .end, After.goes (a .ruled) (w .ends), w .shown)
+    explain (Two p₁ p₂) a =
+        let w = first p₁ (lowers (a .ruled) .0) in
+        explain-two (branchOf u p₁) p₂ (a .ruled) (judged judge number ss (begin put t n R p₁)) (w .end) (w .ends)
+        (w .shown)
+
+    -- every end of the lines is that outcome
+    only-break : (p : Plan) → Agrees ls q s p → ((w : Leaves) → RightBy w → ⊥) → Shown (outcome p) (halted 40 number)
+    unfolding follow
+    only-break Refused a never = stops
+    only-break Closed a never = absurd (never nothing (a .ruled))
+    only-break (One p) a never = absurd (never (premise (branchOf u p)) (a .ruled))
+    only-break (Two p₁ p₂) a never = absurd (never (premises (branchOf u p₁) (branchOf u p₂)) (a .ruled))
+
+    only-close : (p : Plan) → Leads p nothing → Shown (outcome p) (closed ss ls)
+    unfolding follow
+    only-close p closing = closes sh
+
+    only-one : (p : Plan) {b : Branch} {e : Result} → Leads p (premise b) → RightBy (premise b)
+        → Enters total number ss ls R b e → Shown (outcome p) e
+    unfolding follow
+    only-one p {e = e} (one {p = p′}) r x = first p′ (lowers r) .only e x
+
+    only-halt : (p : Plan) {b₁ b₂ : Branch} {c m : ℕ} → Leads p (premises b₁ b₂) → RightBy (premises b₁ b₂)
+        → Enters total number ss ls R b₁ (halted c m) → Shown (outcome p) (halted c m)
+    unfolding follow
+    only-halt p {c = c} {m = m} (two {p₁ = p₁} {p₂ = p₂}) r x =
+        onward-halted (judged judge number ss (begin put t n R p₁)) (second-of p₂)
+        (first p₁ (lowers r .0) .only (halted c m) x)
+
+    only-two : (p : Plan) {b₁ b₂ : Branch} {mid : List Step} {ls₁ : Labels} {e : Result} → Leads p (premises b₁ b₂)
+        → RightBy (premises b₁ b₂) → Enters total number ss ls R b₁ (closed mid ls₁)
+        → Enters total number mid ls₁ R b₂ e → Shown (outcome p) e
+    unfolding follow
+    only-two p {mid = mid} {ls₁ = ls₁} {e = e} (two {p₁ = p₁} {p₂ = p₂}) r (Enters.within room sp) y =
+        onward-closed (judged judge number ss (begin put t n R p₁)) (second-of p₂)
+        (first p₁ (lowers r .0) .only (closed mid ls₁) (Enters.within room sp))
+        (λ t₁ n₁ sh₁. second (branchOf u p₁) sp p₂ (lowers r .1) t₁ n₁ sh₁ .only e y)
+
+    only-outcome : (p : Plan) → Agrees ls q s p → (e : Result) → After total s ss ls (sequentOf u q) e
+        → Shown (outcome p) e
+    only-outcome p a e (After.breaks never) = only-break p a never
+    only-outcome p a e (After.closes r) = only-close p (leads p _ (a .only _ r))
+    only-outcome p a e (After.goes r x) = only-one p (leads p _ (a .only _ r)) r x
+    only-outcome p a e (After.halts r x) = only-halt p (leads p _ (a .only _ r)) r x
+    only-outcome p a e (After.parts r x y) = only-two p (leads p _ (a .only _ r)) r x y
+
+    step-meets : (p : Plan) → Agrees ls q s p → Meets (Ends total (s ∷ ss) ls (sequentOf u q)) (outcome p)
+    step-meets p a =
+        let w = explain p a in
+        record {
+          end = w .0;
+          ends = after-ends total (w .0) (w .1);
+          shown = w .2;
+          only = λ e x. only-outcome p a e (ends-after total e x);
+        }
+
+  none-left : (ls : Labels) (q : Labelled) → Meets (Ends total [] ls q) (stopped 42 (total + 1))
+  none-left ls q = record { end = halted 42 (total + 1); ends = Stops.ends; shown = stops; only = go }
+    where
+      go : (e : Result) → Ends total [] ls q e → Shown (stopped 42 (total + 1)) e
+      go (halted c m) Stops.ends = stops
+
+  pub exact : (f : ℕ) → Exact (premiseOf row held put total f) f
   unfolding premiseOf
-  answered zero [] t n ls q sh fits le (halted c m) Stops.ends = stops
-  answered zero (s ∷ ss) t n ls q sh fits le e x = absurd (omega arith)
-  answered (suc f) [] t n ls q sh fits le (halted c m) Stops.ends = stops
-  answered (suc f) (s ∷ ss) t n ls q sh fits le e x =
-      follows (answered f) s ss ls q fits (omega arith) t n sh
-      (planOf row (held t) (q .unrestricted) (q .linear) (q .goal) s) (agrees t n ls q s sh fits) e
-      (ends-after total e x)
+  exact zero [] t n ls q sh fits le = none-left ls (sequentOf u q)
+  exact zero (s ∷ ss) t n ls q sh fits le = absurd (omega arith)
+  exact (suc f) [] t n ls q sh fits le = none-left ls (sequentOf u q)
+  exact (suc f) (s ∷ ss) t n ls q sh fits le =
+      step-meets (exact f) s ss ls q fits (omega arith) t n sh
+      (planOf row (held t) (q .unrestricted) (q .linear) (q .goal) s) (agrees t n ls q s sh fits)

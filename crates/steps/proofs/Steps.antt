@@ -25,9 +25,9 @@ use Rattle.steps.proofs.Sound.{derived}
 use Rattle.steps.proofs.Lines.{sequent}
 use Rattle.steps.proofs.Complete.{spelled}
 use Rattle.steps.proofs.Unroll.{Unrolls, goalOf, sequentOf}
-use Rattle.steps.proofs.Runs.{Result, closed, Ends}
+use Rattle.steps.proofs.Runs.{closed, Ends}
 use Rattle.steps.proofs.Tables.{Table, Shows}
-use Rattle.steps.proofs.Checker.{Shown, explained, answered}
+use Rattle.steps.proofs.Checker.{Meets, exact}
 use Rattle.steps.proofs.Finish.{passed-spells, spells-passed, stopped-refused, refused-stopped}
 use Rattle.steps.proofs.Holds.{Begins, begins-fits}
 
@@ -60,19 +60,16 @@ module _ {row : ℕ → Row} {formula : ℕ → Formula} (u : Unrolls row formul
     abbrev outcome : Outcome T
     outcome = premiseOf row held put (length ss) (length ss) ss t next q
 
-    end : (e : Result) × Ends (length ss) ss ls (sequentOf u q) e × Shown u table (length ss) outcome e
-    end = explained u table (length ss) (length ss) ss t next ls q shows fits (omega arith)
-
-    only-end : (e : Result) → Ends (length ss) ss ls (sequentOf u q) e → Shown u table (length ss) outcome e
-    only-end = answered u table (length ss) (length ss) ss t next ls q shows fits (omega arith)
+    meets : Meets u table (length ss) (Ends (length ss) ss ls (sequentOf u q)) outcome
+    meets = exact u table (length ss) (length ss) ss t next ls q shows fits (omega arith)
 
     -- The lines pass exactly if they spell a derivation of the sequent.
     pub exactly : ((t′ : T) × (n : ℕ) × (checkOf row held put (length ss) ss t next q ≡ done [] t′ n))
         ↔ ((after : Labels) × Spells ss ls (sequentOf u q) [] after)
     unfolding checkOf
     exactly = (
-      λ p. passed-spells u table (length ss) outcome (end .0) (end .2) (end .1) (p .2),
-      λ s. spells-passed u table (length ss) outcome (only-end (closed [] (s .0)) (s .1)),
+      λ p. passed-spells u table (length ss) outcome (meets .end) (meets .shown) (meets .ends) (p .2),
+      λ s. spells-passed u table (length ss) outcome (meets .only (closed [] (s .0)) (s .1)),
     )
 
     -- They are refused exactly where they are stopped, with that refusal and step.
@@ -81,8 +78,8 @@ module _ {row : ℕ → Row} {formula : ℕ → Formula} (u : Unrolls row formul
         ↔ Refused (length ss) ss ls (sequentOf u q) c m
     unfolding checkOf
     refused-exactly c m = (
-      λ p. stopped-refused u table (length ss) outcome (end .0) (end .2) (end .1) p,
-      refused-stopped u table (length ss) outcome only-end,
+      λ p. stopped-refused u table (length ss) outcome (meets .end) (meets .shown) (meets .ends) p,
+      refused-stopped u table (length ss) outcome (meets .only),
     )
 
   -- From the hypotheses that a booking holds: what passes is a derivation, and every derivation within the limits has
