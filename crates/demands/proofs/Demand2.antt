@@ -6,29 +6,34 @@ use mathlib.Core.Option.{Option, none, some}
 use mathlib.Core.Bool.{Bool, true, false}
 use Prim.Native.Nat.{ℕ, suc, _+_, _≤_}
 use native.Mathlib.Omega.{arith}
-use lib.ListN.{length}
+use lib.ListN.{length, length-map}
 use Rattle.logic.specs.declared.Interval.{Interval}
-use Rattle.logic.specs.Derives.{uses, taken}
+use Rattle.logic.specs.Interval.{Ordered, reversed}
+use Rattle.logic.specs.Multiset.{Every}
+use Rattle.logic.proofs.Intervals.{ordered-decides}
+use Rattle.logic.proofs.Multisets.{every-left, every-right, every-map}
+use Rattle.logic.specs.Derives.{holds, uses, taken}
 use Rattle.request.specs.declared.Kind.the-variants.{Linear, Unrestricted}
-use Rattle.request.specs.Range.{holds}
-use Rattle.request.specs.Request.{Step, Booking, book}
+use Rattle.request.specs.Request.{Step, Booking, book, stepIntervals, stepsIntervals, intervals}
+use Rattle.request.specs.InRange.{StepInRange, BookingInRange}
 use Rattle.request.specs.Read.{requestOf}
 use Rattle.request.proofs.Requests.{read-in-range}
 use Rattle.steps.specs.declared.Goal.the-variants.{Holds}
 use Rattle.steps.specs.Check.{maxLabels, Outcome, done, stopped, puts, finished, premiseOf, checkOf}
-use Rattle.steps.specs.Spells.{Spells, Refused}
+use Rattle.steps.specs.Limits.{Minutes, Writable}
+use Rattle.steps.specs.Spells.{Labels, Spells, Refused}
 use Rattle.steps.proofs.Holds.{begins-fits}
 use Rattle.steps.proofs.Steps.{exactly, refused-exactly, sound, passing}
 use Rattle.ledger.specs.declared.Credential.{Credential}
-use Rattle.ledger.specs.Ledger.{Ledger, row, held}
+use Rattle.ledger.specs.Ledger.{Ledger, formula, row, held}
 use Rattle.ledger.specs.Checks.{Refusal, LabelTable, noLabels, readLabel, writeLabel, hypothesis, labelsOf, verdict}
 use Rattle.ledger.specs.Checks.{steps}
-use Rattle.ledger.specs.Checks.{bookingSequent}
+use Rattle.ledger.specs.Checks.{any, bookingSequent}
 use Rattle.ledger.specs.Statements.{IsAccepted}
 use Rattle.ledger.proofs.Answers.{some-none, some-inj}
-use Rattle.ledger.proofs.Credentials.{held-length}
+use Rattle.ledger.proofs.Credentials.{any-none, held-length}
 use Rattle.ledger.proofs.Tables.{Tabled}
-use Rattle.demands.specs.Demands.{startLabels, startSequent, Derivation}
+use Rattle.demands.specs.Demands.{hyp, startLabels, startSequent, Derivation}
 use Rattle.demands.proofs.Start.{unrolls, table, start}
 
 -- The check of the steps passes exactly if the checker closes with no line left, and refuses exactly as it stops.
@@ -52,3 +57,69 @@ verdict-stops (stopped x y) c k = (
       ap (λ (f : Refusal). stopped (f .number) (f .step)) r,
   λ e. ap verdict e,
 )
+
+start-few : (t : Ledger) (cs : List Credential) → length cs ≤ maxLabels → length (startLabels t cs) ≤ maxLabels
+start-few t cs few = omega (arith, length-map cs (hyp t))
+
+-- The steps of a booking from credentials cs, at a ledger whose formulas unroll.
+module _ (t : Ledger) (tb : Tabled t) (cs : List Credential) (few : length cs ≤ maxLabels) (n : ℕ) (i : Interval)
+    (ss : List Step) where
+  outcome : Outcome LabelTable
+  outcome = checkOf (row t) readLabel writeLabel (length ss) ss
+      (puts writeLabel noLabels 0 (map hypothesis cs)) (length cs) (bookingSequent cs n i)
+
+  closes : steps t cs n i ss ≡ none → (f : LabelTable) × (m : ℕ) × (outcome ≡ done [] f m)
+  unfolding steps outcome checkOf
+  closes e = passes-done t (length ss) _ e
+
+  -- they pass exactly if they spell a derivation
+  pub steps-exactly : (steps t cs n i ss ≡ none)
+      ↔ ((ls : Labels) × Spells ss (startLabels t cs) (startSequent t cs n i) [] ls)
+  unfolding steps outcome verdict
+  steps-exactly =
+      let b = start t tb cs few in
+      let fits = begins-fits (unrolls t tb) table b (start-few t cs few) (holds (formula t n) i) in
+      let x = exactly (unrolls t tb) table _ (length cs) (startLabels t cs) (bookingSequent cs n i) (b .shows) fits ss in
+      (λ e. x .0 (closes e), λ s. ap verdict (x .1 s .2))
+
+  -- and are refused exactly where they stop
+  pub steps-refused : (c k : ℕ) → (steps t cs n i ss ≡ some (record { number = c; step = k }))
+      ↔ Refused (length ss) ss (startLabels t cs) (startSequent t cs n i) c k
+  unfolding steps outcome
+  steps-refused c k =
+      let b = start t tb cs few in
+      let fits = begins-fits (unrolls t tb) table b (start-few t cs few) (holds (formula t n) i) in
+      let x = refused-exactly (unrolls t tb) table _ (length cs) (startLabels t cs) (bookingSequent cs n i) (b .shows)
+      fits ss c k in
+      let v = verdict-stops outcome c k in
+      (λ e. x .0 (v .0 e), λ r. v .1 (x .1 r))
+
+  -- what passes is a derivation within the limits
+  pub steps-derive : Every Writable ss → steps t cs n i ss ≡ none
+      → (x : Derivation t cs n i) × (length ss ≡ uses x) × (length cs + taken x ≤ maxLabels) × Minutes x
+  unfolding outcome
+  steps-derive w e =
+      let s = sound (unrolls t tb) table (start t tb cs few) (Holds n i) ss (start-few t cs few) w (closes e) in
+      (s .0, s .1, omega (arith, s .2, length-map cs (hyp t)), s .3)
+
+-- What an accepted booking's bytes give: few holds, and steps in range with no interval reversed.
+
+pub few-held : (t : Ledger) (ns : List ℕ) → length ns ≤ 32 → length (held (t .live) ns) ≤ maxLabels
+unfolding maxLabels
+few-held t ns le = omega (arith, held-length (t .live) ns)
+
+every-step : (ss : List Step) → Every StepInRange ss → Every Ordered (stepsIntervals ss) → Every Writable ss
+unfolding stepsIntervals
+every-step [] r o = tt
+every-step (s ∷ ss) r o = (
+  (r .0, every-left Ordered (stepIntervals s) (stepsIntervals ss) o),
+  every-step ss (r .1) (every-right Ordered (stepIntervals s) (stepsIntervals ss) o),
+)
+
+none-reversed : (is : List Interval) → any reversed is ≡ false → Every Ordered is
+none-reversed is e = every-map (λ i. ordered-decides i .0) is (any-none reversed is e)
+
+pub writable-steps : (b : Booking) → BookingInRange b → any reversed (intervals (book b)) ≡ false
+    → Every Writable (b .steps)
+unfolding intervals
+writable-steps b r e = every-step (b .steps) (r .steps) (none-reversed (intervals (book b)) e .1)

@@ -24,7 +24,7 @@ use Rattle.request.specs.Request.{Step, Booking, Request, word, issue, withdraw
 use Rattle.request.specs.Read.{requestOf}
 use Rattle.request.specs.Write.{write}
 use Rattle.request.specs.InRange.{InRange}
-use Rattle.request.specs.Statements.{WriteRead, ReadInRange, WriteShort}
+use Rattle.request.proofs.Requests.{write-read, read-in-range, write-short}
 use Rattle.ledger.specs.declared.Credential.{Credential}
 use Rattle.ledger.specs.declared.Answer.the-variants.{Refused}
 use Rattle.ledger.specs.Table.{build, formulas}
@@ -36,11 +36,14 @@ use Rattle.ledger.specs.Calls.{decide, call, after, answers}
 use Rattle.ledger.specs.History.{History, note, noted, historyOf, formulaIn, givenIn, seatsAndPlaces, issued}
 use Rattle.ledger.specs.History.{withdrawn}
 use Rattle.ledger.specs.Statements.{Pass}
+use Rattle.ledger.proofs.Answers.{if-none, heard}
 use Rattle.ledger.proofs.Walk.{Keeps, walk}
 use Rattle.ledger.proofs.Credentials.{held-length, linearly, splits}
 use Rattle.ledger.proofs.Tables.{Tabled}
 use Rattle.ledger.proofs.Passed.{Fair, passed-word, passed-issue, passed-withdraw, PassedBook, passed-book}
 use Rattle.demands.specs.Demands.{hyp, hypsOf, Derivation, AddsUp, Demand3}
+use Rattle.steps.specs.Limits.{Writable}
+use Rattle.demands.proofs.Demand2.{few-held, writable-steps, steps-derive}
 use Rattle.demands.proofs.Agrees.{Right, seatsAndPlacesIn, Agrees, event, new, given-right, same-table}
 use Rattle.demands.proofs.Agrees.{word-keeps}
 use Rattle.demands.proofs.Agrees.{issue-keeps, withdraw-keeps, tally-keeps}
@@ -89,56 +92,55 @@ booked s {a = a} d w p =
     let c = plain-counts s a (plain-decides a .0 p) in
     omega (arith, conserved s d (w .balanced) (w .even) (c .evens), c .ups, c .downs, w .taken, w .added)
 
-module _ (steps-derive : (t : Ledger) (cs : List Credential) (n : ℕ) (i : Interval) (ss : List Step) → Tabled t
-    → length cs ≤ 32 → steps t cs n i ss ≡ none → Derivation t cs n i)
-    (write-read : WriteRead) (read-in-range : ReadInRange) (write-short : WriteShort) where
-  book-keeps : (t : Ledger) (h : History) (b : Booking) → Agrees t h → PassedBook t b → length (b .holds) ≤ 32
-      → Agrees
-      (withCredential (withLive t (spend (t .live) (held (t .live) (b .holds)))) Linear (b .formula) (b .interval))
-      (event (book b) (t .next) ∷ h)
-  unfolding formulaIn givenIn issued withdrawn
-  book-keeps t h b a p le =
-      let hs = held (t .live) (b .holds) in
-      let v = splits (Right t h) t (b .holds) (p .alive) (p .apart) (a .credentials) in
-      let d = steps-derive t hs (b .formula) (b .interval) (b .steps) (a .tabled)
-      (omega (arith, held-length (t .live) (b .holds))) (p .closes) in
-      record {
-        tabled = same-table t _ _ (a .tabled);
-        formulas = a .formulas;
-        credentials = given-right t h _ (spend (t .live) hs) Linear (b .formula) (b .interval) refl (v .stay)
-            (p .there) (p .plain);
-        totals = λ s. omega (
-          arith,
-          a .totals s,
-          v .sums (seatsAndPlacesIn t s),
-          booked s d (weigh t h s hs (v .went)) (p .plain),
-          snoc-sum (linearly (seatsAndPlacesIn t s)) (spend (t .live) hs) (new t Linear (b .formula) (b .interval)),
-        );
-      }
+book-keeps : (t : Ledger) (h : History) (b : Booking) → Agrees t h → PassedBook t b → length (b .holds) ≤ 32
+    → Every Writable (b .steps)
+    → Agrees
+    (withCredential (withLive t (spend (t .live) (held (t .live) (b .holds)))) Linear (b .formula) (b .interval))
+    (event (book b) (t .next) ∷ h)
+unfolding formulaIn givenIn issued withdrawn
+book-keeps t h b a p le w =
+    let hs = held (t .live) (b .holds) in
+    let v = splits (Right t h) t (b .holds) (p .alive) (p .apart) (a .credentials) in
+    let d = steps-derive t (a .tabled) hs (few-held t (b .holds) le) (b .formula) (b .interval) (b .steps) w
+    (p .closes) .0 in
+    record {
+      tabled = same-table t _ _ (a .tabled);
+      formulas = a .formulas;
+      credentials = given-right t h _ (spend (t .live) hs) Linear (b .formula) (b .interval) refl (v .stay)
+          (p .there) (p .plain);
+      totals = λ s. omega (
+        arith,
+        a .totals s,
+        v .sums (seatsAndPlacesIn t s),
+        booked s d (weigh t h s hs (v .went)) (p .plain),
+        snoc-sum (linearly (seatsAndPlacesIn t s)) (spend (t .live) hs) (new t Linear (b .formula) (b .interval)),
+      );
+    }
 
-  -- Every accepted request keeps ledger and history agreed, so every list of calls does.
-  accept-keeps : Keeps Agrees
-  unfolding accept
-  accept-keeps t h b (word l) e p a = word-keeps t h l a (passed-word t l p .there)
-  accept-keeps t h b (issue k n i) e p a =
-      let q = passed-issue t k n i p in issue-keeps t h k n i a (q .there) (q .fair)
-  accept-keeps t h b (withdraw n) e p a =
-      let q = passed-withdraw t n p in withdraw-keeps t h n (q .credential) (q .found) a
-  accept-keeps t h b (book x) e p a =
-      book-keeps t h x a (passed-book t x p) (read-in-range b (book x) e .holdCount .most)
-  accept-keeps t h b (tally s m) e p a = tally-keeps t h s m _ _ _ a
+-- Every accepted request keeps ledger and history agreed, so every list of calls does.
+accept-keeps : Keeps Agrees
+unfolding accept
+accept-keeps t h b (word l) e p a = word-keeps t h l a (passed-word t l (p .1) .there)
+accept-keeps t h b (issue k n i) e p a =
+    let q = passed-issue t k n i (p .1) in issue-keeps t h k n i a (q .there) (q .fair)
+accept-keeps t h b (withdraw n) e p a =
+    let q = passed-withdraw t n (p .1) in withdraw-keeps t h n (q .credential) (q .found) a
+accept-keeps t h b (book x) e p a =
+    let r = read-in-range b (book x) e in
+    book-keeps t h x a (passed-book t x (p .1)) (r .holdCount .most) (writable-steps x r (if-none 3 _ (p .0)))
+accept-keeps t h b (tally s m) e p a = tally-keeps t h s m _ _ _ a
 
-  empty-agrees : Agrees empty []
-  unfolding formulaIn build formulas sum withdrawn issued
-  empty-agrees = record {
-    tabled = record { reads = λ n. refl; refs = λ n. tt };
-    formulas = refl;
-    credentials = tt;
-    totals = λ s. refl;
-  }
+empty-agrees : Agrees empty []
+unfolding formulaIn build formulas sum withdrawn issued
+empty-agrees = record {
+  tabled = record { reads = λ n. refl; refs = λ n. tt };
+  formulas = refl;
+  credentials = tt;
+  totals = λ s. refl;
+}
 
-  pub agrees : (bs : List (List ℕ)) → Agrees (after empty bs) (historyOf bs)
-  agrees bs = walk Agrees accept-keeps empty [] bs empty-agrees
+pub agrees : (bs : List (List ℕ)) → Agrees (after empty bs) (historyOf bs)
+agrees bs = walk Agrees accept-keeps empty [] bs empty-agrees
 
 -- The figures of a tally
 
@@ -173,3 +175,17 @@ tally-accepted t s m b le e =
     decide t (first ((1 if x) ∷ (2 if isNone (requestOf b)) ∷ readChecks t (requestOf b))) (requestOf b))
     (le-ltb maxBytes (length b) le)
     ∙ ap (λ (o : Option Request). decide t (first ((1 if false) ∷ (2 if isNone o) ∷ readChecks t o)) o) e
+
+pub demand-3 : Demand3
+unfolding accept openSeats shutSeats placed
+demand-3 calls s m hs hm =
+    let t = after empty calls in
+    let r : InRange (tally s m) = record { session = hs; minute = hm } in
+    let e = tally-accepted t s m (write (tally s m)) (write-short (tally s m) r) (write-read (tally s m) r) in
+    record {
+      openSeats = openSeats t s m;
+      shutSeats = shutSeats t s m;
+      placed = placed t s;
+      answer = ap heard e;
+      sum = omega (arith, agrees calls .totals s, tally-sum t s m (t .live));
+    }

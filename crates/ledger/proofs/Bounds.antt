@@ -158,4 +158,4 @@ empty-bounded = record {
 }
 
 pub bounded : (bs : List (List ℕ)) → Bounded (after empty bs)
-bounded bs = walk (λ t h. Bounded t) (λ t h b r e. accept-bounded t r) empty [] bs empty-bounded
+bounded bs = walk (λ t h. Bounded t) (λ t h b r e p. accept-bounded t r (p .1)) empty [] bs empty-bounded

@@ -8,7 +8,7 @@ use Rattle.request.specs.Request.{Request}
 use Rattle.request.specs.Read.{requestOf}
 use Rattle.ledger.specs.declared.Answer.the-variants.{Refused}
 use Rattle.ledger.specs.Ledger.{Ledger}
-use Rattle.ledger.specs.Checks.{checks}
+use Rattle.ledger.specs.Checks.{readChecks}
 use Rattle.ledger.specs.Calls.{Reply, accept, call, after, answers}
 use Rattle.ledger.specs.History.{History, note, noted}
 use Rattle.ledger.specs.Statements.{Pass}
@@ -20,7 +20,8 @@ silent (some r) n k h = refl
 
 -- the bytes b, which read as r, are accepted
 abbrev pub Keeps : (Ledger → History → Type 0) → Type 0
-Keeps P = (t : Ledger) (h : History) (b : List ℕ) (r : Request) → requestOf b ≡ some r → Pass (checks t r) → P t h
+Keeps P = (t : Ledger) (h : History) (b : List ℕ) (r : Request) → requestOf b ≡ some r
+    → Pass (readChecks t (some r)) → P t h
     → P (accept t r .ledger) (note (some r) (accept t r .answer) h)
 
 module _ (P : Ledger → History → Type 0) (keeps : Keeps P) where
@@ -35,7 +36,7 @@ module _ (P : Ledger → History → Type 0) (keeps : Keeps P) where
       go (accepts r e c d q) =
           subst (λ (d : Reply). P (d .ledger) (note (requestOf b) (d .answer) h)) (sym q)
           (subst (λ (o : Option Request). P (accept t r .ledger) (note o (accept t r .answer) h)) (sym e)
-          (keeps t h b r e (d .1) p))
+          (keeps t h b r e d p))
 
   pub walk : (t : Ledger) (h : History) (bs : List (List ℕ)) → P t h → P (after t bs) (noted h bs (answers t bs))
   unfolding after noted answers
