@@ -79,7 +79,8 @@ module _ (t : Ledger) (tb : Tabled t) (cs : List Credential) (few : length cs �
   steps-exactly =
       let b = start t tb cs few in
       let fits = begins-fits (unrolls t tb) table b (start-few t cs few) (holds (formula t n) i) in
-      let x = exactly (unrolls t tb) table _ (length cs) (startLabels t cs) (bookingSequent cs n i) (b .shows) fits ss in
+      let x = exactly (unrolls t tb) table _ (length cs) (startLabels t cs) (bookingSequent cs n i) (b .shows)
+      fits ss in
       (λ e. x .0 (closes e), λ s. ap verdict (x .1 s .2))
 
   -- and are refused exactly where they stop

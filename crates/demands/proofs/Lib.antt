@@ -2,5 +2,6 @@ pub mod Demand1
 pub mod Effects
 pub mod Start
 pub mod Demand2
+pub mod Exactness
 pub mod Agrees
 pub mod Demand3

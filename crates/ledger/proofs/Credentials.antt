@@ -100,6 +100,17 @@ held-length cs (n ∷ ns) = go (find cs n) (held-length cs ns)
     go none le = omega arith
     go (some c) le = omega arith
 
+-- all that are live are found
+pub held-all : (cs : List Credential) (ns : List ℕ) → Every (Alive cs) ns → length (held cs ns) ≡ length ns
+unfolding held
+held-all cs [] a = refl
+held-all cs (n ∷ ns) a = go (find cs n) (a .0) (held-all cs ns (a .1))
+  where
+    go : (o : Option Credential) → isNone o ≡ false → length (held cs ns) ≡ length ns
+        → length (consSome o (held cs ns)) ≡ suc (length ns)
+    go none e q = absurd (no-truth (sym e))
+    go (some c) e q = ap suc q
+
 -- what counts for linear credentials alone
 abbrev pub linearly : (Credential → ℕ) → Credential → ℕ
 linearly f c = byKind (c .kind) (f c) 0
