@@ -3,5 +3,6 @@ pub mod Effects
 pub mod Start
 pub mod Demand2
 pub mod Exactness
+pub mod Completeness
 pub mod Agrees
 pub mod Demand3

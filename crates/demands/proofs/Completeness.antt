@@ -1,0 +1,260 @@
+-- Demand 2: completeness, down to bytes.
+use mathlib.Core.Path.{_≡_, refl, sym, ap, subst, _∙_}
+use mathlib.Core.Logic.{_⊎_, inl, inr}
+use mathlib.Core.List.{List, [], _∷_, _++_, map}
+use mathlib.Core.Option.{Option, none, some}
+use mathlib.Core.Bool.{Bool, true, false, not, _||_}
+use Prim.Native.Nat.{ℕ, suc, _+_, _<_, _≤_}
+use native.Mathlib.Omega.{arith}
+use lib.Dec.{ltb}
+use lib.ListN.{length, length-map}
+use borrow.Author.Tests.{leb-false, le-ltb}
+use Rattle.logic.specs.declared.Interval.{Interval}
+use Rattle.logic.specs.Interval.{Ordered, has, reversed}
+use Rattle.logic.specs.Multiset.{Every}
+use Rattle.logic.specs.Derives.{uses, taken}
+use Rattle.logic.proofs.Tests.{no-truth, and-decides, le-decides}
+use Rattle.logic.proofs.Intervals.{ordered-decides}
+use Rattle.logic.proofs.Multisets.{every-out, every-map}
+use Rattle.request.specs.Range.{minute, formulaNumber, serial, maxBytes}
+use Rattle.request.specs.Request.{Step, Booking, Request, book, stepIntervals, stepsIntervals, intervals}
+use Rattle.request.specs.Read.{requestOf}
+use Rattle.request.specs.Write.{write}
+use Rattle.request.specs.InRange.{_∈_, IntervalInRange, BookingInRange, StepInRange}
+use Rattle.request.proofs.Requests.{write-read, write-short}
+use Rattle.steps.specs.declared.Sequent.{Sequent}
+use Rattle.steps.specs.declared.Goal.the-variants.{Holds}
+use Rattle.steps.specs.Check.{maxLabels, Outcome, done, stopped, puts, premiseOf, finished, checkOf}
+use Rattle.steps.specs.Limits.{Minutes, Writable}
+use Rattle.steps.proofs.Steps.{passing}
+use Rattle.ledger.specs.declared.Credential.{Credential}
+use Rattle.ledger.specs.Ledger.{Ledger, row, find, isNone, held, linearCount}
+use Rattle.ledger.specs.Checks.{LabelTable, Refusal, Check, _if_, any, missing, dead, twice, noRoom, usedUp}
+use Rattle.ledger.specs.Checks.{readLabel}
+use Rattle.ledger.specs.Checks.{writeLabel, noLabels}
+use Rattle.ledger.specs.Checks.{hypothesis, bookingSequent, verdict, steps, checks, readChecks, checksOf}
+use Rattle.ledger.specs.Calls.{Told, ok, accept, says}
+use Rattle.ledger.specs.Statements.{Pass, FirstFails, here, later}
+use Rattle.ledger.proofs.Answers.{some-inj, heard}
+use Rattle.ledger.proofs.Credentials.{take-out, any-none, Alive, held-all}
+use Rattle.ledger.proofs.Bounds.{Rises, Bounded}
+use Rattle.demands.specs.Demands.{hyp, Reached, May, WithinLimits, PastSteps, Completeness}
+use Rattle.demands.proofs.Demand1.{demand-1, call-accepts}
+use Rattle.demands.proofs.Start.{unrolls, table, start}
+use Rattle.demands.proofs.Exactness.{reached-bounded}
+
+-- no line, no pass
+some-steps : (t : Ledger) (ss : List Step) (f g : LabelTable) (next m : ℕ) (q : Sequent)
+    → checkOf (row t) readLabel writeLabel (length ss) ss f next q ≡ done [] g m → 1 ≤ length ss
+unfolding checkOf premiseOf finished
+some-steps t [] f g next m q e = let z : _≡_ {A = ℕ} 0 1 = cc e in absurd (omega arith)
+some-steps t (s ∷ ss) f g next m q e = omega arith
+
+-- What a live serial is
+
+rises-least : (lo : ℕ) (cs : List Credential) → Rises lo cs → Every (λ c. 1 ≤ c .serial) cs
+rises-least lo [] r = tt
+rises-least lo (c ∷ cs) r = let l = r .0 in (omega arith, rises-least (c .serial) cs (r .1))
+
+live-in-range : (t : Ledger) → Bounded t → (n : ℕ) → Alive (t .live) n → n ∈ serial
+live-in-range t b n a = go (find (t .live) n) refl a
+  where
+    go : (o : Option Credential) → find (t .live) n ≡ o → isNone o ≡ false → n ∈ serial
+    go none e q = absurd (no-truth (sym q))
+    go (some c) e q =
+        let out = take-out (t .live) n e in
+        let low = every-out (λ c. 1 ≤ c .serial) (out .1) (rises-least 0 (t .live) (b .rises)) .0 in
+        let high = every-out (λ c. c .serial < t .next) (out .1) (b .below) .0 in
+        record { least = omega (arith, low, out .0); most = omega (arith, high, out .0, b .last) }
+
+-- A check that passes, and one that fails
+
+if-false : (n : ℕ) (b : Bool) → b ≡ false → (n if b) ≡ none
+unfolding _if_
+if-false n b e = rw (e, _if_)
+
+if-true : (n : ℕ) (b : Bool) → b ≡ true → (n if b) ≡ some (record { number = n; step = 0 })
+unfolding _if_
+if-true n b e = rw (e, _if_)
+
+skip : {c : Check} {cs : List Check} {f : Refusal} → c ≡ none → FirstFails f cs → FirstFails f (c ∷ cs)
+skip {cs = cs} {f} e h = subst (λ (x : Check). FirstFails f (x ∷ cs)) (sym e) (later h)
+
+hit : {c : Check} {cs : List Check} {f : Refusal} → c ≡ some f → FirstFails f (c ∷ cs)
+hit {cs = cs} {f} e = subst (λ (x : Check). FirstFails f (x ∷ cs)) (sym e) here
+
+not-true : (b : Bool) → b ≡ true → not b ≡ false
+not-true true e = refl
+not-true false e = absurd (no-truth e)
+
+-- A booking that passes every check up to 42
+
+record Passing (t : Ledger) (b : Booking) : Type 0 where
+  straight : any reversed (intervals (book b)) ≡ false
+  may : May t (b .now) (b .formula) (b .interval) (b .holds)
+  closes : steps t (held (t .live) (b .holds)) (b .formula) (b .interval) (b .steps) ≡ none
+
+module _ (t : Ledger) (b : Booking) (r : BookingInRange b) (p : Passing t b) where
+  bytes : List ℕ
+  bytes = write (book b)
+
+  reads : requestOf bytes ≡ some (book b)
+  unfolding bytes
+  reads = write-read (book b) r
+
+  full : Bool
+  full = noRoom t (linearCount (held (t .live) (b .holds)))
+
+  -- the checks before 22 pass
+  up-to-42 : (f : Refusal) → FirstFails f ((22 if full) ∷ (23 if usedUp t) ∷ []) → FirstFails f (checks t (book b))
+  unfolding checks full
+  up-to-42 f h =
+      let m = p .may in
+      skip (if-false 10 _ (m .there)) (skip (if-false 20 _ (not-true _ (m .plain)))
+      (skip (if-false 30 _ (not-true _ (m .inside))) (skip (if-false 24 _ (m .live))
+      (skip (if-false 31 _ (m .apart)) (skip (p .closes) h)))))
+
+  all-pass : full ≡ false → usedUp t ≡ false → Pass (checks t (book b))
+  unfolding checks full
+  all-pass x y =
+      let m = p .may in
+      let last : Pass ((22 if full) ∷ (23 if usedUp t) ∷ []) = (if-false 22 _ x, (if-false 23 _ y, tt)) in
+      let holds : Pass ((24 if any (dead t) (b .holds)) ∷ (31 if twice (b .holds)) ∷ []) =
+      (if-false 24 _ (m .live), (if-false 31 _ (m .apart), tt)) in (
+        if-false 10 _ (m .there),
+        (
+          if-false 20 _ (not-true _ (m .plain)),
+          (
+            if-false 30 _ (not-true _ (m .inside)),
+            (holds .0, (holds .1 .0, (p .closes, last))),
+          ),
+        ),
+      )
+
+  -- with the checks of the bytes before them
+  short : (1 if ltb maxBytes (length bytes)) ≡ none
+  unfolding bytes
+  short = if-false 1 _ (le-ltb maxBytes (length (write (book b))) (write-short (book b) r))
+
+  formed : (2 if isNone (requestOf bytes)) ≡ none
+  formed = if-false 2 _ (ap isNone reads)
+
+  fails : (f : Refusal) → FirstFails f (checks t (book b)) → FirstFails f (checksOf t bytes)
+  unfolding checksOf
+  fails f h =
+      skip short (skip formed (subst (λ (o : Option Request). FirstFails f (readChecks t o)) (sym reads)
+      (skip (if-false 3 _ (p .straight)) h)))
+
+  passes : Pass (checks t (book b)) → Pass (checksOf t bytes)
+  unfolding checksOf
+  passes h = (
+    short,
+    (
+      formed,
+      subst (λ (o : Option Request). Pass (readChecks t o)) (sym reads)
+          (if-false 3 _ (p .straight), h),
+    ),
+  )
+
+  accepted : Pass (checksOf t bytes) → says t bytes ≡ ok (t .next ∷ [])
+  unfolding accept
+  accepted h =
+      let c = call-accepts t bytes (demand-1 t bytes .accepted .1 h) in
+      ap heard (c .2 ∙ ap (accept t) (some-inj (sym (c .1) ∙ reads)))
+
+  past : PastSteps t (says t bytes)
+  past = go full refl (usedUp t) refl
+    where
+      go : (x : Bool) → full ≡ x → (y : Bool) → usedUp t ≡ y → PastSteps t (says t bytes)
+      go true e y q = inr (inl (demand-1 t bytes .refused 22 0 .1 (fails _ (up-to-42 _ (hit (if-true 22 _ e))))))
+      go false e true q =
+          inr (inr (demand-1 t bytes .refused 23 0 .1
+          (fails _ (up-to-42 _ (skip (if-false 22 _ e) (hit (if-true 23 _ q)))))))
+      go false e false q = inl (accepted (passes (all-pass e q)))
+
+-- The booking that a derivation within the limits makes
+
+any-append : (xs ys : List Interval) → any reversed xs ≡ false → any reversed ys ≡ false
+    → any reversed (xs ++ ys) ≡ false
+unfolding any
+any-append [] ys x y = y
+any-append (i ∷ xs) ys x y = go (reversed i) x (λ e. any-append xs ys e y)
+  where
+    go : (b : Bool) → (b || any reversed xs) ≡ false
+        → (any reversed xs ≡ false → any reversed (xs ++ ys) ≡ false) → (b || any reversed (xs ++ ys)) ≡ false
+    go true e ih = absurd (no-truth (sym e))
+    go false e ih = ih e
+
+ordered-straight : (is : List Interval) → Every Ordered is → any reversed is ≡ false
+unfolding any
+ordered-straight [] o = refl
+ordered-straight (i ∷ is) o = rw (ordered-decides i .1 (o .0)) (ordered-straight is (o .1))
+
+steps-straight : (ss : List Step) → Every Writable ss → any reversed (stepsIntervals ss) ≡ false
+unfolding stepsIntervals any
+steps-straight [] w = refl
+steps-straight (s ∷ ss) w =
+    any-append (stepIntervals s) (stepsIntervals ss) (ordered-straight (stepIntervals s) (w .0 .1))
+    (steps-straight ss (w .1))
+
+booking-straight : (b : Booking) → Ordered (b .interval) → Every Writable (b .steps)
+    → any reversed (intervals (book b)) ≡ false
+unfolding intervals any
+booking-straight b o w = rw (ordered-decides (b .interval) .1 o) (steps-straight (b .steps) w)
+
+has-most : (i : Interval) (m : ℕ) → has i m ≡ true → m ≤ i .to
+unfolding has
+has-most i m e = and-decides (le-decides (i .from) m) (le-decides m (i .to)) .0 e .1
+
+writable-in-range : (ss : List Step) → Every Writable ss → Every StepInRange ss
+writable-in-range ss = every-map (λ s w. w .0) ss
+
+in-range : (t : Ledger) → Bounded t → (b : Booking) → May t (b .now) (b .formula) (b .interval) (b .holds)
+    → 1 ≤ length (b .steps) → length (b .steps) ≤ 256 → Every Writable (b .steps) → BookingInRange b
+in-range t bd b m one many w = record {
+  now = record { least = omega arith; most = omega (arith, has-most (b .interval) (b .now) (m .inside), m .ranged) };
+  formula = record {
+    least = omega arith;
+    most = omega (arith, leb-false (length (t .lines)) (b .formula) (m .there), bd .lines);
+  };
+  interval = record {
+    from = record { least = omega arith; most = omega (arith, m .ordered, m .ranged) };
+    to = record { least = omega arith; most = m .ranged };
+  };
+  holdCount = record { least = omega arith; most = m .few };
+  stepCount = record { least = one; most = many };
+  holds = every-map (λ n a. live-in-range t bd n a) (b .holds) (any-none (dead t) (b .holds) (m .live));
+  steps = writable-in-range (b .steps) w;
+}
+
+pub completeness : Completeness
+unfolding steps verdict bytes
+completeness t reached now n i hs m x lim =
+    let bd = reached-bounded t reached in
+    let cs = held (t .live) hs in
+    let size = held-all (t .live) hs (any-none (dead t) hs (m .live)) in
+    let room : length cs ≤ maxLabels = omega (arith, lim .labels) in
+    let start = start t (bd .tabled) cs room in
+    let p = passing (unrolls t (bd .tabled)) table start (Holds n i) x (lim .minutes)
+    (omega (arith, lim .labels, length-map cs (hyp t))) in
+    finish t bd now n i hs m (p .0) (p .2) (uses x) (p .1) (lim .rules) (p .3)
+  where
+    finish : (t : Ledger) → Bounded t → (now n : ℕ) (i : Interval) (hs : List ℕ) → May t now n i hs → (ss : List Step)
+        → Every Writable ss → (u : ℕ) → length ss ≡ u → u ≤ 256
+        → ((f : LabelTable) × (k : ℕ)
+        × (checkOf (row t) readLabel writeLabel (length ss) ss
+        (puts writeLabel noLabels 0 (map hypothesis (held (t .live) hs))) (length (held (t .live) hs))
+        (bookingSequent (held (t .live) hs) n i) ≡ done [] f k))
+        → (ss : List Step) × (length ss ≡ u) × PastSteps t (says t
+        (write (book (record { now = now; formula = n; interval = i; holds = hs; steps = ss }))))
+    finish t bd now n i hs m ss w u c short q =
+        let b : Booking = record { now = now; formula = n; interval = i; holds = hs; steps = ss } in
+        let r = in-range t bd b m (some-steps t ss _ _ _ _ _ (q .2)) (omega (arith, c)) w in (
+          ss,
+          c,
+          past t b r (record {
+            straight = booking-straight b (m .ordered) w;
+            may = m;
+            closes = ap verdict (q .2);
+          }),
+        )
