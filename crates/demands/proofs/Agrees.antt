@@ -15,15 +15,20 @@ use Rattle.logic.proofs.Multisets.{ins-sum, snoc-sum, same-sum, every-out, ever
 use Rattle.request.specs.declared.Kind.{Kind}
 use Rattle.request.specs.Request.{Line, Request, word, issue, withdraw, book, tally}
 use Rattle.ledger.specs.declared.Credential.{Credential}
-use Rattle.ledger.specs.declared.Answer.the-variants.{Accepted, Counted}
+use Rattle.ledger.specs.declared.Answer.the-variants.{Accepted, Counted, Refused}
 use Rattle.ledger.specs.Table.{form, names}
 use Rattle.ledger.specs.Ledger.{Ledger, formula, byKind, find, withoutSerial}
 use Rattle.ledger.specs.Calls.{withLine, withLive, withCredential}
-use Rattle.ledger.specs.History.{Event, History, learn, formulaIn, Given, givenIn, seatsAndPlaces, issued}
-use Rattle.ledger.specs.History.{seatsAndPlacesOf, withdrawn}
+use Rattle.demands.specs.History.{Event, History, note, learn, formulaIn, Given, givenIn, seatsAndPlaces}
+use Rattle.demands.specs.History.{issued}
+use Rattle.demands.specs.History.{seatsAndPlacesOf, withdrawn}
 use Rattle.ledger.proofs.Credentials.{take-out, linearly}
 use Rattle.ledger.proofs.Tables.{formula-snoc, formula-stays, There, Tabled, line-tabled}
 use Rattle.ledger.proofs.Passed.{Fair}
+
+pub note-silent : (o : Option Request) (n k : ℕ) (h : History) → note o (Refused n k) h ≡ h
+note-silent none n k h = refl
+note-silent (some r) n k h = refl
 
 -- a live credential is the one that the history gave its serial
 pub record Right (t : Ledger) (h : History) (c : Credential) : Type 0 where

@@ -33,8 +33,8 @@ use Rattle.ledger.specs.Checks.{_if_, first, any, steps, checks, readChecks, ch
 use Rattle.ledger.specs.Calls.{Reply, withLive, withCredential, only, seatsOf, placesOf, openSeats, shutSeats, placed}
 use Rattle.ledger.specs.Calls.{accept}
 use Rattle.ledger.specs.Calls.{decide, call, after, answers}
-use Rattle.ledger.specs.History.{History, note, noted, historyOf, formulaIn, givenIn, seatsAndPlaces, issued}
-use Rattle.ledger.specs.History.{withdrawn}
+use Rattle.demands.specs.History.{History, note, historyOf, formulaIn, givenIn, seatsAndPlaces, issued}
+use Rattle.demands.specs.History.{withdrawn}
 use Rattle.ledger.specs.Statements.{Pass}
 use Rattle.ledger.proofs.Answers.{if-none, heard}
 use Rattle.ledger.proofs.Walk.{Keeps, walk}
@@ -44,6 +44,7 @@ use Rattle.ledger.proofs.Passed.{Fair, passed-word, passed-issue, passed-withdr
 use Rattle.demands.specs.Demands.{hyp, hypsOf, Derivation, AddsUp, Demand3}
 use Rattle.steps.specs.Limits.{Writable}
 use Rattle.demands.proofs.Demand2.{few-held, writable-steps, steps-derive}
+use Rattle.demands.proofs.Agrees.{note-silent}
 use Rattle.demands.proofs.Agrees.{Right, seatsAndPlacesIn, Agrees, event, new, given-right, same-table}
 use Rattle.demands.proofs.Agrees.{word-keeps}
 use Rattle.demands.proofs.Agrees.{issue-keeps, withdraw-keeps, tally-keeps}
@@ -118,7 +119,7 @@ book-keeps t h b a p le w =
     }
 
 -- Every accepted request keeps ledger and history agreed, so every list of calls does.
-accept-keeps : Keeps Agrees
+accept-keeps : Keeps note Agrees
 unfolding accept
 accept-keeps t h b (word l) e p a = word-keeps t h l a (passed-word t l (p .1) .there)
 accept-keeps t h b (issue k n i) e p a =
@@ -140,7 +141,7 @@ empty-agrees = record {
 }
 
 pub agrees : (bs : List (List ℕ)) → Agrees (after empty bs) (historyOf bs)
-agrees bs = walk Agrees accept-keeps empty [] bs empty-agrees
+agrees bs = walk note Agrees note-silent accept-keeps empty [] bs empty-agrees
 
 -- The figures of a tally
 

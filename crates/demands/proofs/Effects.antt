@@ -19,7 +19,8 @@ use Rattle.ledger.specs.Ledger.{Ledger, empty, byKind, isKind, find, withoutSer
 use Rattle.ledger.specs.Checks.{any}
 use Rattle.ledger.specs.Calls.{Reply, told, accept, call}
 use Rattle.ledger.proofs.Answers.{some-inj}
-use Rattle.ledger.specs.History.{History}
+use Rattle.demands.specs.History.{History, note}
+use Rattle.demands.proofs.Agrees.{note-silent}
 use Rattle.ledger.proofs.Walk.{Keeps, walk}
 use Rattle.ledger.proofs.Bounds.{Rises, Below, Bounded, rises-lower, rises-without, bounded}
 use Rattle.demands.specs.Demands.{Reached}
@@ -181,7 +182,7 @@ record InOrder (t : Ledger) (h : History) : Type 0 where
   up : CountUp (serials h)
   next : t .next ≡ length (serials h) + 1
 
-accept-in-order : Keeps InOrder
+accept-in-order : Keeps note InOrder
 unfolding accept serials
 accept-in-order t h b (word l) e p o = record { up = o .up; next = o .next }
 accept-in-order t h b (issue k n i) e p o = record { up = (o .next, o .up); next = omega (arith, o .next) }
@@ -191,4 +192,4 @@ accept-in-order t h b (tally s m) e p o = record { up = o .up; next = o .next }
 
 pub serials-once : SerialsOnce
 unfolding serials
-serials-once calls = walk InOrder accept-in-order empty [] calls (record { up = tt; next = refl }) .up
+serials-once calls = walk note InOrder note-silent accept-in-order empty [] calls (record { up = tt; next = refl }) .up

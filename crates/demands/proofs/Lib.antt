@@ -1,8 +1,8 @@
 pub mod Demand1
+pub mod Agrees
 pub mod Effects
 pub mod Start
 pub mod Demand2
 pub mod Exactness
 pub mod Completeness
-pub mod Agrees
 pub mod Demand3

@@ -28,7 +28,7 @@ use Rattle.ledger.specs.Ledger.{Ledger, empty, formula, isKind, held}
 use Rattle.ledger.specs.Checks.{Refusal, Check, any, missing, dead, twice, labelsOf, steps}
 use Rattle.ledger.specs.Checks.{checksOf}
 use Rattle.ledger.specs.Calls.{Told, ok, accept, call, says, after}
-use Rattle.ledger.specs.History.{Event, History, historyOf, issued, withdrawn}
+use Rattle.demands.specs.History.{Event, History, historyOf, issued, withdrawn}
 use Rattle.ledger.specs.Statements.{Pass, FirstFails, IsAccepted}
 
 -- "A till is what calls give, beginning from the empty one": the ledger after a list of calls.

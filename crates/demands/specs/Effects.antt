@@ -19,7 +19,7 @@ use Rattle.ledger.specs.declared.Answer.the-variants.{Accepted, Counted, Refuse
 use Rattle.ledger.specs.Ledger.{Ledger, isKind, find, held}
 use Rattle.ledger.specs.Checks.{any}
 use Rattle.ledger.specs.Calls.{Told, ok, openSeats, shutSeats, placed, withLine, call, says}
-use Rattle.ledger.specs.History.{Event, History, historyOf}
+use Rattle.demands.specs.History.{Event, History, historyOf}
 use Rattle.ledger.specs.Statements.{IsAccepted}
 use Rattle.demands.specs.Demands.{Reached}
 

@@ -1,6 +1,7 @@
 -- What holds of every ledger that calls gave: the limits of document 01.
 use mathlib.Core.Path.{_≡_, refl, sym, subst}
 use mathlib.Core.List.{List, [], _∷_, _++_}
+use mathlib.Core.Option.{Option}
 use mathlib.Core.Bool.{Bool, true, false}
 use Prim.Native.Nat.{ℕ, _+_, _≤_, _<_}
 use native.Mathlib.Omega.{arith}
@@ -14,6 +15,7 @@ use Rattle.request.specs.declared.Kind.the-variants.{Linear, Unrestricted}
 use Rattle.request.specs.Range.{serial}
 use Rattle.request.specs.Request.{Request, word, issue, withdraw, book, tally}
 use Rattle.ledger.specs.declared.Credential.{Credential}
+use Rattle.ledger.specs.declared.Answer.{Answer}
 use Rattle.ledger.specs.Table.{form, build, formulas}
 use Rattle.ledger.specs.Ledger.{Ledger, empty, formula, byKind, withoutSerial, held, spend}
 use Rattle.ledger.specs.Checks.{maxSize, maxFormulas, maxLive, checks, readChecks}
@@ -157,5 +159,11 @@ empty-bounded = record {
   sizes = λ n. omega arith;
 }
 
+-- nothing is kept but the ledger
+abbrev forget : Option Request → Answer → Unit {0} → Unit {0}
+forget o a u = u
+
 pub bounded : (bs : List (List ℕ)) → Bounded (after empty bs)
-bounded bs = walk (λ t h. Bounded t) (λ t h b r e p. accept-bounded t r (p .1)) empty [] bs empty-bounded
+bounded bs =
+    walk forget (λ t u. Bounded t) (λ o n k u. refl) (λ t u b r e p. accept-bounded t r (p .1)) empty tt bs
+    empty-bounded

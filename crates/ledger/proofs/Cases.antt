@@ -1,8 +1,6 @@
 -- The further sessions, by computation.
 use mathlib.Core.Path.{refl}
-use Rattle.ledger.specs.History.{noted, formulaIn, givenIn, issued, withdrawn}
 use Rattle.ledger.specs.Cases.{Answered, times, form, order, bookings, arrows, arms, labels, tallies}
-use Rattle.ledger.specs.Cases.{TalliesCount}
 use Rattle.ledger.proofs.Compute.{played}
 
 pub form-answered : Answered form
@@ -32,7 +30,3 @@ labels-answered = refl
 pub tallies-answered : Answered tallies
 unfolding played Answered
 tallies-answered = refl
-
-pub tallies-count : TalliesCount
-unfolding played noted formulaIn givenIn issued withdrawn
-tallies-count = record { given = refl; taken = refl }

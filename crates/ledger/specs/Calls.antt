@@ -108,3 +108,9 @@ after t (b ∷ bs) = after (call t b .ledger) bs
 unfoldable pub answers : Ledger → List (List ℕ) → List Answer
 answers t [] = []
 answers t (b ∷ bs) = let r = call t b in r .answer ∷ answers (r .ledger) bs
+
+-- what is kept of a list of calls and their answers, one by one, after `kept`
+unfoldable pub traced : {A : Type 0} → (Option Request → Answer → A → A) → A → List (List ℕ) → List Answer → A
+traced keep kept [] more = kept
+traced keep kept (b ∷ bs) [] = kept
+traced keep kept (b ∷ bs) (a ∷ more) = traced keep (keep (requestOf b) a kept) bs more

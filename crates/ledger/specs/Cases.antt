@@ -7,7 +7,6 @@ use Prim.Native.String.{String}
 use Rattle.request.specs.Text.{bytes}
 use Rattle.ledger.specs.Ledger.{empty}
 use Rattle.ledger.specs.Calls.{Told, ok, told, answers}
-use Rattle.ledger.specs.History.{historyOf, issued, withdrawn}
 use Rattle.ledger.specs.Sessions.{ofLines}
 
 -- texts from the empty ledger on, each with what it is answered
@@ -166,9 +165,3 @@ tallies =
     ("withdraw,2\n" ⇒ accepted 2) ∷
     ("withdraw,2\n" ⇒ refused 24) ∷
     ("tally,7,5\n" ⇒ ok (0 ∷ 0 ∷ 1 ∷ [])) ∷ []
-
--- What the history of these counts: two seats and a place were issued, the unrestricted one not among them; the two
--- seats were withdrawn.
-pub record TalliesCount : Type 0 where
-  pub given : issued 7 (historyOf (map (λ t. t .text) tallies)) ≡ 3
-  pub taken : withdrawn 7 (historyOf (map (λ t. t .text) tallies)) ≡ 2

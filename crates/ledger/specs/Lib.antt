@@ -2,7 +2,6 @@ pub mod Table
 pub mod Ledger
 pub mod Checks
 pub mod Calls
-pub mod History
 pub mod Statements
 pub mod Sessions
 pub mod Cases

@@ -9,12 +9,11 @@ use Rattle.logic.specs.Formula.{Formula, one, seats, places}
 use Rattle.request.specs.declared.Kind.{Kind}
 use Rattle.request.specs.declared.Kind.the-variants.{Linear}
 use Rattle.request.specs.Request.{Request, word, issue, withdraw, book, tally}
-use Rattle.request.specs.Read.{requestOf}
 use Rattle.ledger.specs.declared.Answer.{Answer}
 use Rattle.ledger.specs.declared.Answer.the-variants.{Accepted, Counted, Refused}
 use Rattle.ledger.specs.Table.{form}
 use Rattle.ledger.specs.Ledger.{byKind, empty}
-use Rattle.ledger.specs.Calls.{answers}
+use Rattle.ledger.specs.Calls.{answers, traced}
 
 -- an accepted request and its answer
 pub record Event : Type 0 where
@@ -32,15 +31,9 @@ note (some r) (Accepted n) h = record { request = r; answer = Accepted n } ∷ h
 note (some r) (Counted x y z) h = record { request = r; answer = Counted x y z } ∷ h
 note (some r) (Refused n k) h = h
 
--- the history of requests and the answers they got, one by one, after h
-unfoldable pub noted : History → List (List ℕ) → List Answer → History
-noted h [] as′ = h
-noted h (b ∷ bs) [] = h
-noted h (b ∷ bs) (a ∷ more) = noted (note (requestOf b) a h) bs more
-
 -- of a list of calls from the empty ledger
 abbrev pub historyOf : List (List ℕ) → History
-historyOf bs = noted [] bs (answers empty bs)
+historyOf bs = traced note [] bs (answers empty bs)
 
 -- what f tells of the numbers answered before, and x of this one
 abbrev pub learn : {A : Type 0} → Answer → A → (ℕ → A) → ℕ → A
