@@ -13,7 +13,7 @@ use Rattle.logic.specs.Formula.{Formula}
 use Rattle.logic.specs.Multiset.{Every, sum}
 use Rattle.logic.proofs.Multisets.{ins-sum, snoc-sum, same-sum, every-out, every-snoc, every-map}
 use Rattle.request.specs.declared.Kind.{Kind}
-use Rattle.request.specs.Request.{Line, Request, word, issue, withdraw, book, tally}
+use Rattle.request.specs.Request.{Line, Request, word, issue, withdraw, tally}
 use Rattle.ledger.specs.declared.Credential.{Credential}
 use Rattle.ledger.specs.declared.Answer.the-variants.{Accepted, Counted, Refused}
 use Rattle.ledger.specs.Table.{form, names}

@@ -1,10 +1,10 @@
 -- Demand 2: completeness, down to bytes.
 use mathlib.Core.Path.{_≡_, refl, sym, ap, subst, _∙_}
-use mathlib.Core.Logic.{_⊎_, inl, inr}
+use mathlib.Core.Logic.{inl, inr}
 use mathlib.Core.List.{List, [], _∷_, _++_, map}
 use mathlib.Core.Option.{Option, none, some}
-use mathlib.Core.Bool.{Bool, true, false, not, _||_}
-use Prim.Native.Nat.{ℕ, suc, _+_, _<_, _≤_}
+use mathlib.Core.Bool.{Bool, true, false, _||_}
+use Prim.Native.Nat.{ℕ, _<_, _≤_}
 use native.Mathlib.Omega.{arith}
 use lib.Dec.{ltb}
 use lib.ListN.{length, length-map}
@@ -12,33 +12,34 @@ use borrow.Author.Tests.{leb-false, le-ltb}
 use Rattle.logic.specs.declared.Interval.{Interval}
 use Rattle.logic.specs.Interval.{Ordered, has, reversed}
 use Rattle.logic.specs.Multiset.{Every}
-use Rattle.logic.specs.Derives.{uses, taken}
+use Rattle.logic.specs.Derives.{uses}
 use Rattle.logic.proofs.Tests.{no-truth, and-decides, le-decides}
 use Rattle.logic.proofs.Intervals.{ordered-decides}
 use Rattle.logic.proofs.Multisets.{every-out, every-map}
-use Rattle.request.specs.Range.{minute, formulaNumber, serial, maxBytes}
+use Rattle.request.specs.Range.{serial, maxBytes}
 use Rattle.request.specs.Request.{Step, Booking, Request, book, stepIntervals, stepsIntervals, intervals}
 use Rattle.request.specs.Read.{requestOf}
 use Rattle.request.specs.Write.{write}
-use Rattle.request.specs.InRange.{_∈_, IntervalInRange, BookingInRange, StepInRange}
+use Rattle.request.specs.InRange.{_∈_, BookingInRange, StepInRange}
 use Rattle.request.proofs.Requests.{write-read, write-short}
 use Rattle.steps.specs.declared.Sequent.{Sequent}
 use Rattle.steps.specs.declared.Goal.the-variants.{Holds}
-use Rattle.steps.specs.Check.{maxLabels, Outcome, done, stopped, puts, premiseOf, finished, checkOf}
-use Rattle.steps.specs.Limits.{Minutes, Writable}
+use Rattle.steps.specs.Check.{maxLabels, done, puts, premiseOf, finished, checkOf}
+use Rattle.steps.specs.Limits.{Writable}
 use Rattle.steps.proofs.Steps.{passing}
 use Rattle.ledger.specs.declared.Credential.{Credential}
 use Rattle.ledger.specs.Ledger.{Ledger, row, find, isNone, held, linearCount}
-use Rattle.ledger.specs.Checks.{LabelTable, Refusal, Check, _if_, any, missing, dead, twice, noRoom, usedUp}
+use Rattle.ledger.specs.Checks.{LabelTable, Refusal, _if_, any, dead, twice, noRoom, usedUp}
 use Rattle.ledger.specs.Checks.{readLabel}
 use Rattle.ledger.specs.Checks.{writeLabel, noLabels}
 use Rattle.ledger.specs.Checks.{hypothesis, bookingSequent, verdict, steps, checks, readChecks, checksOf}
-use Rattle.ledger.specs.Calls.{Told, ok, accept, says}
-use Rattle.ledger.specs.Statements.{Pass, FirstFails, here, later}
+use Rattle.ledger.specs.Calls.{ok, accept, says}
+use Rattle.ledger.specs.Statements.{Pass, FirstFails}
 use Rattle.ledger.proofs.Answers.{some-inj, heard}
 use Rattle.ledger.proofs.Credentials.{take-out, any-none, Alive, held-all}
 use Rattle.ledger.proofs.Bounds.{Rises, Bounded}
-use Rattle.demands.specs.Demands.{hyp, Reached, May, WithinLimits, PastSteps, Completeness}
+use Rattle.ledger.proofs.Firsts.{if-false, if-true, skip, hit, not-true}
+use Rattle.demands.specs.Demands.{hyp, May, PastSteps, Completeness}
 use Rattle.demands.proofs.Demand1.{demand-1, call-accepts}
 use Rattle.demands.proofs.Start.{unrolls, table, start}
 use Rattle.demands.proofs.Exactness.{reached-bounded}
@@ -66,26 +67,6 @@ live-in-range t b n a = go (find (t .live) n) refl a
         let low = every-out (λ c. 1 ≤ c .serial) (out .1) (rises-least 0 (t .live) (b .rises)) .0 in
         let high = every-out (λ c. c .serial < t .next) (out .1) (b .below) .0 in
         record { least = omega (arith, low, out .0); most = omega (arith, high, out .0, b .last) }
-
--- A check that passes, and one that fails
-
-if-false : (n : ℕ) (b : Bool) → b ≡ false → (n if b) ≡ none
-unfolding _if_
-if-false n b e = rw (e, _if_)
-
-if-true : (n : ℕ) (b : Bool) → b ≡ true → (n if b) ≡ some (record { number = n; step = 0 })
-unfolding _if_
-if-true n b e = rw (e, _if_)
-
-skip : {c : Check} {cs : List Check} {f : Refusal} → c ≡ none → FirstFails f cs → FirstFails f (c ∷ cs)
-skip {cs = cs} {f} e h = subst (λ (x : Check). FirstFails f (x ∷ cs)) (sym e) (later h)
-
-hit : {c : Check} {cs : List Check} {f : Refusal} → c ≡ some f → FirstFails f (c ∷ cs)
-hit {cs = cs} {f} e = subst (λ (x : Check). FirstFails f (x ∷ cs)) (sym e) here
-
-not-true : (b : Bool) → b ≡ true → not b ≡ false
-not-true true e = refl
-not-true false e = absurd (no-truth e)
 
 -- A booking that passes every check up to 42
 

@@ -1,33 +1,17 @@
 -- Demand 1, proved.
-use mathlib.Core.Path.{_≡_, refl, sym, ap, subst, _∙_}
-use mathlib.Core.List.{List, [], _∷_}
-use mathlib.Core.Option.{none, some}
+use mathlib.Core.Path.{_≡_, sym, ap, subst, _∙_}
+use mathlib.Core.List.{List}
+use mathlib.Core.Option.{some}
 use Prim.Native.Nat.{ℕ}
 use Rattle.request.specs.Request.{Request}
 use Rattle.request.specs.Read.{requestOf}
 use Rattle.ledger.specs.Ledger.{Ledger}
-use Rattle.ledger.specs.Checks.{Refusal, Check, first, checksOf}
+use Rattle.ledger.specs.Checks.{Refusal, checksOf}
 use Rattle.ledger.specs.Calls.{Reply, Told, accept, call, says}
-use Rattle.ledger.specs.Statements.{Pass, FirstFails, here, later, IsAccepted}
+use Rattle.ledger.specs.Statements.{IsAccepted}
 use Rattle.ledger.proofs.Answers.{some-none, some-inj, Does, refuses, accepts, does, accept-accepts, refusalOf, heard}
+use Rattle.ledger.proofs.Firsts.{pass-first, first-fails, fails-first}
 use Rattle.demands.specs.Demands.{Demand1, Accepts}
-
-pass-first : (cs : List Check) → Pass cs → first cs ≡ none
-unfolding first
-pass-first [] p = refl
-pass-first (none ∷ cs) p = pass-first cs (p .1)
-pass-first (some f ∷ cs) p = absurd (some-none (p .0))
-
-first-fails : (cs : List Check) {f : Refusal} → first cs ≡ some f → FirstFails f cs
-unfolding first
-first-fails [] e = absurd (some-none (sym e))
-first-fails (none ∷ cs) e = later (first-fails cs e)
-first-fails (some g ∷ cs) {f} e = subst (λ (x : Refusal). FirstFails f (some x ∷ cs)) (sym (some-inj e)) here
-
-fails-first : {cs : List Check} {f : Refusal} → FirstFails f cs → first cs ≡ some f
-unfolding first
-fails-first here = refl
-fails-first (later h) = fails-first h
 
 refused-not : (a : Told) {n k : ℕ} → IsAccepted a → a ≡ Told.no n k → ⊥
 refused-not a x e = subst IsAccepted e x

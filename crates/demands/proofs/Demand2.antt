@@ -1,10 +1,10 @@
 -- Demand 2, proved: soundness, exactness, completeness down to bytes.
-use mathlib.Core.Path.{_≡_, refl, sym, ap, subst, _∙_}
+use mathlib.Core.Path.{_≡_, refl, sym, ap}
 use mathlib.Core.Logic.{_↔_}
 use mathlib.Core.List.{List, [], _∷_, map}
-use mathlib.Core.Option.{Option, none, some}
-use mathlib.Core.Bool.{Bool, true, false}
-use Prim.Native.Nat.{ℕ, suc, _+_, _≤_}
+use mathlib.Core.Option.{none, some}
+use mathlib.Core.Bool.{false}
+use Prim.Native.Nat.{ℕ, _+_, _≤_}
 use native.Mathlib.Omega.{arith}
 use lib.ListN.{length, length-map}
 use Rattle.logic.specs.declared.Interval.{Interval}
@@ -13,23 +13,19 @@ use Rattle.logic.specs.Multiset.{Every}
 use Rattle.logic.proofs.Intervals.{ordered-decides}
 use Rattle.logic.proofs.Multisets.{every-left, every-right, every-map}
 use Rattle.logic.specs.Derives.{holds, uses, taken}
-use Rattle.request.specs.declared.Kind.the-variants.{Linear, Unrestricted}
 use Rattle.request.specs.Request.{Step, Booking, book, stepIntervals, stepsIntervals, intervals}
 use Rattle.request.specs.InRange.{StepInRange, BookingInRange}
-use Rattle.request.specs.Read.{requestOf}
-use Rattle.request.proofs.Requests.{read-in-range}
 use Rattle.steps.specs.declared.Goal.the-variants.{Holds}
-use Rattle.steps.specs.Check.{maxLabels, Outcome, done, stopped, puts, finished, premiseOf, checkOf}
+use Rattle.steps.specs.Check.{maxLabels, Outcome, done, stopped, puts, finished, checkOf}
 use Rattle.steps.specs.Limits.{Minutes, Writable}
 use Rattle.steps.specs.Spells.{Labels, Spells, Refused}
 use Rattle.steps.proofs.Holds.{begins-fits}
-use Rattle.steps.proofs.Steps.{exactly, refused-exactly, sound, passing}
+use Rattle.steps.proofs.Steps.{exactly, refused-exactly, sound}
 use Rattle.ledger.specs.declared.Credential.{Credential}
 use Rattle.ledger.specs.Ledger.{Ledger, formula, row, held}
-use Rattle.ledger.specs.Checks.{Refusal, LabelTable, noLabels, readLabel, writeLabel, hypothesis, labelsOf, verdict}
+use Rattle.ledger.specs.Checks.{Refusal, LabelTable, noLabels, readLabel, writeLabel, hypothesis, verdict}
 use Rattle.ledger.specs.Checks.{steps}
 use Rattle.ledger.specs.Checks.{any, bookingSequent}
-use Rattle.ledger.specs.Statements.{IsAccepted}
 use Rattle.ledger.proofs.Answers.{some-none, some-inj}
 use Rattle.ledger.proofs.Credentials.{any-none, held-length}
 use Rattle.ledger.proofs.Tables.{Tabled}

@@ -1,47 +1,44 @@
 -- Demand 3, proved: a booking moves no seat out of its session, so the ledger stays what its history says, and a tally
 -- adds up.
-use mathlib.Core.Path.{_≡_, refl, sym, ap, subst, _∙_}
+use mathlib.Core.Path.{_≡_, refl, ap, _∙_}
 use mathlib.Core.List.{List, [], _∷_}
-use mathlib.Core.Option.{Option, none, some}
+use mathlib.Core.Option.{some}
 use mathlib.Core.Bool.{Bool, true, false, not}
 use Prim.Native.Nat.{ℕ, _+_, _≤_}
 use native.Mathlib.Omega.{arith}
 use lib.ListN.{length}
-use borrow.Author.Tests.{le-ltb}
 use Rattle.logic.specs.declared.Interval.{Interval}
 use Rattle.logic.specs.Interval.{has}
 use Rattle.logic.specs.Formula.{Formula, seats, places, plain}
 use Rattle.logic.specs.Multiset.{Every, sum}
 use Rattle.logic.specs.Derives.{Hyp, holds, Derives}
 use Rattle.logic.proofs.Multisets.{snoc-sum}
-use Rattle.logic.proofs.Weights.{Level, Even, ups, downs, balanced-is}
+use Rattle.logic.proofs.Weights.{ups, downs, balanced-is}
 use Rattle.logic.proofs.Balance.{plain-decides, plain-counts}
 use Rattle.logic.proofs.Conservation.{conserved, EvenHyp, BalancedHyp}
 use Rattle.request.specs.declared.Kind.{Kind}
 use Rattle.request.specs.declared.Kind.the-variants.{Linear, Unrestricted}
 use Rattle.request.specs.Range.{maxBytes}
-use Rattle.request.specs.Request.{Step, Booking, Request, word, issue, withdraw, book, tally, intervals}
+use Rattle.request.specs.Request.{Booking, word, issue, withdraw, book, tally, intervals}
 use Rattle.request.specs.Read.{requestOf}
 use Rattle.request.specs.Write.{write}
 use Rattle.request.specs.InRange.{InRange}
 use Rattle.request.proofs.Requests.{write-read, read-in-range, write-short}
 use Rattle.ledger.specs.declared.Credential.{Credential}
-use Rattle.ledger.specs.declared.Answer.the-variants.{Refused}
 use Rattle.ledger.specs.Table.{build, formulas}
-use Rattle.ledger.specs.Ledger.{Ledger, empty, formula, byKind, isNone, held, spend}
-use Rattle.ledger.specs.Checks.{_if_, first, any, steps, checks, readChecks, checksOf}
-use Rattle.ledger.specs.Calls.{Reply, withLive, withCredential, only, seatsOf, placesOf, openSeats, shutSeats, placed}
+use Rattle.ledger.specs.Ledger.{Ledger, empty, formula, byKind, held, spend}
+use Rattle.ledger.specs.Checks.{any, steps, checks}
+use Rattle.ledger.specs.Calls.{withLive, withCredential, only, seatsOf, placesOf, openSeats, shutSeats, placed}
 use Rattle.ledger.specs.Calls.{accept}
-use Rattle.ledger.specs.Calls.{decide, call, after, answers}
+use Rattle.ledger.specs.Calls.{call, after}
 use Rattle.demands.specs.History.{History, note, historyOf, formulaIn, givenIn, seatsAndPlaces, issued}
 use Rattle.demands.specs.History.{withdrawn}
-use Rattle.ledger.specs.Statements.{Pass}
 use Rattle.ledger.proofs.Answers.{if-none, heard}
+use Rattle.ledger.proofs.Firsts.{if-false, handle-passes, call-read}
 use Rattle.ledger.proofs.Walk.{Keeps, walk}
-use Rattle.ledger.proofs.Credentials.{held-length, linearly, splits}
-use Rattle.ledger.proofs.Tables.{Tabled}
+use Rattle.ledger.proofs.Credentials.{linearly, splits}
 use Rattle.ledger.proofs.Passed.{Fair, passed-word, passed-issue, passed-withdraw, PassedBook, passed-book}
-use Rattle.demands.specs.Demands.{hyp, hypsOf, Derivation, AddsUp, Demand3}
+use Rattle.demands.specs.Demands.{hyp, hypsOf, Demand3}
 use Rattle.steps.specs.Limits.{Writable}
 use Rattle.demands.proofs.Demand2.{few-held, writable-steps, steps-derive}
 use Rattle.demands.proofs.Agrees.{note-silent}
@@ -170,12 +167,9 @@ tally-sum t s m (c ∷ cs) =
 -- a tally is always accepted
 tally-accepted : (t : Ledger) (s m : ℕ) (b : List ℕ) → length b ≤ maxBytes → requestOf b ≡ some (tally s m)
     → call t b ≡ accept t (tally s m)
-unfolding call decide checksOf checks first _if_ any intervals
+unfolding checks any intervals
 tally-accepted t s m b le e =
-    ap (λ (x : Bool).
-    decide t (first ((1 if x) ∷ (2 if isNone (requestOf b)) ∷ readChecks t (requestOf b))) (requestOf b))
-    (le-ltb maxBytes (length b) le)
-    ∙ ap (λ (o : Option Request). decide t (first ((1 if false) ∷ (2 if isNone o) ∷ readChecks t o)) o) e
+    call-read t b (tally s m) le e ∙ handle-passes t (tally s m) (if-false 3 false refl, tt)
 
 pub demand-3 : Demand3
 unfolding accept openSeats shutSeats placed

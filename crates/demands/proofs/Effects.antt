@@ -3,27 +3,23 @@ use mathlib.Core.Path.{_≡_, refl, sym, ap, subst, _∙_}
 use mathlib.Core.List.{List, [], _∷_, _++_}
 use mathlib.Core.Option.{Option, none, some}
 use mathlib.Core.Bool.{Bool, true, false, _&&_, _||_}
-use Prim.Native.Nat.{ℕ, _+_, _<_, _≤_}
+use Prim.Native.Nat.{ℕ, _+_, _≤_}
 use native.Mathlib.Omega.{arith}
 use lib.Dec.{eqb}
 use lib.ListN.{length}
 use borrow.Author.Tests.{eqb-true, eqb-false, eq-eqb, ne-eqb}
-use Rattle.logic.specs.declared.Interval.{Interval}
-use Rattle.logic.specs.Multiset.{Every}
 use Rattle.request.specs.declared.Kind.{Kind}
 use Rattle.request.specs.declared.Kind.the-variants.{Linear, Unrestricted}
 use Rattle.request.specs.Request.{Request, word, issue, withdraw, book, tally}
-use Rattle.request.specs.Read.{requestOf}
 use Rattle.ledger.specs.declared.Credential.{Credential}
-use Rattle.ledger.specs.Ledger.{Ledger, empty, byKind, isKind, find, withoutSerial, held, spend}
+use Rattle.ledger.specs.Ledger.{Ledger, empty, byKind, find, withoutSerial, held, spend}
 use Rattle.ledger.specs.Checks.{any}
 use Rattle.ledger.specs.Calls.{Reply, told, accept, call}
 use Rattle.ledger.proofs.Answers.{some-inj}
 use Rattle.demands.specs.History.{History, note}
 use Rattle.demands.proofs.Agrees.{note-silent}
 use Rattle.ledger.proofs.Walk.{Keeps, walk}
-use Rattle.ledger.proofs.Bounds.{Rises, Below, Bounded, rises-lower, rises-without, bounded}
-use Rattle.demands.specs.Demands.{Reached}
+use Rattle.ledger.proofs.Bounds.{Rises, Below, Bounded, rises-without, bounded}
 use Rattle.demands.specs.Effects.{EffectOf, Effects, spent, serials, CountUp, SerialsOnce}
 use Rattle.demands.proofs.Demand1.{call-accepts}
 

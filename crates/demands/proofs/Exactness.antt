@@ -1,24 +1,22 @@
 -- Demand 2 of requests: soundness and exactness.
-use mathlib.Core.Path.{_≡_, refl, sym, subst, _∙_}
+use mathlib.Core.Path.{_≡_, refl, sym, subst}
 use mathlib.Core.List.{List, [], _∷_}
 use mathlib.Core.Option.{Option, none, some}
 use mathlib.Core.Bool.{Bool, true, false}
-use Prim.Native.Nat.{ℕ, _+_, _<_, _≤_}
+use Prim.Native.Nat.{ℕ, _<_}
 use native.Mathlib.Omega.{arith}
-use lib.ListN.{length}
 use Rattle.logic.specs.Multiset.{Every}
 use Rattle.request.specs.Request.{Booking, Request, book}
 use Rattle.request.specs.Read.{requestOf}
 use Rattle.request.proofs.Requests.{read-in-range}
 use Rattle.ledger.specs.Ledger.{Ledger, held}
 use Rattle.ledger.specs.Checks.{Check, _if_, dead, checks, readChecks, checksOf}
-use Rattle.ledger.specs.Calls.{says}
-use Rattle.ledger.specs.Statements.{Pass, IsAccepted}
+use Rattle.ledger.specs.Statements.{Pass}
 use Rattle.ledger.proofs.Answers.{some-none, if-none}
 use Rattle.ledger.proofs.Credentials.{any-none, held-all}
 use Rattle.ledger.proofs.Passed.{passed-book}
 use Rattle.ledger.proofs.Bounds.{Bounded, bounded}
-use Rattle.demands.specs.Demands.{Reached, SoundFor, Soundness, StepsDerive, stepsOf, OnlySteps, ExactlyFor}
+use Rattle.demands.specs.Demands.{Reached, Soundness, stepsOf, OnlySteps}
 use Rattle.demands.specs.Demands.{Exactness}
 use Rattle.demands.proofs.Demand1.{demand-1}
 use Rattle.demands.proofs.Demand2.{few-held, writable-steps, steps-exactly, steps-refused, steps-derive}

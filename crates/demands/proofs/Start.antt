@@ -1,7 +1,7 @@
 -- The holds of a booking take labels 0, 1, .. in order: what the step checker begins with.
 use mathlib.Core.Path.{_≡_, refl, sym, ap, subst, subst₂, _∙_}
 use mathlib.Core.List.{List, [], _∷_, _++_, map, append-nil, append-assoc}
-use mathlib.Core.Bool.{Bool, true, false}
+use mathlib.Core.Bool.{true, false}
 use Prim.Native.Nat.{ℕ, suc, _+_, _≤_}
 use native.Mathlib.Omega.{arith}
 use lib.ListN.{length}
@@ -15,7 +15,6 @@ use Rattle.request.specs.declared.Kind.the-variants.{Linear, Unrestricted}
 use Rattle.request.specs.Request.{Line}
 use Rattle.labels.specs.Labels.{insert}
 use Rattle.labels.proofs.Permutations.{perm-middle}
-use Rattle.steps.specs.declared.Hypothesis.{Hypothesis}
 use Rattle.steps.specs.Check.{maxLabels, puts}
 use Rattle.steps.specs.Spells.{Labels}
 use Rattle.steps.proofs.Labelling.{length-snoc}
@@ -24,7 +23,7 @@ use Rattle.steps.proofs.Tables.{Table}
 use Rattle.steps.proofs.Holds.{Begins, begins-same, begins-none, add-linear, add-unrestricted}
 use Rattle.ledger.specs.declared.Credential.{Credential}
 use Rattle.ledger.specs.Table.{form, rowOf}
-use Rattle.ledger.specs.Ledger.{Ledger, formula, row, byKind, isKind}
+use Rattle.ledger.specs.Ledger.{Ledger, formula, row, isKind}
 use Rattle.ledger.specs.Checks.{LabelTable, noLabels, readLabel, writeLabel, hypothesis, labelsOf}
 use Rattle.ledger.proofs.Tables.{lineAt, Tabled}
 use Rattle.demands.specs.Demands.{hyp, hypsOf, startLabels}

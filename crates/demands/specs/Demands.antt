@@ -3,10 +3,9 @@
 use mathlib.Core.Path.{_≡_}
 use mathlib.Core.Logic.{_↔_, _⊎_}
 use mathlib.Core.List.{List, [], _∷_, map}
-use mathlib.Core.Option.{Option, none, some}
-use mathlib.Core.Bool.{Bool, true, false}
-use Prim.Native.Nat.{ℕ, _+_, _≤_, _<_}
-use lib.Dec.{eqb}
+use mathlib.Core.Option.{none, some}
+use mathlib.Core.Bool.{true, false}
+use Prim.Native.Nat.{ℕ, _+_, _≤_}
 use lib.ListN.{length}
 use Rattle.logic.specs.declared.Interval.{Interval}
 use Rattle.logic.specs.Interval.{Ordered, has}
@@ -16,19 +15,19 @@ use Rattle.logic.specs.Derives.{Hyp, _⟦_⟧, Judgment, holds, Derives, uses, 
 use Rattle.request.specs.declared.Kind.{Kind}
 use Rattle.request.specs.declared.Kind.the-variants.{Linear, Unrestricted}
 use Rattle.request.specs.Range.{session, minute, steps as stepCount, holds as holdCount}
-use Rattle.request.specs.Request.{Step, Booking, Request, word, issue, withdraw, book, tally}
+use Rattle.request.specs.Request.{Step, Booking, Request, book, tally}
 use Rattle.request.specs.Read.{requestOf}
 use Rattle.request.specs.Write.{write}
-use Rattle.request.specs.InRange.{_∈_, IntervalInRange}
+use Rattle.request.specs.InRange.{_∈_}
 use Rattle.steps.specs.Check.{maxLabels}
 use Rattle.steps.specs.Limits.{Minutes}
 use Rattle.steps.specs.Spells.{Labels, Labelled, Spells, Refused as StepsRefused}
 use Rattle.ledger.specs.declared.Credential.{Credential}
 use Rattle.ledger.specs.Ledger.{Ledger, empty, formula, isKind, held}
-use Rattle.ledger.specs.Checks.{Refusal, Check, any, missing, dead, twice, labelsOf, steps}
+use Rattle.ledger.specs.Checks.{Check, any, missing, dead, twice, labelsOf, steps}
 use Rattle.ledger.specs.Checks.{checksOf}
 use Rattle.ledger.specs.Calls.{Told, ok, accept, call, says, after}
-use Rattle.demands.specs.History.{Event, History, historyOf, issued, withdrawn}
+use Rattle.demands.specs.History.{historyOf, issued, withdrawn}
 use Rattle.ledger.specs.Statements.{Pass, FirstFails, IsAccepted}
 
 -- "A till is what calls give, beginning from the empty one": the ledger after a list of calls.

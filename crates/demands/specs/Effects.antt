@@ -4,14 +4,13 @@ use mathlib.Core.Path.{_≡_}
 use mathlib.Core.List.{List, [], _∷_}
 use mathlib.Core.Option.{Option, none, some}
 use mathlib.Core.Bool.{Bool, true, false, _&&_}
-use Prim.Native.Nat.{ℕ, _+_, _<_}
+use Prim.Native.Nat.{ℕ, _+_}
 use lib.Dec.{eqb}
 use lib.ListN.{length}
 use Rattle.logic.specs.declared.Interval.{Interval}
-use Rattle.logic.specs.Multiset.{Every}
 use Rattle.request.specs.declared.Kind.{Kind}
 use Rattle.request.specs.declared.Kind.the-variants.{Linear}
-use Rattle.request.specs.Request.{Line, Booking, Request, word, issue, withdraw, book, tally}
+use Rattle.request.specs.Request.{Line, Request, word, issue, withdraw, book, tally}
 use Rattle.request.specs.Read.{requestOf}
 use Rattle.ledger.specs.declared.Credential.{Credential}
 use Rattle.ledger.specs.declared.Answer.{Answer}
@@ -19,7 +18,7 @@ use Rattle.ledger.specs.declared.Answer.the-variants.{Accepted, Counted, Refuse
 use Rattle.ledger.specs.Ledger.{Ledger, isKind, find, held}
 use Rattle.ledger.specs.Checks.{any}
 use Rattle.ledger.specs.Calls.{Told, ok, openSeats, shutSeats, placed, withLine, call, says}
-use Rattle.demands.specs.History.{Event, History, historyOf}
+use Rattle.demands.specs.History.{History, historyOf}
 use Rattle.ledger.specs.Statements.{IsAccepted}
 use Rattle.demands.specs.Demands.{Reached}
 

@@ -18,8 +18,8 @@ use Rattle.ledger.specs.declared.Credential.{Credential}
 use Rattle.ledger.specs.declared.Answer.{Answer}
 use Rattle.ledger.specs.Table.{form, build, formulas}
 use Rattle.ledger.specs.Ledger.{Ledger, empty, formula, byKind, withoutSerial, held, spend}
-use Rattle.ledger.specs.Checks.{maxSize, maxFormulas, maxLive, checks, readChecks}
-use Rattle.ledger.specs.Calls.{Reply, withLine, accept, call, after}
+use Rattle.ledger.specs.Checks.{maxSize, maxFormulas, maxLive, checks}
+use Rattle.ledger.specs.Calls.{accept, after}
 use Rattle.ledger.specs.Statements.{Pass}
 use Rattle.ledger.proofs.Walk.{walk}
 use Rattle.ledger.proofs.Credentials.{take-out, splits}

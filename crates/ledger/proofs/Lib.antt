@@ -1,5 +1,6 @@
 pub mod Answers
 pub mod Walk
+pub mod Firsts
 pub mod Credentials
 pub mod Tables
 pub mod Passed

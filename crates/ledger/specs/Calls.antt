@@ -16,7 +16,7 @@ use Rattle.ledger.specs.declared.Credential.{Credential}
 use Rattle.ledger.specs.declared.Answer.{Answer}
 use Rattle.ledger.specs.declared.Answer.the-variants.{Accepted, Counted, Refused}
 use Rattle.ledger.specs.Ledger.{Ledger, formula, byKind, withoutSerial, held, spend}
-use Rattle.ledger.specs.Checks.{Refusal, first, checksOf}
+use Rattle.ledger.specs.Checks.{Refusal, first, readChecks, checksOf}
 
 -- an answer and the ledger after the call
 pub record Reply : Type 0 where
@@ -92,6 +92,10 @@ unfoldable pub decide : Ledger → Option Refusal → Option Request → Reply
 decide t (some f) r = reply (Refused (f .number) (f .step)) t
 decide t none (some r) = accept t r
 decide t none none = reply (Refused 2 0) t  -- does not occur: check 2 has failed
+
+-- a request that has been read
+abbrev pub handle : Ledger → Request → Reply
+handle t r = decide t (first (readChecks t (some r))) (some r)
 
 unfoldable pub call : Ledger → List ℕ → Reply
 call t bytes = decide t (first (checksOf t bytes)) (requestOf bytes)

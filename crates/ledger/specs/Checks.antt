@@ -13,7 +13,7 @@ use Rattle.logic.specs.Counts.{balanced}
 use Rattle.request.specs.declared.Kind.{Kind}
 use Rattle.request.specs.declared.Kind.the-variants.{Linear, Unrestricted}
 use Rattle.request.specs.Range.{serial, maxBytes}
-use Rattle.request.specs.Request.{Line, Step, Booking, Request, word, issue, withdraw, book, tally, intervals}
+use Rattle.request.specs.Request.{Line, Step, Request, word, issue, withdraw, book, tally, intervals}
 use Rattle.request.specs.Read.{requestOf}
 use Rattle.labels.specs.Labels.{insert}
 use Rattle.steps.specs.declared.Row.{Row}

@@ -1,6 +1,5 @@
 -- The five requests, the eleven formula lines and the 22 step lines: which fields, in which order, from which range.
 use Prim.Native.Nat.{ℕ}
-use Prim.Native.String.{String}
 use mathlib.Core.List.{List, [], _∷_}
 use mathlib.Core.Option.{Option}
 use Rattle.logic.specs.declared.Interval.{Interval}
@@ -11,7 +10,7 @@ use Rattle.request.specs.Range.{Range, predicate, session, principal, mi
 use Rattle.request.specs.Range.{holds, steps}
 use Rattle.request.specs.Text.{andThen, lines, numberIn, labelSetIn}
 use Rattle.request.specs.Reader.{Reader, return, _>>=_, next, many, choose, whole, line}
-use Rattle.request.specs.Request.{Line, Step, Booking, Request, word, issue, withdraw, book, tally}
+use Rattle.request.specs.Request.{Line, Step, Request, word, issue, withdraw, book, tally}
 
 -- Fields
 

@@ -1,7 +1,6 @@
 -- Document 01's limits on derivations, as far as they speak of intervals and step lines.
 use mathlib.Core.List.{List}
-use Prim.Native.Nat.{ℕ, _≤_}
-use Rattle.logic.specs.declared.Interval.{Interval}
+use Prim.Native.Nat.{_≤_}
 use Rattle.logic.specs.Interval.{Ordered}
 use Rattle.logic.specs.Multiset.{Every}
 use Rattle.logic.specs.Derives.{Hyp, Judgment, Derives}
