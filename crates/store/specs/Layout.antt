@@ -9,7 +9,7 @@
 --               formula's parts again, its size and whether it is plain (1 or 0)
 --   1404 ..     512 rows of 5: a credential's serial, kind (0 linear, 1 unrestricted), formula number, from, to
 use mathlib.Core.List.{List, [], _∷_}
-use mathlib.Core.Bool.{Bool, _&&_}
+use mathlib.Core.Bool.{Bool}
 use Prim.Native.Nat.{ℕ, _+_, _*_}
 use lib.Dec.{eqb, ltb}
 use lib.ListN.{getD, set}
@@ -65,7 +65,8 @@ rowFrom g = record { letter = g 0; a = g 1; b = g 2; c = g 3; d = g 4 }
 
 -- the row of a formula's number; a number that names none reads as 1
 unfoldable pub rowAt : List ℕ → ℕ → Row
-rowAt l n = pick (ltb n (lineCount l) && ltb n maxFormulas) (rowFrom (lineCell l n)) (rowOf Line.one)
+rowAt l n =
+    pick (ltb n maxFormulas) (pick (ltb n (lineCount l)) (rowFrom (lineCell l n)) (rowOf Line.one)) (rowOf Line.one)
 
 unfoldable pub sizeAt : List ℕ → ℕ → ℕ
 sizeAt l n = lineCell l n 5

@@ -18,6 +18,9 @@ use Rattle.ledger.specs.Ledger.{Ledger, formula, find}
 use Rattle.ledger.specs.Checks.{maxSize, maxFormulas, maxLive}
 use Rattle.ledger.proofs.Tables.{There}
 use Rattle.ledger.proofs.Bounds.{Bounded}
+use Rattle.request.specs.Range.{serial}
+use Rattle.store.specs.declared.Found.{Found}
+use Rattle.store.specs.declared.Found.the-variants.{At, Nothing}
 use Rattle.store.specs.Tab.{tab, pick}
 use Rattle.store.specs.Layout.{cells, lineCount, liveCount, nextSerial, rowAt, sizeAt, plainAt, credentialAt}
 
@@ -47,14 +50,53 @@ ledgerOf l = record {
 abbrev pub Canonical : Row → Type 0
 Canonical r = rowOf (lineOf r) ≡ r
 
+-- every live credential is of a formula of the ledger
+abbrev pub Named : Ledger → Type 0
+Named t = Every (λ c. c .formula < length (t .lines)) (t .live)
+
+-- A store that calls made: what is kept beside the lines is right, and the ledger has what every ledger that calls gave
+-- has (`bounded`): lines name earlier lines, serials rise and are below the next, sizes are at most 64.
 pub record Good (l : List ℕ) : Type 0 where
   pub long : length l ≡ cells
   pub lines : lineCount l ≤ maxFormulas
   pub live : liveCount l ≤ maxLive
   pub canonical : (i : ℕ) → i < lineCount l → Canonical (rowAt l i)
-  pub size : (i : ℕ) → i < lineCount l → sizeAt l i ≡ Rattle.logic.specs.Formula.size (formula (ledgerOf l) i)
-  pub plain : (i : ℕ) → i < lineCount l → plainAt l i ≡ bit (Rattle.logic.specs.Formula.plain (formula (ledgerOf l) i))
-  -- every live credential is of a formula of the ledger
-  pub named : Every (λ c. c .formula < length (ledgerOf l .lines)) (ledgerOf l .live)
-  -- lines name earlier lines, serials rise and are below the next, sizes are at most 64
+  pub sizes : (i : ℕ) → i < lineCount l → sizeAt l i ≡ size (formula (ledgerOf l) i)
+  pub plains : (i : ℕ) → i < lineCount l → plainAt l i ≡ bit (plain (formula (ledgerOf l) i))
+  pub named : Named (ledgerOf l)
   pub bounded : Bounded (ledgerOf l)
+
+-- what a function that changes the store leaves: a good store that stands for the ledger t
+pub record StandsFor (l : List ℕ) (t : Ledger) : Type 0 where
+  pub good : Good l
+  pub ledger : ledgerOf l ≡ t
+
+-- what the checks of a formula line have found before its row is added, with its formula's size and whether it is plain
+pub record Addable (l : List ℕ) (r : Row) (s : ℕ) (p : Bool) : Type 0 where
+  pub good : Good l
+  pub room : length (ledgerOf l .lines) < maxFormulas
+  pub canonical : Canonical r
+  pub there : There (ledgerOf l) (names (lineOf r))
+  pub sized : s ≡ size (form (formula (ledgerOf l)) (lineOf r))
+  pub plainly : p ≡ plain (form (formula (ledgerOf l)) (lineOf r))
+  pub small : s ≤ maxSize
+
+-- what the checks of an issue or a booking have found before a credential of formula n is given
+pub record Givable (l : List ℕ) (n : ℕ) : Type 0 where
+  pub good : Good l
+  pub room : length (ledgerOf l .live) < maxLive
+  pub unused : ledgerOf l .next ≤ serial .last
+  pub there : n < length (ledgerOf l .lines)
+
+-- the credential of an answer of `find`, and where it stands
+abbrev pub credentialOf : Found → Option Credential
+credentialOf (At i c) = some c
+credentialOf Nothing = none
+
+abbrev pub Placed : List ℕ → Found → Type 0
+Placed l (At i c) = (i < length (ledgerOf l .live)) × (credentialAt l i ≡ c)
+Placed l Nothing = Unit {0}
+
+pub record Finds (l : List ℕ) (n : ℕ) (r : Found) : Type 0 where
+  pub found : credentialOf r ≡ find (ledgerOf l .live) n
+  pub placed : Placed l r

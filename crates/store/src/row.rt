@@ -104,7 +104,11 @@ pub fn put_line(store: &mut Store, i: u32, row: Row, size: u32, plain: bool)
 fn kind_from(n: u32) -> Kind
     ensures { λ r. ⌜ r ≡ kindFrom n ⌝ }
 {
-    if n == 0 { Kind::Linear } else { Kind::Unrestricted }
+    if n == 0 {
+        Kind::Linear
+    } else {
+        Kind::Unrestricted
+    }
 }
 
 fn kind_number(k: Kind) -> u32

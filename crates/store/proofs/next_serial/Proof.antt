@@ -1,0 +1,9 @@
+use borrow.Author.Needs.{needs}
+use Rattle.store.proofs.next_serial.Statement.{statement}
+use Rattle.store.proofs.next_serial.Tie as tie
+
+returns : tie.Need-returns
+returns c = ?
+
+pub next-serial-spec : {M : Type 1} → statement M
+next-serial-spec = tie.close (tie.spec (λ c κs. search needs) returns)
