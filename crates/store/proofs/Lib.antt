@@ -8,3 +8,4 @@ pub mod Rows
 pub mod Views
 pub mod Bounds
 pub mod Live
+pub mod Added

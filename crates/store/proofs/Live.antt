@@ -11,13 +11,13 @@ use Rattle.request.specs.declared.Kind.{Kind}
 use Rattle.request.specs.Request.{Line}
 use Rattle.ledger.specs.declared.Credential.{Credential}
 use Rattle.ledger.specs.Table.{nth, formulas}
-use Rattle.ledger.specs.Ledger.{Ledger, formula, find, withoutSerial}
+use Rattle.ledger.specs.Ledger.{Ledger, empty, formula, find, withoutSerial}
 use Rattle.ledger.specs.Checks.{maxLive}
 use Rattle.ledger.specs.Calls.{withLive, withCredential}
 use Rattle.ledger.proofs.Bounds.{Rises, Bounded}
 use Rattle.store.specs.Tab.{tab, without}
-use Rattle.store.specs.Layout.{lineCount, liveCount, nextSerial, rowAt, credentialAt, putLiveCount, putNext}
-use Rattle.store.specs.Layout.{putCredential}
+use Rattle.store.specs.Layout.{cells, lineCount, liveCount, nextSerial, rowAt, credentialAt, putLiveCount}
+use Rattle.store.specs.Layout.{putNext, putCredential}
 use Rattle.store.specs.Store.{lineOf, ledgerOf, Canonical, Named, Good, StandsFor, Givable}
 use Rattle.store.proofs.Tabs.{tab-ext, tab-append}
 use Rattle.store.proofs.Search.{NoneBefore, find-at, without-at, rises-apart}
@@ -26,7 +26,28 @@ use Rattle.store.proofs.Rows.{SameLines, lines-self, same-row, same-siz
 use Rattle.store.proofs.Rows.{head-credential, credential-same, credential-other, credential-before}
 use Rattle.store.proofs.Rows.{credential-long, credential-lines, head-other}
 use Rattle.store.proofs.Views.{lines-length, live-length}
-use Rattle.store.proofs.Bounds.{credential-bounded, without-bounded, credential-named, without-named}
+use Rattle.store.proofs.Bounds.{without-named}
+use Rattle.store.proofs.Bounds.{empty-bounded, credential-bounded, without-bounded, credential-named}
+
+-- The empty ledger.
+pub empty-stands : (l : List ℕ) → length l ≡ cells → lineCount l ≡ 0 → liveCount l ≡ 0 → nextSerial l ≡ 1
+    → StandsFor l empty
+unfolding ledgerOf tab
+empty-stands l h a b c =
+    let e : ledgerOf l ≡ empty = rw (a, b, c) in
+    record {
+      good = record {
+        long = h;
+        lines = omega arith;
+        live = omega arith;
+        canonical = λ i q. absurd (omega arith);
+        sizes = λ i q. absurd (omega arith);
+        plains = λ i q. absurd (omega arith);
+        named = subst Named (sym e) tt;
+        bounded = subst Bounded (sym e) empty-bounded;
+      };
+      ledger = e;
+    }
 
 -- m has l's formula rows, and t is the ledger of m
 module _ (l m : List ℕ) (g : Good l) (s : SameLines l m) where
@@ -113,6 +134,13 @@ module _ (l : List ℕ) (k : Kind) (n : ℕ) (w : Interval) (r : Givable l n) wh
       (ledger-live l (given l fresh) (r .good) given-lines _ _ given-live given-next)
       (credential-named (ledgerOf l) (r .good .named) k n w (r .there))
       (credential-bounded (ledgerOf l) (r .good .bounded) k n w (r .room) (r .unused))
+
+  -- by the stores that make it
+  pub give-done : {m₀ m₁ m₂ : List ℕ} {i s : ℕ} → i ≡ liveCount l → s ≡ nextSerial l
+      → m₀ ≡ putCredential l i (record { serial = s; kind = k; formula = n; interval = w })
+      → m₁ ≡ putLiveCount m₀ (i + 1) → m₂ ≡ putNext m₁ (s + 1)
+      → StandsFor m₂ (withCredential (ledgerOf l) k n w)
+  give-done a b e₀ e₁ e₂ = rw (e₂, e₁, e₀, a, b) give-stands
 
 -- The rows from `at` on move down, one a turn: l at the start, m when row i is next.
 pub record Closing (l : List ℕ) (at : ℕ) (m : List ℕ) (i : ℕ) : Type 0 where

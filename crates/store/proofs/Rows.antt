@@ -21,7 +21,7 @@ use Rattle.store.specs.Layout.{credentialCells, putCredential}
 use Rattle.store.proofs.Cells.{length-putRow, row-same, row-other, put-below, put-above}
 
 -- a row is known by its cells
-row-ext : (g h : ℕ → ℕ) → ((f : ℕ) → f < 5 → g f ≡ h f) → rowFrom g ≡ rowFrom h
+pub row-ext : (g h : ℕ → ℕ) → ((f : ℕ) → f < 5 → g f ≡ h f) → rowFrom g ≡ rowFrom h
 row-ext g h e j = record {
   letter = e 0 (omega arith) j;
   a = e 1 (omega arith) j;
@@ -110,6 +110,14 @@ module _ (l m : List ℕ) (h v : ℕ) where
     rows = λ k a b. getD-set-other m h k v 0 (omega arith) ∙ s .rows k a b;
   }
 
+pub count-live : (l m : List ℕ) (v : ℕ) → SameLive l m → SameLive l (set m 0 v)
+count-live l m v s = record {
+  long = length-set m 0 v ∙ s .long;
+  count = getD-set-other m 0 1 v 0 (omega arith) ∙ s .count;
+  next = getD-set-other m 0 2 v 0 (omega arith) ∙ s .next;
+  rows = λ k q. getD-set-other m 0 k v 0 (omega arith) ∙ s .rows k q;
+}
+
 pub head-same : (m : List ℕ) (h v : ℕ) → length m ≡ cells → h < 4 → getD (set m h v) h 0 ≡ v
 head-same m h v e q = getD-set-same m h v 0 (omega arith)
 
@@ -119,6 +127,34 @@ head-other m h v k n = getD-set-other m h k v 0 n
 pub head-credential : (m : List ℕ) (h v i : ℕ) → h < 4 → credentialAt (set m h v) i ≡ credentialAt m i
 unfolding credentialAt cell
 head-credential m h v i q = credential-ext _ _ (λ f p. getD-set-other m h (1404 + i * 5 + f) v 0 (omega arith))
+
+pub head-line : (m : List ℕ) (h v i f : ℕ) → h < 4 → lineCell (set m h v) i f ≡ lineCell m i f
+unfolding lineCell cell
+head-line m h v i f q = getD-set-other m h (4 + i * 7 + f) v 0 (omega arith)
+
+-- A formula row is put.
+module _ (m : List ℕ) (i : ℕ) (r : Row) (s : ℕ) (p : Bool) where
+  pub line-same : length m ≡ cells → i < 200 → (f : ℕ) → f < 7
+      → lineCell (putLine m i r s p) i f ≡ getD (lineCells r s p) f 0
+  unfolding lineCell putLine
+  line-same n h f q = row-same m 4 7 i (lineCells r s p) f (omega arith) (omega arith)
+
+  pub line-other : (k f : ℕ) → (k ≡ i → ⊥) → f < 7 → lineCell (putLine m i r s p) k f ≡ lineCell m k f
+  unfolding lineCell putLine
+  line-other k f h q = row-other m 4 7 i (lineCells r s p) refl k f h q
+
+  line-before : (k : ℕ) → k < 4 → getD (putLine m i r s p) k 0 ≡ getD m k 0
+  unfolding putLine
+  line-before k h = put-below m 4 7 i (lineCells r s p) k h
+
+  pub line-live : length m ≡ cells → i < 200 → SameLive m (putLine m i r s p)
+  unfolding putLine
+  line-live n h = record {
+    long = length-putRow m 4 7 i (lineCells r s p) ∙ n;
+    count = line-before 1 (omega arith);
+    next = line-before 2 (omega arith);
+    rows = λ k q. put-above m 4 7 i (lineCells r s p) k (omega arith);
+  }
 
 -- A credential is put.
 module _ (m : List ℕ) (i : ℕ) (c : Credential) where

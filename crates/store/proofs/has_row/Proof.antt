@@ -1,38 +1,53 @@
+-- `has_row` meets its contract. The loop: no row before i is the one.
+use mathlib.Core.Path.{_≡_, sym, ap, _∙_}
+use mathlib.Core.Bool.{true, false}
+use Prim.Native.Nat.{ℕ, _≤_, _<_, _-_}
+use borrow.Author.Count.{below-more}
+use borrow.Author.Needs.{needs}
+use native.Mathlib.Omega.{arith}
+use denote.Ref.{now}
+use Rattle.ledger.specs.Checks.{sameRow}
+use Rattle.store.specs.Layout.{lineCount, rowAt}
+use Rattle.store.proofs.Views.{has-at, has-none}
 use Rattle.store.proofs.has_row.Statement.{statement}
 use Rattle.store.proofs.has_row.Tie as tie
 
 abbrev Inv-loop : tie.InvT-loop
-Inv-loop store row n i₀ i = ?
+Inv-loop store row n i₀ i =
+    (n ≡ lineCount store) × ((i ≤ n) × ((k : ℕ) → k < i → sameRow row (rowAt store k) ≡ false))
 
 abbrev μ-loop : tie.MeasureT-loop
-μ-loop store row n i₀ i = ?
-
-line-count-requires : tie.Need-line-count-requires Inv-loop μ-loop
-line-count-requires c κs = ?
+μ-loop store row n i₀ i = n - i
 
 loop-holds : tie.Need-loop-holds Inv-loop μ-loop
-loop-holds c = ?
-
-row-at-requires : tie.Need-row-at-requires Inv-loop μ-loop
-row-at-requires c κs = ?
-
-same-row-requires : tie.Need-same-row-requires Inv-loop μ-loop
-same-row-requires c κs = ?
+loop-holds c = (c .line-count .ensures, (search needs, λ k h. absurd (omega arith)))
 
 returns : tie.Need-returns Inv-loop μ-loop
-returns c = ?
-
-add-i : tie.Need-add-i Inv-loop μ-loop
-add-i c = ?
-
-loop-less : tie.Need-loop-less Inv-loop μ-loop
-loop-less c = ?
+returns c =
+    let at = c .before .before .before .before in
+    let h = c .before .before .before .loop-test .taken in
+    let s = at .before .before in
+    sym (has-at (now (s .args .store)) (s .pre) _ (at .loop .i) (omega arith)
+    (ap (sameRow (s .args .row)) (sym (c .before .before .row-at .ensures)) ∙ sym (c .before .same-row .ensures) ∙ c .if1 .taken))
 
 loop-again : tie.Need-loop-again Inv-loop μ-loop
-loop-again c = ?
+loop-again c =
+    let at = c .before .before .before .before in
+    let h = c .before .before .before .loop-test .taken in
+    let s = at .before .before in (
+      at .loop .inv .0,
+      (
+        search needs,
+        below-more _ _ (at .loop .inv .1 .1)
+            (ap (sameRow (s .args .row)) (sym (c .before .before .row-at .ensures)) ∙ sym (c .before .same-row .ensures) ∙ c .if1 .left),
+      ),
+    )
 
 returns-2 : tie.Need-returns-2 Inv-loop μ-loop
-returns-2 c = ?
+returns-2 c =
+    let at = c .before in
+    let s = at .before .before in
+    sym (has-none (now (s .args .store)) (s .pre) _ (λ k h. at .loop .inv .1 .1 k (omega arith)))
 
 pub has-row-spec : {M : Type 1} → statement M
 has-row-spec =
@@ -40,12 +55,12 @@ has-row-spec =
     (tie.spec
     Inv-loop
     μ-loop
-    line-count-requires
+    (λ c κs. search needs)
     loop-holds
-    row-at-requires
-    same-row-requires
+    (λ c κs. search needs)
+    (λ c κs. search needs)
     returns
-    add-i
-    loop-less
+    (λ c. search needs)
+    (λ c. search needs)
     loop-again
     returns-2)
