@@ -1,12 +1,12 @@
 -- What adding a formula row does to the ledger that a store stands for. Only the laws of `Rows` are used.
-use mathlib.Core.Path.{_≡_, refl, sym, ap, subst, _∙_}
+use mathlib.Core.Path.{_≡_, sym, ap, subst, _∙_}
 use mathlib.Core.List.{List, [], _∷_, _++_}
 use mathlib.Core.Bool.{Bool, true, false}
-use Prim.Native.Nat.{ℕ, _+_, _≤_, _<_}
+use Prim.Native.Nat.{ℕ, _+_, _<_}
 use native.Mathlib.Omega.{arith}
 use native.Mathlib.Decide.{ℕ-discrete}
 use borrow.Author.Tests.{eq-eqb}
-use lib.ListN.{length, getD}
+use lib.ListN.{getD}
 use Rattle.logic.specs.Formula.{Formula, size, plain, bit}
 use Rattle.steps.specs.declared.Row.{Row}
 use Rattle.ledger.specs.Table.{form}
@@ -15,9 +15,9 @@ use Rattle.ledger.specs.Calls.{withLine}
 use Rattle.ledger.proofs.Tables.{formula-snoc, formula-stays}
 use Rattle.ledger.proofs.Bounds.{Bounded}
 use Rattle.store.specs.Tab.{tab}
-use Rattle.store.specs.Layout.{lineCount, rowFrom, lineCell, rowAt, sizeAt, plainAt, lineCells, putLineCount}
+use Rattle.store.specs.Layout.{lineCount, lineCell, rowAt, sizeAt, plainAt, lineCells, putLineCount}
 use Rattle.store.specs.Layout.{putLine, liveCount, credentialAt}
-use Rattle.store.specs.Store.{lineOf, ledgerOf, Canonical, Named, Good, StandsFor, Addable}
+use Rattle.store.specs.Store.{lineOf, ledgerOf, Canonical, Named, StandsFor, Addable}
 use Rattle.store.proofs.Tabs.{tab-ext, tab-append}
 use Rattle.store.proofs.Rows.{row-ext, row-below, SameLive, same-credential, count-live, head-same, head-line}
 use Rattle.store.proofs.Rows.{line-same, line-other, line-live}

@@ -9,7 +9,6 @@ use lib.Dec.{eqb}
 use lib.ListN.{length, length-append}
 use Rattle.logic.specs.declared.Interval.{Interval}
 use Rattle.logic.specs.Formula.{Formula, size}
-use Rattle.logic.specs.Multiset.{Every}
 use Rattle.logic.proofs.Multisets.{ins-length, every-out, every-snoc, every-map}
 use Rattle.request.specs.declared.Kind.{Kind}
 use Rattle.request.specs.Range.{serial}
@@ -42,7 +41,8 @@ module _ (t : Ledger) (b : Bounded t) where
     below = every-snoc (λ c. c .serial < t .next + 1) (t .live) _
         (every-map (λ d l. omega arith) (t .live) (b .below)) (omega arith);
     lines = b .lines;
-    live = omega (arith, length-append (t .live) (record { serial = t .next; kind = k; formula = n; interval = i } ∷ []));
+    live = let c : Credential = record { serial = t .next; kind = k; formula = n; interval = i } in
+        omega (arith, length-append (t .live) (c ∷ []));
     first = omega arith;
     last = omega arith;
     sizes = b .sizes;
@@ -73,7 +73,8 @@ module _ (t : Ledger) (b : Bounded t) where
     live = b .live;
     first = b .first;
     last = b .last;
-    sizes = λ n. subst (λ (a : Formula). size a ≤ maxSize) (sym (formula-snoc t l n)) (go n (eqb n (length (t .lines))));
+    sizes = λ n. subst (λ (a : Formula). size a ≤ maxSize) (sym (formula-snoc t l n))
+        (go n (eqb n (length (t .lines))));
   }
     where
       go : (n : ℕ) (x : Bool)

@@ -1,5 +1,5 @@
 -- Laws of a table in a flat list, for every base and width: what each cell is after a row is put, here or elsewhere.
-use mathlib.Core.Path.{_≡_, refl}
+use mathlib.Core.Path.{_≡_}
 use mathlib.Core.List.{List}
 use Prim.Native.Nat.{ℕ, _+_, _*_, _<_, _≤_}
 use native.Mathlib.Omega.{arith}

@@ -1,7 +1,5 @@
 -- Lines and their rows.
-use mathlib.Core.Path.{_≡_, refl, ap, _∙_}
-use Prim.Native.Char.{code}
-use lib.Dec.{eqb}
+use mathlib.Core.Path.{_≡_, refl, ap}
 use Rattle.request.specs.Request.{Line}
 use Rattle.ledger.specs.Table.{rowOf}
 use Rattle.store.specs.Store.{lineOf, Canonical}

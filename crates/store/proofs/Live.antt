@@ -14,9 +14,9 @@ use Rattle.ledger.specs.Table.{nth, formulas}
 use Rattle.ledger.specs.Ledger.{Ledger, empty, formula, find, withoutSerial}
 use Rattle.ledger.specs.Checks.{maxLive}
 use Rattle.ledger.specs.Calls.{withLive, withCredential}
-use Rattle.ledger.proofs.Bounds.{Rises, Bounded}
+use Rattle.ledger.proofs.Bounds.{Bounded}
 use Rattle.store.specs.Tab.{tab, without}
-use Rattle.store.specs.Layout.{cells, lineCount, liveCount, nextSerial, rowAt, credentialAt, putLiveCount}
+use Rattle.store.specs.Layout.{cells, lineCount, liveCount, nextSerial, credentialAt, putLiveCount}
 use Rattle.store.specs.Layout.{putNext, putCredential}
 use Rattle.store.specs.Store.{lineOf, ledgerOf, Canonical, Named, Good, StandsFor, Givable}
 use Rattle.store.proofs.Tabs.{tab-ext, tab-append}
@@ -24,8 +24,8 @@ use Rattle.store.proofs.Search.{NoneBefore, find-at, without-at, rises-
 use Rattle.store.proofs.Shift.{Shifting, shift-start, shift-next, shift-end}
 use Rattle.store.proofs.Rows.{SameLines, lines-self, same-row, same-size, same-plain, head-lines, head-same}
 use Rattle.store.proofs.Rows.{head-credential, credential-same, credential-other, credential-before}
-use Rattle.store.proofs.Rows.{credential-long, credential-lines, head-other}
-use Rattle.store.proofs.Views.{lines-length, live-length}
+use Rattle.store.proofs.Rows.{credential-lines, head-other}
+use Rattle.store.proofs.Views.{live-length}
 use Rattle.store.proofs.Bounds.{without-named}
 use Rattle.store.proofs.Bounds.{empty-bounded, credential-bounded, without-bounded, credential-named}
 
@@ -67,7 +67,8 @@ module _ (l m : List ℕ) (g : Good l) (s : SameLines l m) where
         lines = rw (s .count) (g .lines);
         live = c;
         canonical = λ i h. subst Canonical (sym (same-row l m s i)) (g .canonical i (below i h));
-        sizes = λ i h. same-size l m s i (small i (below i h)) ∙ g .sizes i (below i h) ∙ ap size (sym (same-formula i));
+        sizes = λ i h. same-size l m s i (small i (below i h)) ∙ g .sizes i (below i h)
+            ∙ ap size (sym (same-formula i));
         plains = λ i h. same-plain l m s i (small i (below i h)) ∙ g .plains i (below i h)
             ∙ ap (λ a. bit (plain a)) (sym (same-formula i));
         named = n;

@@ -1,12 +1,11 @@
 -- Laws of `tab`.
-use Prim.Native.Nat.{ℕ, zero, suc, _+_, _<_, _≤_, _-_}
-use mathlib.Core.Path.{_≡_, refl, sym, ap, _∙_}
+use Prim.Native.Nat.{ℕ, zero, suc, _+_, _<_, _≤_}
+use mathlib.Core.Path.{_≡_, refl, ap}
 use mathlib.Core.List.{List, [], _∷_, _++_}
 use native.Mathlib.Omega.{arith}
 use native.Mathlib.Numerals.{add-one}
 use native.Mathlib.Nat.{le-of-suc-le-suc, not-suc-le-zero}
-use lib.ListN.{length, getD, take, drop}
-use lib.Seq.{ext-getD, drop-cons}
+use lib.ListN.{length, getD, drop}
 use Rattle.store.specs.Tab.{tab, without}
 
 module _ {A : Type 0} where
@@ -31,7 +30,8 @@ module _ {A : Type 0} where
   pub tab-ext : (n : ℕ) (f g : ℕ → A) → ((i : ℕ) → i < n → f i ≡ g i) → tab n f ≡ tab n g
   unfolding tab
   tab-ext zero f g h = refl
-  tab-ext (suc n) f g h = cc (h zero (omega arith), tab-ext n (λ k. f (suc k)) (λ k. g (suc k)) (λ i q. h (suc i) (omega arith)))
+  tab-ext (suc n) f g h =
+      cc (h zero (omega arith), tab-ext n (λ k. f (suc k)) (λ k. g (suc k)) (λ i q. h (suc i) (omega arith)))
 
   -- what stands from i on
   pub drop-tab : (n : ℕ) (f : ℕ → A) (i : ℕ) → i < n → drop i (tab n f) ≡ f i ∷ drop (suc i) (tab n f)

@@ -1,9 +1,9 @@
 -- What is read of a store is what its ledger has.
-use mathlib.Core.Path.{_≡_, refl, sym, ap, _∙_}
+use mathlib.Core.Path.{_≡_, sym, ap, _∙_}
 use mathlib.Core.List.{List}
 use mathlib.Core.Option.{some}
 use mathlib.Core.Bool.{true, false}
-use Prim.Native.Nat.{ℕ, _≤_, _<_}
+use Prim.Native.Nat.{ℕ, _<_}
 use native.Mathlib.Omega.{arith}
 use native.Mathlib.Decide.{decLt}
 use lib.ListN.{length, getD}
@@ -14,7 +14,6 @@ use Rattle.ledger.specs.Table.{rowOf}
 use Rattle.ledger.specs.Ledger.{row}
 use Rattle.ledger.specs.Checks.{any, sameRow}
 use Rattle.store.specs.declared.Found.the-variants.{At, Nothing}
-use Rattle.store.specs.Tab.{tab}
 use Rattle.store.specs.Layout.{lineCount, liveCount, rowAt, credentialAt}
 use Rattle.store.specs.Store.{lineOf, ledgerOf, Good, Finds}
 use Rattle.store.proofs.Tabs.{length-tab, getD-tab, getD-past}
@@ -31,7 +30,8 @@ module _ (l : List ℕ) where
   live-length = length-tab (liveCount l) (credentialAt l)
 
   -- a live credential is the one at its place
-  pub live-at : (i : ℕ) (d : Credential) → i < length (ledgerOf l .live) → getD (ledgerOf l .live) i d ≡ credentialAt l i
+  pub live-at : (i : ℕ) (d : Credential) → i < length (ledgerOf l .live)
+      → getD (ledgerOf l .live) i d ≡ credentialAt l i
   unfolding ledgerOf
   live-at i d h = getD-tab (liveCount l) (credentialAt l) i d (omega (arith, live-length))
 

@@ -1,12 +1,12 @@
--- The ledger's state as one list of numbers. One block of a fixed length is kept by the caller and lent to every call, so
--- nothing is copied and nothing allocated; rows of equal width let one law speak of both tables.
+-- The ledger's state as one list of numbers. The caller keeps one block of a fixed length and lends it to every call,
+-- so nothing is copied and nothing is allocated. Each table has rows of one width, so that one law is enough for both.
 --
 --   0           the count of formula lines
 --   1           the count of live credentials
 --   2           the next serial
---   3           unused, so that the tables start at a multiple of four numbers
---   4 ..        200 rows of 7: a formula line's letter, a, b, c, d, and, kept so that no request has to go through the
---               formula's parts again, its size and whether it is plain (1 or 0)
+--   3           unused: the tables start at a multiple of four numbers
+--   4 ..        200 rows of 7: a formula line's letter, a, b, c, d; then its formula's size and whether it is plain
+--               (1 or 0), kept so that no later request goes through the formula's parts again
 --   1404 ..     512 rows of 5: a credential's serial, kind (0 linear, 1 unrestricted), formula number, from, to
 use mathlib.Core.List.{List, [], _∷_}
 use mathlib.Core.Bool.{Bool}

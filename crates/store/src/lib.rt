@@ -21,6 +21,9 @@ ghost use Rattle.store.specs.Store.{lineOf, ledgerOf, Good, StandsFor, A
 
 pub type Store = [u32; 3964];
 
+// the letter of 1
+const ONE: u32 = b'o' as u32;
+
 // Where a live credential stands, and the credential.
 pub enum Found {
     At(u32, Credential),
@@ -63,7 +66,7 @@ pub fn row_at(store: &Store, n: u32) -> Row
         }
     }
     Row {
-        letter: 111,
+        letter: ONE,
         a: 0,
         b: 0,
         c: 0,
@@ -161,7 +164,8 @@ pub fn remove(store: &mut Store, at: u32)
 // One credential more, with the next serial.
 pub fn give(store: &mut Store, kind: Kind, formula: u32, interval: Interval)
     requires { ⌜ Givable (now store) formula ⌝ }
-    ensures { λ _. ⌜ StandsFor (now (store .exit)) (withCredential (ledgerOf (now (store .entry))) kind formula interval) ⌝ }
+    ensures { λ _. ⌜ StandsFor (now (store .exit))
+        (withCredential (ledgerOf (now (store .entry))) kind formula interval) ⌝ }
 {
     let n = row::live_count(store);
     let serial = row::next(store);

@@ -7,7 +7,7 @@ use steps::Row;
 ghost use mathlib.Core.Path.{_≡_};
 ghost use Prim.Native.Nat.{_<_};
 ghost use Rattle.logic.specs.Formula.{bit};
-ghost use Rattle.store.specs.Layout.{cell, lineCount, liveCount, nextSerial, putLineCount, putLiveCount, putNext};
+ghost use Rattle.store.specs.Layout.{lineCount, liveCount, nextSerial, putLineCount, putLiveCount, putNext};
 ghost use Rattle.store.specs.Layout.{rowFrom, lineCell, sizeAt, plainAt, putLine};
 ghost use Rattle.store.specs.Layout.{kindFrom, kindNumber, credentialAt, putCredential};
 

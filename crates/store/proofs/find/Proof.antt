@@ -1,7 +1,7 @@
 -- `find` meets its contract. The loop: no credential before i has the serial.
-use mathlib.Core.Path.{_≡_, sym, ap, _∙_}
+use mathlib.Core.Path.{_≡_, sym, _∙_}
 use Prim.Native.Nat.{_≤_, _-_}
-use borrow.Author.Count.{below-none, below-more}
+use borrow.Author.Count.{below-more}
 use borrow.Author.Needs.{needs}
 use native.Mathlib.Omega.{arith}
 use denote.Ref.{now}
@@ -24,14 +24,16 @@ returns : tie.Need-returns Inv-loop μ-loop
 returns c =
     let at = c .before .before .before .before in
     let h = c .before .before .before .loop-test .taken in
-    found-at (now (at .before .before .args .store)) _ (at .loop .i) (c .credential .result) (omega arith) (at .loop .inv .1 .1) (c .credential .ensures)
+    found-at (now (at .before .before .args .store)) _ (at .loop .i) (c .credential .result) (omega arith)
+    (at .loop .inv .1 .1) (c .credential .ensures)
     (sym (c .before .before .serial .ensures) ∙ c .before .if1 .taken)
 
 loop-again : tie.Need-loop-again Inv-loop μ-loop
 loop-again c =
     let at = c .before .before .before in
     let h = c .before .before .loop-test .taken in
-    (at .loop .inv .0, (search needs, below-more _ _ (at .loop .inv .1 .1) (λ e. c .if1 .left (c .before .serial .ensures ∙ e))))
+    let e = c .before .serial .ensures in
+    (at .loop .inv .0, (search needs, below-more _ _ (at .loop .inv .1 .1) (λ f. c .if1 .left (e ∙ f))))
 
 returns-2 : tie.Need-returns-2 Inv-loop μ-loop
 returns-2 c =

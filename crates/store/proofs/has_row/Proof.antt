@@ -1,6 +1,6 @@
 -- `has_row` meets its contract. The loop: no row before i is the one.
 use mathlib.Core.Path.{_≡_, sym, ap, _∙_}
-use mathlib.Core.Bool.{true, false}
+use mathlib.Core.Bool.{false}
 use Prim.Native.Nat.{ℕ, _≤_, _<_, _-_}
 use borrow.Author.Count.{below-more}
 use borrow.Author.Needs.{needs}
@@ -22,26 +22,25 @@ abbrev μ-loop : tie.MeasureT-loop
 loop-holds : tie.Need-loop-holds Inv-loop μ-loop
 loop-holds c = (c .line-count .ensures, (search needs, λ k h. absurd (omega arith)))
 
+-- the test of a turn, said of the row in the store
+tested : (c : tie.After-same-row Inv-loop μ-loop)
+    → sameRow (c .before .before .before .before .before .args .row)
+    (rowAt (now (c .before .before .before .before .before .args .store)) (c .before .before .before .loop .i))
+    ≡ c .same-row .result
+tested c = ap (sameRow _) (sym (c .before .row-at .ensures)) ∙ sym (c .same-row .ensures)
+
 returns : tie.Need-returns Inv-loop μ-loop
 returns c =
     let at = c .before .before .before .before in
     let h = c .before .before .before .loop-test .taken in
     let s = at .before .before in
-    sym (has-at (now (s .args .store)) (s .pre) _ (at .loop .i) (omega arith)
-    (ap (sameRow (s .args .row)) (sym (c .before .before .row-at .ensures)) ∙ sym (c .before .same-row .ensures) ∙ c .if1 .taken))
+    sym (has-at (now (s .args .store)) (s .pre) _ (at .loop .i) (omega arith) (tested (c .before) ∙ c .if1 .taken))
 
 loop-again : tie.Need-loop-again Inv-loop μ-loop
 loop-again c =
     let at = c .before .before .before .before in
     let h = c .before .before .before .loop-test .taken in
-    let s = at .before .before in (
-      at .loop .inv .0,
-      (
-        search needs,
-        below-more _ _ (at .loop .inv .1 .1)
-            (ap (sameRow (s .args .row)) (sym (c .before .before .row-at .ensures)) ∙ sym (c .before .same-row .ensures) ∙ c .if1 .left),
-      ),
-    )
+    (at .loop .inv .0, (search needs, below-more _ _ (at .loop .inv .1 .1) (tested (c .before) ∙ c .if1 .left)))
 
 returns-2 : tie.Need-returns-2 Inv-loop μ-loop
 returns-2 c =

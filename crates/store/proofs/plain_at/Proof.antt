@@ -1,5 +1,5 @@
 -- `plain_at` meets its contract. What is kept is 1 for plain.
-use mathlib.Core.Path.{_≡_, refl, sym, ap, _∙_}
+use mathlib.Core.Path.{_≡_, refl, ap, _∙_}
 use mathlib.Core.Bool.{Bool, true, false}
 use borrow.Author.Needs.{needs}
 use native.Mathlib.Omega.{arith}

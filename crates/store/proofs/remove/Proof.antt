@@ -17,12 +17,15 @@ abbrev μ-loop : tie.MeasureT-loop
 μ-loop store₀ at n i₀ store i = n - i
 
 sub-n : tie.Need-sub-n Inv-loop μ-loop
-sub-n c = omega (arith, live-length (now (c .before .before .args .store)), c .live-count .ensures, c .before .before .pre .1)
+sub-n c =
+    let s = c .before .before in
+    omega (arith, live-length (now (s .args .store)), c .live-count .ensures, s .pre .1)
 
 loop-holds : tie.Need-loop-holds Inv-loop μ-loop
 loop-holds c =
     let s = c .before .before in
-    (omega (arith, live-length (now (s .args .store)), c .live-count .ensures, s .pre .1), closing-start _ _ (s .pre .0))
+    let n = live-length (now (s .args .store)) in
+    (omega (arith, n, c .live-count .ensures, s .pre .1), closing-start _ _ (s .pre .0))
 
 loop-again : tie.Need-loop-again Inv-loop μ-loop
 loop-again c =
