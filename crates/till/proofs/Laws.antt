@@ -1,25 +1,36 @@
 -- One law for each way out of a call.
 use mathlib.Core.Path.{_≡_, refl, sym, ap, subst, _∙_}
-use mathlib.Core.List.{List, []}
+use mathlib.Core.List.{List, [], _∷_}
 use mathlib.Core.Option.{Option, none, some}
-use mathlib.Core.Bool.{true, false}
-use Prim.Native.Nat.{ℕ}
+use mathlib.Core.Bool.{Bool, true, false, not}
+use Prim.Native.Nat.{ℕ, _-_, _≤_}
+use lib.Dec.{leb}
+use lib.ListN.{length}
+use borrow.Author.Tests.{lt-leb, leb-false, ltb-false}
 use native.Mathlib.Omega.{arith}
-use Rattle.request.specs.Request.{Request, withdraw, intervals}
+use Rattle.logic.specs.declared.Interval.{Interval}
+use Rattle.logic.specs.Interval.{reversed}
+use Rattle.logic.specs.Formula.{plain}
+use Rattle.logic.specs.Counts.{balanced}
+use Rattle.request.specs.declared.Kind.{Kind}
+use Rattle.request.specs.declared.Kind.the-variants.{Linear, Unrestricted}
+use Rattle.request.specs.Range.{serial}
+use Rattle.request.specs.Request.{Request, issue, withdraw, intervals}
 use Rattle.ledger.specs.declared.Credential.{Credential}
 use Rattle.ledger.specs.declared.Answer.{Answer}
 use Rattle.ledger.specs.declared.Answer.the-variants.{Accepted, Counted, Refused}
-use Rattle.ledger.specs.Ledger.{Ledger, find, withoutSerial, isNone}
-use Rattle.ledger.specs.Checks.{any, checks, readChecks}
-use Rattle.ledger.specs.Calls.{Reply, withLive, accept, handle}
+use Rattle.ledger.specs.Ledger.{Ledger, formula, find, withoutSerial, isNone}
+use Rattle.ledger.specs.Checks.{_if_, any, maxLive, missing, noRoom, usedUp, checks, readChecks}
+use Rattle.ledger.specs.Calls.{Reply, withLive, withCredential, accept, handle}
 use Rattle.ledger.specs.Statements.{Pass, FirstFails}
 use Rattle.ledger.proofs.Credentials.{take-out}
 use Rattle.ledger.proofs.Firsts.{if-false, if-true, skip, hit, handle-fails, handle-passes}
 use Rattle.store.specs.declared.Found.{Found}
 use Rattle.store.specs.declared.Found.the-variants.{At, Nothing}
 use Rattle.store.specs.Layout.{credentialAt}
-use Rattle.store.specs.Store.{ledgerOf, Good, StandsFor, Finds}
-use Rattle.till.specs.Handled.{Handled}
+use Rattle.store.specs.Store.{ledgerOf, Good, StandsFor, Givable, Finds}
+use Rattle.till.specs.declared.tests.Verdict.{Verdict}
+use Rattle.till.specs.Handled.{Handled, fails, unfair, Issuable}
 
 abbrev IsDone : Answer → Type 0
 IsDone (Accepted n) = Unit {0}
@@ -68,3 +79,97 @@ withdraw-done l l′ n i c f s =
     accepted l l′ (withdraw n) (Accepted n)
     (if-false 3 false refl, (if-false 24 _ (sym (ap isNone (f .found))), tt)) refl tt
     (subst (λ (k : ℕ). StandsFor l′ (withLive t (withoutSerial (t .live) k))) m s)
+
+-- Issue
+
+-- no more live than are held
+pub room-free : {m n k : ℕ} → m ≡ n → m ≤ k → false ≡ leb maxLive (n - k)
+room-free {m} {n} {k} e l = sym (lt-leb maxLive (n - k) (omega arith))
+
+-- the row of 20 or 21
+unfairNumber : Kind → ℕ
+unfairNumber Linear = 20
+unfairNumber Unrestricted = 21
+
+-- the checks of an issue, in one list for both kinds
+issue-checks : (t : Ledger) (k : Kind) (n : ℕ) (i : Interval)
+    → readChecks t (some (issue k n i))
+    ≡ (3 if any reversed (intervals (issue k n i))) ∷ (10 if missing t n)
+    ∷ (unfairNumber k if unfair k (formula t n)) ∷ (22 if noRoom t 0) ∷ (23 if usedUp t) ∷ []
+unfolding checks unfairNumber
+issue-checks t Linear n i = refl
+issue-checks t Unrestricted n i = refl
+
+straight : (k : Kind) (n : ℕ) (i : Interval) {b : Bool} → reversed i ≡ b → any reversed (intervals (issue k n i)) ≡ b
+unfolding intervals any
+straight k n i {b = true} e = rw e
+straight k n i {b = false} e = rw e
+
+module _ (l : List ℕ) (k : Kind) (n : ℕ) (i : Interval) where
+  issue-refused : (c : ℕ) → Good l
+      → FirstFails (record { number = c; step = 0 }) ((3 if any reversed (intervals (issue k n i)))
+      ∷ (10 if missing (ledgerOf l) n) ∷ (unfairNumber k if unfair k (formula (ledgerOf l) n))
+      ∷ (22 if noRoom (ledgerOf l) 0) ∷ (23 if usedUp (ledgerOf l)) ∷ [])
+      → Handled l (issue k n i) (Refused c 0) l
+  issue-refused c g f =
+      refused l (issue k n i) g (subst (FirstFails _) (sym (issue-checks (ledgerOf l) k n i)) f)
+
+  pub issue-reversed : Good l → reversed i ≡ true → Handled l (issue k n i) (Refused 3 0) l
+  issue-reversed g e = issue-refused 3 g (hit (if-true 3 _ (straight k n i e)))
+
+  pub issue-missing : Good l → reversed i ≡ false → missing (ledgerOf l) n ≡ true → Handled l (issue k n i) (Refused 10 0) l
+  issue-missing g s e = issue-refused 10 g (skip (if-false 3 _ (straight k n i s)) (hit (if-true 10 _ e)))
+
+  pub issue-full : Issuable l k n i → noRoom (ledgerOf l) 0 ≡ true → Handled l (issue k n i) (Refused 22 0) l
+  issue-full p e =
+      issue-refused 22 (p .good) (skip (if-false 3 _ (straight k n i (p .straight))) (skip (if-false 10 _ (p .there))
+      (skip (if-false (unfairNumber k) _ (p .fair)) (hit (if-true 22 _ e)))))
+
+  pub issue-used-up : Issuable l k n i → noRoom (ledgerOf l) 0 ≡ false → usedUp (ledgerOf l) ≡ true
+      → Handled l (issue k n i) (Refused 23 0) l
+  issue-used-up p r e =
+      issue-refused 23 (p .good) (skip (if-false 3 _ (straight k n i (p .straight))) (skip (if-false 10 _ (p .there))
+      (skip (if-false (unfairNumber k) _ (p .fair)) (skip (if-false 22 _ r) (hit (if-true 23 _ e))))))
+
+  pub issue-done : (l′ : List ℕ) (s : ℕ) → Issuable l k n i → noRoom (ledgerOf l) 0 ≡ false
+      → usedUp (ledgerOf l) ≡ false → s ≡ ledgerOf l .next → StandsFor l′ (withCredential (ledgerOf l) k n i)
+      → Handled l (issue k n i) (Accepted s) l′
+  unfolding accept
+  issue-done l′ s p r u e d =
+      accepted l l′ (issue k n i) (Accepted s)
+      (subst Pass (sym (issue-checks (ledgerOf l) k n i)) (
+        if-false 3 _ (straight k n i (p .straight)),
+        (
+          if-false 10 _ (p .there),
+          (if-false (unfairNumber k) _ (p .fair), (if-false 22 _ r, (if-false 23 _ u, tt))),
+        ),
+      ))
+      (ap Accepted e) tt d
+
+  -- what giving the credential asks
+  pub issue-gives : Issuable l k n i → noRoom (ledgerOf l) 0 ≡ false → usedUp (ledgerOf l) ≡ false → Givable l n
+  issue-gives p r u = record {
+    good = p .good;
+    room = omega (arith, leb-false maxLive (length (ledgerOf l .live) - 0) r);
+    unused = ltb-false (serial .last) (ledgerOf l .next) u;
+    there = leb-false (length (ledgerOf l .lines)) n (p .there);
+  }
+
+pub issue-not-plain : (l : List ℕ) (n : ℕ) (i : Interval) → Good l → reversed i ≡ false → missing (ledgerOf l) n ≡ false
+    → not (plain (formula (ledgerOf l) n)) ≡ true → Handled l (issue Linear n i) (Refused 20 0) l
+unfolding unfairNumber
+issue-not-plain l n i g s m e =
+    issue-refused l Linear n i 20 g (skip (if-false 3 _ (straight Linear n i s)) (skip (if-false 10 _ m)
+    (hit (if-true 20 _ e))))
+
+pub issue-not-balanced : (l : List ℕ) (n : ℕ) (i : Interval) → Good l → reversed i ≡ false
+    → missing (ledgerOf l) n ≡ false → not (balanced (formula (ledgerOf l) n)) ≡ true
+    → Handled l (issue Unrestricted n i) (Refused 21 0) l
+unfolding unfairNumber
+issue-not-balanced l n i g s m e =
+    issue-refused l Unrestricted n i 21 g (skip (if-false 3 _ (straight Unrestricted n i s)) (skip (if-false 10 _ m)
+    (hit (if-true 21 _ e))))
+
+-- a test by its verdict
+pub by-verdict : {v w : Verdict} {b : Bool} → fails v ≡ b → v ≡ w → b ≡ fails w
+by-verdict e g = sym e ∙ ap fails g

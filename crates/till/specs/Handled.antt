@@ -2,11 +2,19 @@
 -- same numbers.
 use mathlib.Core.Path.{_≡_}
 use mathlib.Core.List.{List}
-use mathlib.Core.Bool.{Bool, true, false}
+use mathlib.Core.Bool.{Bool, true, false, not}
 use Prim.Native.Nat.{ℕ}
+use Rattle.logic.specs.declared.Interval.{Interval}
+use Rattle.logic.specs.Interval.{reversed}
+use Rattle.logic.specs.Formula.{Formula, plain}
+use Rattle.logic.specs.Counts.{balanced}
+use Rattle.request.specs.declared.Kind.{Kind}
+use Rattle.request.specs.declared.Kind.the-variants.{Linear, Unrestricted}
 use Rattle.request.specs.Request.{Request}
 use Rattle.ledger.specs.declared.Answer.{Answer}
 use Rattle.ledger.specs.declared.Answer.the-variants.{Refused}
+use Rattle.ledger.specs.Ledger.{formula}
+use Rattle.ledger.specs.Checks.{missing}
 use Rattle.ledger.specs.Calls.{handle}
 use Rattle.store.specs.Store.{ledgerOf, Good}
 use Rattle.till.specs.declared.tests.Verdict.{Verdict}
@@ -22,3 +30,15 @@ pub record Handled (l : List ℕ) (r : Request) (a : Answer) (l′ : List ℕ) :
 abbrev pub fails : Verdict → Bool
 fails Passed = false
 fails Failed = true
+
+-- the verdict on an issue's formula: plain for a linear credential (20), balanced for an unrestricted one (21)
+abbrev pub unfair : Kind → Formula → Bool
+unfair Linear a = not (plain a)
+unfair Unrestricted a = not (balanced a)
+
+-- an issue that has passed the checks before 22
+pub record Issuable (l : List ℕ) (k : Kind) (n : ℕ) (i : Interval) : Type 0 where
+  pub good : Good l
+  pub straight : reversed i ≡ false
+  pub there : missing (ledgerOf l) n ≡ false
+  pub fair : unfair k (formula (ledgerOf l) n) ≡ false

@@ -1,15 +1,56 @@
 // The calls (document 01: what the till answers): each checks a request in the paper's order and does what it says.
 use ledger::Answer;
 use logic::Interval;
+use request::Kind;
 use store::Found;
 use store::Store;
+use tests::Verdict;
 
 mod tests;
 
 ghost use mathlib.Core.Path.{_≡_};
-ghost use Rattle.request.specs.Request.{withdraw as withdrawRequest};
+ghost use Rattle.request.specs.declared.Kind.the-variants.{Linear};
+ghost use Rattle.request.specs.Request.{issue as issueRequest, withdraw as withdrawRequest};
 ghost use Rattle.store.specs.Store.{Good};
-ghost use Rattle.till.specs.Handled.{Handled};
+ghost use Rattle.till.specs.Handled.{Handled, Issuable};
+
+// Issue of a formula that has passed the checks before 22: 22, 23.
+fn issue_fair(till: &mut Store, kind: Kind, formula: u32, interval: Interval) -> Answer
+    requires { ⌜ Issuable (now till) kind formula interval ⌝ }
+    ensures { λ r. ⌜ Handled (now (till .entry)) (issueRequest kind formula interval) r (now (till .exit)) ⌝ }
+{
+    let room = tests::room(till, 0);
+    let Verdict::Passed = room else {
+        return Answer::Refused(22, 0);
+    };
+    let unused = tests::unused(till);
+    let Verdict::Passed = unused else {
+        return Answer::Refused(23, 0);
+    };
+    let serial = store::next_serial(till);
+    store::give(till, kind, formula, interval);
+    Answer::Accepted(serial)
+}
+
+// Issue of a linear credential: 3, 10, 20, then as above.
+fn issue_linear(till: &mut Store, formula: u32, interval: Interval) -> Answer
+    requires { ⌜ Good (now till) ⌝ }
+    ensures { λ r. ⌜ Handled (now (till .entry)) (issueRequest Linear formula interval) r (now (till .exit)) ⌝ }
+{
+    let ordered = tests::ordered(interval);
+    let Verdict::Passed = ordered else {
+        return Answer::Refused(3, 0);
+    };
+    let present = tests::present(till, formula);
+    let Verdict::Passed = present else {
+        return Answer::Refused(10, 0);
+    };
+    let plain = tests::plainly(till, formula);
+    let Verdict::Passed = plain else {
+        return Answer::Refused(20, 0);
+    };
+    issue_fair(till, Kind::Linear, formula, interval)
+}
 
 // Withdraw: 24.
 pub fn withdraw(till: &mut Store, serial: u32) -> Answer

@@ -1,7 +1,15 @@
 // The tests of the checks, each answered by an enum.
 use logic::Interval;
+use store::Store;
 ghost use mathlib.Core.Path.{_≡_};
+ghost use mathlib.Core.Bool.{not};
+ghost use Prim.Native.Nat.{_<_};
+ghost use lib.ListN.{length};
 ghost use Rattle.logic.specs.Interval.{reversed};
+ghost use Rattle.logic.specs.Formula.{plain};
+ghost use Rattle.ledger.specs.Ledger.{formula};
+ghost use Rattle.ledger.specs.Checks.{missing, noRoom, usedUp};
+ghost use Rattle.store.specs.Store.{ledgerOf, Good};
 ghost use Rattle.till.specs.Handled.{fails};
 
 pub enum Verdict {
@@ -9,7 +17,7 @@ pub enum Verdict {
     Failed,
 }
 
-// The enum of a test: it fails where `bad`.
+// The verdict of a test: it fails where `bad`.
 pub fn tested(bad: bool) -> Verdict
     ensures { λ r. ⌜ fails r ≡ bad ⌝ }
 {
@@ -19,9 +27,45 @@ pub fn tested(bad: bool) -> Verdict
     Verdict::Passed
 }
 
-// 3: an interval that is reversed.
+// 3: an interval is reversed.
 pub fn ordered(i: Interval) -> Verdict
     ensures { λ r. ⌜ fails r ≡ reversed i ⌝ }
 {
     tested(i.to < i.from)
+}
+
+// 10: a named formula is not there.
+pub fn present(till: &Store, n: u32) -> Verdict
+    requires { ⌜ Good (now till) ⌝ }
+    ensures { λ r. ⌜ fails r ≡ missing (ledgerOf (now (till .entry))) n ⌝ }
+{
+    tested(store::formula_count(till) <= n)
+}
+
+// 20: the formula is not plain.
+pub fn plainly(till: &Store, n: u32) -> Verdict
+    requires { ⌜ Good (now till) × (n < length (ledgerOf (now till) .lines)) ⌝ }
+    ensures { λ r. ⌜ fails r ≡ not (plain (formula (ledgerOf (now (till .entry))) n)) ⌝ }
+{
+    tested(!store::plain_at(till, n))
+}
+
+// 22: live credentials, less the linear ones held, are 512 or more.
+pub fn room(till: &Store, held: u32) -> Verdict
+    requires { ⌜ Good (now till) ⌝ }
+    ensures { λ r. ⌜ fails r ≡ noRoom (ledgerOf (now (till .entry))) held ⌝ }
+{
+    let live = store::live_count(till);
+    if live <= held {
+        return Verdict::Passed;
+    }
+    tested(512 <= live - held)
+}
+
+// 23: serial 999,999 was given.
+pub fn unused(till: &Store) -> Verdict
+    requires { ⌜ Good (now till) ⌝ }
+    ensures { λ r. ⌜ fails r ≡ usedUp (ledgerOf (now (till .entry))) ⌝ }
+{
+    tested(999999 < store::next_serial(till))
 }

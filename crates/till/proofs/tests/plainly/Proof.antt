@@ -1,0 +1,12 @@
+use mathlib.Core.Path.{_∙_}
+use borrow.Author.Needs.{needs}
+use Rattle.till.proofs.tests.plainly.Statement.{statement}
+use Rattle.till.proofs.tests.plainly.Tie as tie
+
+pub plainly-spec : {M : Type 1} → statement M
+plainly-spec =
+    tie.close
+    (tie.spec
+    (λ c κs. search needs)
+    (λ c κs. search needs)
+    (λ c. c .tested .ensures ∙ simp (c .before .plain-at .ensures)))

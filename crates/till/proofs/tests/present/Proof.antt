@@ -1,0 +1,12 @@
+use mathlib.Core.Path.{_∙_}
+use borrow.Author.Needs.{needs}
+use Rattle.till.proofs.tests.present.Statement.{statement}
+use Rattle.till.proofs.tests.present.Tie as tie
+
+pub present-spec : {M : Type 1} → statement M
+present-spec =
+    tie.close
+    (tie.spec
+    (λ c κs. search needs)
+    (λ c κs. search needs)
+    (λ c. c .tested .ensures ∙ simp (c .before .formula-count .ensures)))

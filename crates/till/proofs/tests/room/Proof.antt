@@ -1,0 +1,15 @@
+use mathlib.Core.Path.{_∙_}
+use Rattle.till.proofs.Laws.{room-free}
+use borrow.Author.Needs.{needs}
+use Rattle.till.proofs.tests.room.Statement.{statement}
+use Rattle.till.proofs.tests.room.Tie as tie
+
+pub room-spec : {M : Type 1} → statement M
+room-spec =
+    tie.close
+    (tie.spec
+    (λ c κs. search needs)
+    (λ c. room-free (c .before .live-count .ensures) (c .if1 .taken))
+    (λ c. search needs)
+    (λ c κs. search needs)
+    (λ c. c .tested .ensures ∙ simp (c .before .before .live-count .ensures)))

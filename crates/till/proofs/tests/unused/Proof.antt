@@ -1,0 +1,12 @@
+use mathlib.Core.Path.{_∙_}
+use borrow.Author.Needs.{needs}
+use Rattle.till.proofs.tests.unused.Statement.{statement}
+use Rattle.till.proofs.tests.unused.Tie as tie
+
+pub unused-spec : {M : Type 1} → statement M
+unused-spec =
+    tie.close
+    (tie.spec
+    (λ c κs. search needs)
+    (λ c κs. search needs)
+    (λ c. c .tested .ensures ∙ simp (c .before .next-serial .ensures)))
