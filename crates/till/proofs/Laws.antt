@@ -2,20 +2,22 @@
 use mathlib.Core.Path.{_≡_, refl, sym, ap, subst, _∙_}
 use mathlib.Core.List.{List, [], _∷_}
 use mathlib.Core.Option.{Option, none, some}
-use mathlib.Core.Bool.{Bool, true, false, not}
+use mathlib.Core.Bool.{Bool, true, false, not, _||_}
 use Prim.Native.Nat.{ℕ, _-_, _≤_}
-use lib.Dec.{leb}
+use lib.Dec.{eqb, leb}
 use lib.ListN.{length}
-use borrow.Author.Tests.{lt-leb, leb-false, ltb-false}
+use borrow.Author.Tests.{lt-leb, leb-false, ltb-false, ne-eqb}
 use native.Mathlib.Omega.{arith}
 use Rattle.logic.specs.declared.Interval.{Interval}
-use Rattle.logic.specs.Interval.{reversed}
+use Prim.Native.Char.{Char, code}
+use Rattle.logic.specs.Interval.{span, reversed}
 use Rattle.logic.specs.Formula.{plain}
 use Rattle.logic.specs.Counts.{balanced}
 use Rattle.request.specs.declared.Kind.{Kind}
 use Rattle.request.specs.declared.Kind.the-variants.{Linear, Unrestricted}
 use Rattle.request.specs.Range.{serial}
-use Rattle.request.specs.Request.{Request, issue, withdraw, intervals}
+use Rattle.request.specs.Request.{Line, Request, word, issue, withdraw, lineIntervals, intervals}
+use Rattle.steps.specs.declared.Row.{Row}
 use Rattle.ledger.specs.declared.Credential.{Credential}
 use Rattle.ledger.specs.declared.Answer.{Answer}
 use Rattle.ledger.specs.declared.Answer.the-variants.{Accepted, Counted, Refused}
@@ -28,7 +30,8 @@ use Rattle.ledger.proofs.Firsts.{if-false, if-true, skip, hit, handle-fails, ha
 use Rattle.store.specs.declared.Found.{Found}
 use Rattle.store.specs.declared.Found.the-variants.{At, Nothing}
 use Rattle.store.specs.Layout.{credentialAt}
-use Rattle.store.specs.Store.{ledgerOf, Good, StandsFor, Givable, Finds}
+use Rattle.store.specs.Store.{lineOf, ledgerOf, Good, StandsFor, Givable, Finds}
+use Rattle.store.specs.Tab.{pick}
 use Rattle.till.specs.declared.tests.Verdict.{Verdict}
 use Rattle.till.specs.Handled.{Handled, fails, unfair, Issuable}
 
@@ -117,7 +120,8 @@ module _ (l : List ℕ) (k : Kind) (n : ℕ) (i : Interval) where
   pub issue-reversed : Good l → reversed i ≡ true → Handled l (issue k n i) (Refused 3 0) l
   issue-reversed g e = issue-refused 3 g (hit (if-true 3 _ (straight k n i e)))
 
-  pub issue-missing : Good l → reversed i ≡ false → missing (ledgerOf l) n ≡ true → Handled l (issue k n i) (Refused 10 0) l
+  pub issue-missing : Good l → reversed i ≡ false → missing (ledgerOf l) n ≡ true
+      → Handled l (issue k n i) (Refused 10 0) l
   issue-missing g s e = issue-refused 10 g (skip (if-false 3 _ (straight k n i s)) (hit (if-true 10 _ e)))
 
   pub issue-full : Issuable l k n i → noRoom (ledgerOf l) 0 ≡ true → Handled l (issue k n i) (Refused 22 0) l
@@ -173,3 +177,46 @@ issue-not-balanced l n i g s m e =
 -- a test by its verdict
 pub by-verdict : {v w : Verdict} {b : Bool} → fails v ≡ b → v ≡ w → b ≡ fails w
 by-verdict e g = sym e ∙ ap fails g
+
+-- Word
+
+or-false : (b : Bool) → (b || false) ≡ b
+or-false true = refl
+or-false false = refl
+
+-- the intervals of a row's line: of `h` and `g` alone
+pub at-ordered : (x : Row) → x .letter ≡ code "h"
+    → any reversed (lineIntervals (lineOf x)) ≡ reversed (span (x .b) (x .c))
+unfolding any lineOf
+at-ordered x e = rw (e, lineOf) (or-false (reversed (span (x .b) (x .c))))
+
+pub superset-ordered : (x : Row) → x .letter ≡ code "g"
+    → any reversed (lineIntervals (lineOf x)) ≡ (reversed (span (x .a) (x .b)) || reversed (span (x .c) (x .d)))
+unfolding any lineOf
+superset-ordered x e =
+    rw (e, lineOf) (ap (λ (b : Bool). reversed (span (x .a) (x .b)) || b) (or-false (reversed (span (x .c) (x .d)))))
+
+-- a line with another letter has none
+without-interval : (x : Row) (b₁ b₂ b₃ b₄ b₅ b₆ b₇ b₈ : Bool)
+    → any reversed (lineIntervals
+    (pick b₁ (Line.atom (x .a) (x .b)) (pick b₂ (Line.tensor (x .a) (x .b)) (pick b₃ (Line.with (x .a) (x .b))
+    (pick b₄ (Line.plus (x .a) (x .b)) (pick b₅ (Line.lolli (x .a) (x .b)) (pick b₆ (Line.implies (x .a) (x .b))
+    (pick b₇ (Line.bang (x .a)) (pick b₈ (Line.says (x .a) (x .b)) Line.one))))))))) ≡ false
+unfolding any
+without-interval x true b₂ b₃ b₄ b₅ b₆ b₇ b₈ = refl
+without-interval x false true b₃ b₄ b₅ b₆ b₇ b₈ = refl
+without-interval x false false true b₄ b₅ b₆ b₇ b₈ = refl
+without-interval x false false false true b₅ b₆ b₇ b₈ = refl
+without-interval x false false false false true b₆ b₇ b₈ = refl
+without-interval x false false false false false true b₇ b₈ = refl
+without-interval x false false false false false false true b₈ = refl
+without-interval x false false false false false false false true = refl
+without-interval x false false false false false false false false = refl
+
+pub others-ordered : (x : Row) → (x .letter ≡ code "h" → ⊥) → (x .letter ≡ code "g" → ⊥)
+    → any reversed (lineIntervals (lineOf x)) ≡ false
+unfolding any lineOf
+others-ordered x h g =
+    let is : Char → Bool = λ c. eqb (x .letter) (code c) in
+    rw (ne-eqb (x .letter) (code "h") h, ne-eqb (x .letter) (code "g") g, lineOf)
+    (without-interval x (is "a") (is "t") (is "w") (is "p") (is "l") (is "u") (is "b") (is "s"))

@@ -1,5 +1,5 @@
--- What a call leaves, of a request that has been read: the answer and the ledger of the definition; at a refusal the very
--- same numbers.
+-- What a call leaves, of a request that has been read: the answer and the ledger of the definition; at a refusal the
+-- very same numbers.
 use mathlib.Core.Path.{_≡_}
 use mathlib.Core.List.{List}
 use mathlib.Core.Bool.{Bool, true, false, not}

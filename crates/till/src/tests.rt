@@ -1,5 +1,6 @@
 // The tests of the checks, each answered by an enum.
 use logic::Interval;
+use steps::Row;
 use store::Store;
 ghost use mathlib.Core.Path.{_≡_};
 ghost use mathlib.Core.Bool.{not};
@@ -8,8 +9,9 @@ ghost use lib.ListN.{length};
 ghost use Rattle.logic.specs.Interval.{reversed};
 ghost use Rattle.logic.specs.Formula.{plain};
 ghost use Rattle.ledger.specs.Ledger.{formula};
-ghost use Rattle.ledger.specs.Checks.{missing, noRoom, usedUp};
-ghost use Rattle.store.specs.Store.{ledgerOf, Good};
+ghost use Rattle.request.specs.Request.{lineIntervals};
+ghost use Rattle.ledger.specs.Checks.{any, missing, noRoom, usedUp};
+ghost use Rattle.store.specs.Store.{lineOf, ledgerOf, Good};
 ghost use Rattle.till.specs.Handled.{fails};
 
 pub enum Verdict {
@@ -32,6 +34,18 @@ pub fn ordered(i: Interval) -> Verdict
     ensures { λ r. ⌜ fails r ≡ reversed i ⌝ }
 {
     tested(i.to < i.from)
+}
+
+// 3: an interval of a formula line is reversed.
+pub fn line_ordered(row: Row) -> Verdict
+    ensures { λ r. ⌜ fails r ≡ any reversed (lineIntervals (lineOf row)) ⌝ }
+{
+    let letter = row.letter;
+    match letter {
+        104 => tested(row.c < row.b),
+        103 => tested((row.b < row.a) | (row.d < row.c)),
+        _ => Verdict::Passed,
+    }
 }
 
 // 10: a named formula is not there.

@@ -1,4 +1,3 @@
-use denote.Ref.{now}
 use borrow.Author.Needs.{needs}
 use Rattle.till.proofs.Laws.{issue-full, issue-used-up, issue-done, issue-gives, by-verdict}
 use Rattle.till.proofs.issue_fair.Statement.{statement}
@@ -6,27 +5,32 @@ use Rattle.till.proofs.issue_fair.Tie as tie
 
 returns : tie.Need-returns
 returns c =
-    let start = c .before .before .before .before in
-    issue-full _ _ _ _ (start .pre) (by-verdict (c .before .before .room .ensures) (c .enum-told2 .given .1))
+    issue-full _ _ _ _ (c .before .before .before .before .pre)
+    (by-verdict (c .before .before .room .ensures) (c .enum-told2 .given .1))
 
 returns-2 : tie.Need-returns-2
 returns-2 c =
-    let start = c .before .before .before .before .before .before .before .before in
-    issue-used-up _ _ _ _ (start .pre) (by-verdict (c .before .before .before .before .before .before .room .ensures) (c .before .before .before .before .enum-told .given .1))
+    let room = c .before .before .before .before in
+    issue-used-up _ _ _ _ (room .before .before .before .before .pre)
+    (by-verdict (room .before .before .room .ensures) (room .enum-told .given .1))
     (by-verdict (c .before .before .unused .ensures) (c .enum-told4 .given .1))
 
 give-requires : tie.Need-give-requires
 give-requires c κs =
-    let start = c .before .before .before .before .before .before .before .before .before .before .before in
-    issue-gives _ _ _ _ (start .pre) (by-verdict (c .before .before .before .before .before .before .before .before .before .room .ensures) (c .before .before .before .before .before .before .before .enum-told .given .1))
-    (by-verdict (c .before .before .before .before .before .unused .ensures) (c .before .before .before .enum-told3 .given .1))
+    let unused = c .before .before .before in
+    let room = unused .before .before .before .before in
+    issue-gives _ _ _ _ (room .before .before .before .before .pre)
+    (by-verdict (room .before .before .room .ensures) (room .enum-told .given .1))
+    (by-verdict (unused .before .before .unused .ensures) (unused .enum-told3 .given .1))
 
 returns-3 : tie.Need-returns-3
 returns-3 c =
-    let start = c .before .before .before .before .before .before .before .before .before .before .before .before in
-    issue-done _ _ _ _ _ _ (start .pre) (by-verdict (c .before .before .before .before .before .before .before .before .before .before .room .ensures) (c .before .before .before .before .before .before .before .before .enum-told .given .1))
-    (by-verdict (c .before .before .before .before .before .before .unused .ensures) (c .before .before .before .before .enum-told3 .given .1)) (c .before .before .next-serial .ensures)
-    (c .give .ensures)
+    let unused = c .before .before .before .before in
+    let room = unused .before .before .before .before in
+    issue-done _ _ _ _ _ _ (room .before .before .before .before .pre)
+    (by-verdict (room .before .before .room .ensures) (room .enum-told .given .1))
+    (by-verdict (unused .before .before .unused .ensures) (unused .enum-told3 .given .1))
+    (c .before .before .next-serial .ensures) (c .give .ensures)
 
 pub issue-fair-spec : {M : Type 1} → statement M
 issue-fair-spec =

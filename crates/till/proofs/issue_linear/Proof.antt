@@ -1,40 +1,46 @@
-use borrow.Author.Needs.{needs}
 use borrow.Author.Tests.{leb-false}
+use borrow.Author.Needs.{needs}
 use Rattle.till.proofs.Laws.{issue-reversed, issue-missing, issue-not-plain, by-verdict}
 use Rattle.till.proofs.issue_linear.Statement.{statement}
 use Rattle.till.proofs.issue_linear.Tie as tie
 
 returns : tie.Need-returns
 returns c =
-    let start = c .before .before .before in
-    issue-reversed _ _ _ _ (start .pre) (by-verdict (c .before .before .ordered .ensures) (c .enum-told2 .given .1))
+    issue-reversed _ _ _ _ (c .before .before .before .pre)
+    (by-verdict (c .before .before .ordered .ensures) (c .enum-told2 .given .1))
 
 returns-2 : tie.Need-returns-2
 returns-2 c =
-    let start = c .before .before .before .before .before .before .before in
-    issue-missing _ _ _ _ (start .pre) (by-verdict (c .before .before .before .before .before .before .ordered .ensures) (c .before .before .before .before .enum-told .given .1))
+    let ordered = c .before .before .before .before in
+    issue-missing _ _ _ _ (ordered .before .before .before .pre)
+    (by-verdict (ordered .before .before .ordered .ensures) (ordered .enum-told .given .1))
     (by-verdict (c .before .before .present .ensures) (c .enum-told4 .given .1))
 
 plainly-requires : tie.Need-plainly-requires
 plainly-requires c κs =
-    let start = c .before .before .before .before .before .before .before .before in
-    (start .pre, leb-false _ _ (by-verdict (c .before .before .before .present .ensures) (c .before .enum-told3 .given .1)))
+    let present = c .before in
+    let start = present .before .before .before .before .before .before .before in
+    (start .pre, leb-false _ _ (by-verdict (present .before .before .present .ensures) (present .enum-told3 .given .1)))
 
 returns-3 : tie.Need-returns-3
 returns-3 c =
-    let start = c .before .before .before .before .before .before .before .before .before .before .before in
-    issue-not-plain _ _ _ (start .pre) (by-verdict (c .before .before .before .before .before .before .before .before .before .before .ordered .ensures) (c .before .before .before .before .before .before .before .before .enum-told .given .1))
-    (by-verdict (c .before .before .before .before .before .before .present .ensures) (c .before .before .before .before .enum-told3 .given .1))
+    let present = c .before .before .before .before in
+    let ordered = present .before .before .before .before in
+    issue-not-plain _ _ _ (ordered .before .before .before .pre)
+    (by-verdict (ordered .before .before .ordered .ensures) (ordered .enum-told .given .1))
+    (by-verdict (present .before .before .present .ensures) (present .enum-told3 .given .1))
     (by-verdict (c .before .before .plainly .ensures) (c .enum-told6 .given .1))
 
 issue-fair-requires : tie.Need-issue-fair-requires
 issue-fair-requires c κs =
-    let start = c .before .before .before .before .before .before .before .before .before .before .before .before in
+    let fair = c .before in
+    let present = fair .before .before .before .before in
+    let ordered = present .before .before .before .before in
     record {
-      good = start .pre;
-      straight = by-verdict (c .before .before .before .before .before .before .before .before .before .before .before .ordered .ensures) (c .before .before .before .before .before .before .before .before .before .enum-told .given .1);
-      there = by-verdict (c .before .before .before .before .before .before .before .present .ensures) (c .before .before .before .before .before .enum-told3 .given .1);
-      fair = by-verdict (c .before .before .before .plainly .ensures) (c .before .enum-told5 .given .1);
+      good = ordered .before .before .before .pre;
+      straight = by-verdict (ordered .before .before .ordered .ensures) (ordered .enum-told .given .1);
+      there = by-verdict (present .before .before .present .ensures) (present .enum-told3 .given .1);
+      fair = by-verdict (fair .before .before .plainly .ensures) (fair .enum-told5 .given .1);
     }
 
 pub issue-linear-spec : {M : Type 1} → statement M

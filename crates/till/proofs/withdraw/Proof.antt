@@ -23,11 +23,19 @@ remove-requires c κs =
 
 returns-2 : tie.Need-returns-2
 returns-2 c =
-    let start = c .before .before .before .before .before .before .before in
+    let found = c .before .before .before in
+    let start = found .before .before .before .before in
     let f = subst (λ (f : Found). Finds (now (start .args .till)) (start .args .serial) f)
-    (c .before .before .before .found .given .1) (c .before .before .before .before .before .find .ensures) in
+    (found .found .given .1) (found .before .before .find .ensures) in
     withdraw-done (now (start .args .till)) _ (start .args .serial) _ _ f (c .remove .ensures)
 
 pub withdraw-spec : {M : Type 1} → statement M
 withdraw-spec =
-    tie.close (tie.spec (λ c κs. search needs) (λ c. search needs) (λ c. search needs) returns remove-requires returns-2)
+    tie.close
+    (tie.spec
+    (λ c κs. search needs)
+    (λ c. search needs)
+    (λ c. search needs)
+    returns
+    remove-requires
+    returns-2)
