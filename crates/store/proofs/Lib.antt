@@ -1,0 +1,11 @@
+pub mod Sets
+pub mod Cells
+pub mod Tabs
+pub mod Search
+pub mod Shift
+pub mod Lines
+pub mod Rows
+pub mod Views
+pub mod Bounds
+pub mod Live
+pub mod Added

@@ -1,0 +1,74 @@
+-- What is read of a store is what its ledger has.
+use mathlib.Core.Path.{_≡_, sym, ap, _∙_}
+use mathlib.Core.List.{List}
+use mathlib.Core.Option.{some}
+use mathlib.Core.Bool.{true, false}
+use Prim.Native.Nat.{ℕ, _<_}
+use native.Mathlib.Omega.{arith}
+use native.Mathlib.Decide.{decLt}
+use lib.ListN.{length, getD}
+use Rattle.request.specs.Request.{Line}
+use Rattle.steps.specs.declared.Row.{Row}
+use Rattle.ledger.specs.declared.Credential.{Credential}
+use Rattle.ledger.specs.Table.{rowOf}
+use Rattle.ledger.specs.Ledger.{row}
+use Rattle.ledger.specs.Checks.{any, sameRow}
+use Rattle.store.specs.declared.Found.the-variants.{At, Nothing}
+use Rattle.store.specs.Layout.{lineCount, liveCount, rowAt, credentialAt}
+use Rattle.store.specs.Store.{lineOf, ledgerOf, Good, Finds}
+use Rattle.store.proofs.Tabs.{length-tab, getD-tab, getD-past}
+use Rattle.store.proofs.Search.{NoneBefore, find-none, find-at, any-none, any-at}
+use Rattle.store.proofs.Rows.{row-past}
+
+module _ (l : List ℕ) where
+  pub lines-length : length (ledgerOf l .lines) ≡ lineCount l
+  unfolding ledgerOf
+  lines-length = length-tab (lineCount l) (λ i. lineOf (rowAt l i))
+
+  pub live-length : length (ledgerOf l .live) ≡ liveCount l
+  unfolding ledgerOf
+  live-length = length-tab (liveCount l) (credentialAt l)
+
+  -- a live credential is the one at its place
+  pub live-at : (i : ℕ) (d : Credential) → i < length (ledgerOf l .live)
+      → getD (ledgerOf l .live) i d ≡ credentialAt l i
+  unfolding ledgerOf
+  live-at i d h = getD-tab (liveCount l) (credentialAt l) i d (omega (arith, live-length))
+
+  -- the rows of the ledger are those of the store, at every number
+  pub row-is : Good l → (n : ℕ) → row (ledgerOf l) n ≡ rowAt l n
+  unfolding ledgerOf
+  row-is g n = go (decLt n (lineCount l))
+    where
+      go : Dec (n < lineCount l) → row (ledgerOf l) n ≡ rowAt l n
+      go (yes h) = ap rowOf (getD-tab (lineCount l) (λ i. lineOf (rowAt l i)) n Line.one h) ∙ g .canonical n h
+      go (no h) =
+          ap rowOf (getD-past (lineCount l) (λ i. lineOf (rowAt l i)) n Line.one (omega arith))
+          ∙ sym (row-past l n (omega arith))
+
+  -- what a search through the rows has found
+  module _ (g : Good l) (r : Row) where
+    pub has-at : (i : ℕ) → i < lineCount l → sameRow r (rowAt l i) ≡ true
+        → any (λ x. sameRow r (rowOf x)) (ledgerOf l .lines) ≡ true
+    unfolding ledgerOf
+    has-at i q e = any-at (λ x. sameRow r (rowOf x)) (lineCount l) _ i q (ap (sameRow r) (g .canonical i q) ∙ e)
+
+    pub has-none : ((i : ℕ) → i < lineCount l → sameRow r (rowAt l i) ≡ false)
+        → any (λ x. sameRow r (rowOf x)) (ledgerOf l .lines) ≡ false
+    unfolding ledgerOf
+    has-none h =
+        any-none (λ x. sameRow r (rowOf x)) (lineCount l) _ (λ i q. ap (sameRow r) (g .canonical i q) ∙ h i q)
+
+  -- what a search through the serials has found, when no credential before place i has the serial
+  module _ (s : ℕ) where
+    pub found-at : (i : ℕ) (c : Credential) → i < liveCount l → NoneBefore (credentialAt l) s i → c ≡ credentialAt l i
+        → credentialAt l i .serial ≡ s → Finds l s (At i c)
+    unfolding ledgerOf
+    found-at i c q h e n = record {
+      found = ap some e ∙ sym (find-at (liveCount l) (credentialAt l) s i q h n);
+      placed = (omega (arith, live-length), sym e);
+    }
+
+    pub found-nothing : NoneBefore (credentialAt l) s (liveCount l) → Finds l s Nothing
+    unfolding ledgerOf
+    found-nothing h = record { found = sym (find-none (liveCount l) (credentialAt l) s h); placed = tt }

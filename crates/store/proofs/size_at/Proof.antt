@@ -1,0 +1,16 @@
+-- `size_at` meets its contract. What is kept is the size.
+use mathlib.Core.Path.{_∙_}
+use borrow.Author.Needs.{needs}
+use native.Mathlib.Omega.{arith}
+use denote.Ref.{now}
+use Rattle.store.proofs.Views.{lines-length}
+use Rattle.store.proofs.size_at.Statement.{statement}
+use Rattle.store.proofs.size_at.Tie as tie
+
+returns : tie.Need-returns
+returns c =
+    let l = now (c .before .args .store) in
+    c .size .ensures ∙ c .before .pre .0 .sizes _ (omega (arith, lines-length l))
+
+pub size-at-spec : {M : Type 1} → statement M
+size-at-spec = tie.close (tie.spec (λ c κs. search needs) returns)

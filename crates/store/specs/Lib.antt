@@ -1,0 +1,3 @@
+pub mod Tab
+pub mod Layout
+pub mod Store

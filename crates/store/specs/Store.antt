@@ -1,0 +1,102 @@
+-- The ledger that a store's numbers stand for, and what holds of every store that the functions leave.
+use mathlib.Core.Path.{_≡_}
+use mathlib.Core.List.{List}
+use mathlib.Core.Bool.{Bool}
+use mathlib.Core.Option.{Option, none, some}
+use Prim.Native.Nat.{ℕ, _≤_, _<_}
+use Prim.Native.Char.{code}
+use lib.Dec.{eqb}
+use lib.ListN.{length}
+use Rattle.logic.specs.Interval.{span}
+use Rattle.logic.specs.Formula.{size, plain, bit}
+use Rattle.logic.specs.Multiset.{Every}
+use Rattle.request.specs.Request.{Line}
+use Rattle.steps.specs.declared.Row.{Row}
+use Rattle.ledger.specs.declared.Credential.{Credential}
+use Rattle.ledger.specs.Table.{form, names, rowOf}
+use Rattle.ledger.specs.Ledger.{Ledger, formula, find}
+use Rattle.ledger.specs.Checks.{maxSize, maxFormulas, maxLive}
+use Rattle.ledger.proofs.Tables.{There}
+use Rattle.ledger.proofs.Bounds.{Bounded}
+use Rattle.request.specs.Range.{serial}
+use Rattle.store.specs.declared.Found.{Found}
+use Rattle.store.specs.declared.Found.the-variants.{At, Nothing}
+use Rattle.store.specs.Tab.{tab, pick}
+use Rattle.store.specs.Layout.{cells, lineCount, liveCount, nextSerial, rowAt, sizeAt, plainAt, credentialAt}
+
+-- the line of a row, by its letter; 1 for any other letter
+unfoldable pub lineOf : Row → Line
+lineOf r =
+    pick (eqb (r .letter) (code "a")) (Line.atom (r .a) (r .b))
+    (pick (eqb (r .letter) (code "t")) (Line.tensor (r .a) (r .b))
+    (pick (eqb (r .letter) (code "w")) (Line.with (r .a) (r .b))
+    (pick (eqb (r .letter) (code "p")) (Line.plus (r .a) (r .b))
+    (pick (eqb (r .letter) (code "l")) (Line.lolli (r .a) (r .b))
+    (pick (eqb (r .letter) (code "u")) (Line.implies (r .a) (r .b))
+    (pick (eqb (r .letter) (code "b")) (Line.bang (r .a))
+    (pick (eqb (r .letter) (code "h")) (Line.at (r .a) (span (r .b) (r .c)))
+    (pick (eqb (r .letter) (code "s")) (Line.says (r .a) (r .b))
+    (pick (eqb (r .letter) (code "g")) (Line.superset (span (r .a) (r .b)) (span (r .c) (r .d)))
+    Line.one)))))))))
+
+unfoldable pub ledgerOf : List ℕ → Ledger
+ledgerOf l = record {
+  lines = tab (lineCount l) (λ i. lineOf (rowAt l i));
+  live = tab (liveCount l) (credentialAt l);
+  next = nextSerial l;
+}
+
+-- the row of a line, no other numbers in it
+abbrev pub Canonical : Row → Type 0
+Canonical r = rowOf (lineOf r) ≡ r
+
+-- every live credential is of a formula of the ledger
+abbrev pub Named : Ledger → Type 0
+Named t = Every (λ c. c .formula < length (t .lines)) (t .live)
+
+-- A store that calls made: what is kept beside the lines is right, and the ledger has what every ledger that calls gave
+-- has (`bounded`): lines name earlier lines, serials rise and are below the next, sizes are at most 64.
+pub record Good (l : List ℕ) : Type 0 where
+  pub long : length l ≡ cells
+  pub lines : lineCount l ≤ maxFormulas
+  pub live : liveCount l ≤ maxLive
+  pub canonical : (i : ℕ) → i < lineCount l → Canonical (rowAt l i)
+  pub sizes : (i : ℕ) → i < lineCount l → sizeAt l i ≡ size (formula (ledgerOf l) i)
+  pub plains : (i : ℕ) → i < lineCount l → plainAt l i ≡ bit (plain (formula (ledgerOf l) i))
+  pub named : Named (ledgerOf l)
+  pub bounded : Bounded (ledgerOf l)
+
+-- what a function that changes the store leaves: a good store that stands for the ledger t
+pub record StandsFor (l : List ℕ) (t : Ledger) : Type 0 where
+  pub good : Good l
+  pub ledger : ledgerOf l ≡ t
+
+-- what the checks of a formula line have found before its row is added, with its formula's size and whether it is plain
+pub record Addable (l : List ℕ) (r : Row) (s : ℕ) (p : Bool) : Type 0 where
+  pub good : Good l
+  pub room : length (ledgerOf l .lines) < maxFormulas
+  pub canonical : Canonical r
+  pub there : There (ledgerOf l) (names (lineOf r))
+  pub sized : s ≡ size (form (formula (ledgerOf l)) (lineOf r))
+  pub plainly : p ≡ plain (form (formula (ledgerOf l)) (lineOf r))
+  pub small : s ≤ maxSize
+
+-- what the checks of an issue or a booking have found before a credential of formula n is given
+pub record Givable (l : List ℕ) (n : ℕ) : Type 0 where
+  pub good : Good l
+  pub room : length (ledgerOf l .live) < maxLive
+  pub unused : ledgerOf l .next ≤ serial .last
+  pub there : n < length (ledgerOf l .lines)
+
+-- the credential of an answer of `find`, and where it stands
+abbrev pub credentialOf : Found → Option Credential
+credentialOf (At i c) = some c
+credentialOf Nothing = none
+
+abbrev pub Placed : List ℕ → Found → Type 0
+Placed l (At i c) = (i < length (ledgerOf l .live)) × (credentialAt l i ≡ c)
+Placed l Nothing = Unit {0}
+
+pub record Finds (l : List ℕ) (n : ℕ) (r : Found) : Type 0 where
+  pub found : credentialOf r ≡ find (ledgerOf l .live) n
+  pub placed : Placed l r

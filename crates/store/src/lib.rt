@@ -1,0 +1,181 @@
+// The ledger's state (document 01: the till) in one array of numbers, which the caller keeps and lends to every call:
+// specs/Layout.antt says where each number stands, specs/Store.antt which ledger it is and what holds of every store.
+use ledger::Credential;
+use logic::Interval;
+use request::Kind;
+use steps::Row;
+
+mod row;
+
+ghost use mathlib.Core.Path.{_≡_};
+ghost use mathlib.Core.List.{List};
+ghost use Prim.Native.Nat.{_<_};
+ghost use lib.ListN.{length};
+ghost use Rattle.logic.specs.Formula.{size, plain};
+ghost use Rattle.ledger.specs.Table.{rowOf};
+ghost use Rattle.ledger.specs.Ledger.{empty, formula, withoutSerial};
+ghost use Rattle.ledger.specs.Checks.{any, sameRow};
+ghost use Rattle.ledger.specs.Calls.{withLine, withLive, withCredential};
+ghost use Rattle.store.specs.Layout.{rowAt, credentialAt};
+ghost use Rattle.store.specs.Store.{lineOf, ledgerOf, Good, StandsFor, Addable, Givable, Finds};
+
+pub type Store = [u32; 3964];
+
+// the letter of 1
+const ONE: u32 = b'o' as u32;
+
+// Where a live credential stands, and the credential.
+pub enum Found {
+    At(u32, Credential),
+    Nothing,
+}
+
+// The empty ledger.
+pub fn start(store: &mut Store)
+    ensures { λ _. ⌜ StandsFor (now (store .exit)) empty ⌝ }
+{
+    *store = [0u32; 3964];
+    row::put_next(store, 1);
+}
+
+pub fn formula_count(store: &Store) -> u32
+    ensures { λ r. ⌜ r ≡ length (ledgerOf (now (store .entry)) .lines) ⌝ }
+{
+    row::line_count(store)
+}
+
+pub fn live_count(store: &Store) -> u32
+    ensures { λ r. ⌜ r ≡ length (ledgerOf (now (store .entry)) .live) ⌝ }
+{
+    row::live_count(store)
+}
+
+pub fn next_serial(store: &Store) -> u32
+    ensures { λ r. ⌜ r ≡ ledgerOf (now (store .entry)) .next ⌝ }
+{
+    row::next(store)
+}
+
+// The row of a formula's number; of a number that names none, that of 1.
+pub fn row_at(store: &Store, n: u32) -> Row
+    ensures { λ r. ⌜ r ≡ rowAt (now (store .entry)) n ⌝ }
+{
+    if n < 200 {
+        if n < row::line_count(store) {
+            return row::line_row(store, n);
+        }
+    }
+    Row {
+        letter: ONE,
+        a: 0,
+        b: 0,
+        c: 0,
+        d: 0,
+    }
+}
+
+pub fn size_at(store: &Store, n: u32) -> u32
+    requires { ⌜ Good (now store) × (n < length (ledgerOf (now store) .lines)) ⌝ }
+    ensures { λ r. ⌜ r ≡ size (formula (ledgerOf (now (store .entry))) n) ⌝ }
+{
+    row::size(store, n)
+}
+
+pub fn plain_at(store: &Store, n: u32) -> bool
+    requires { ⌜ Good (now store) × (n < length (ledgerOf (now store) .lines)) ⌝ }
+    ensures { λ r. ⌜ r ≡ plain (formula (ledgerOf (now (store .entry))) n) ⌝ }
+{
+    row::plain(store, n) == 1
+}
+
+fn same_row(x: Row, y: Row) -> bool
+    ensures { λ r. ⌜ r ≡ sameRow x y ⌝ }
+{
+    x.letter == y.letter && (x.a == y.a && (x.b == y.b && (x.c == y.c && x.d == y.d)))
+}
+
+// Whether a line of the ledger has this row.
+pub fn has_row(store: &Store, row: Row) -> bool
+    requires { ⌜ Good (now store) ⌝ }
+    ensures { λ r. ⌜ r ≡ any (λ m. sameRow row (rowOf m)) (ledgerOf (now (store .entry)) .lines) ⌝ }
+{
+    let n = row::line_count(store);
+    let mut i = 0;
+    while i < n {
+        let other = row_at(store, i);
+        if same_row(row, other) {
+            return true;
+        }
+        i += 1;
+    }
+    false
+}
+
+// One formula line more, with its formula's size and whether it is plain.
+pub fn add_row(store: &mut Store, row: Row, size: u32, plain: bool)
+    requires { ⌜ Addable (now store) row size plain ⌝ }
+    ensures { λ _. ⌜ StandsFor (now (store .exit)) (withLine (ledgerOf (now (store .entry))) (lineOf row)) ⌝ }
+{
+    let n = row::line_count(store);
+    row::put_line(store, n, row, size, plain);
+    row::put_line_count(store, n + 1);
+}
+
+// The credential at a place.
+pub fn credential_at(store: &Store, i: u32) -> Credential
+    requires { ⌜ Good (now store) × (i < length (ledgerOf (now store) .live)) ⌝ }
+    ensures { λ r. ⌜ r ≡ credentialAt (now (store .entry)) i ⌝ }
+{
+    row::credential(store, i)
+}
+
+// The live credential of a serial: serials alone are read, and the one row found.
+pub fn find(store: &Store, serial: u32) -> Found
+    requires { ⌜ Good (now store) ⌝ }
+    ensures { λ r. ⌜ Finds (now (store .entry)) serial r ⌝ }
+{
+    let n = row::live_count(store);
+    let mut i = 0;
+    while i < n {
+        if row::serial(store, i) == serial {
+            return Found::At(i, row::credential(store, i));
+        }
+        i += 1;
+    }
+    Found::Nothing
+}
+
+// The credential at a place leaves, and those after it move down by one.
+pub fn remove(store: &mut Store, at: u32)
+    requires { ⌜ Good (now store) × (at < length (ledgerOf (now store) .live)) ⌝ }
+    ensures { λ _. ⌜ StandsFor (now (store .exit)) (withLive (ledgerOf (now (store .entry)))
+        (withoutSerial (ledgerOf (now (store .entry)) .live) (credentialAt (now (store .entry)) at .serial))) ⌝ }
+{
+    let n = row::live_count(store) - 1;
+    let mut i = at;
+    while i < n {
+        let c = row::credential(store, i + 1);
+        row::put_credential(store, i, c);
+        i += 1;
+    }
+    row::put_live_count(store, n);
+}
+
+// One credential more, with the next serial.
+pub fn give(store: &mut Store, kind: Kind, formula: u32, interval: Interval)
+    requires { ⌜ Givable (now store) formula ⌝ }
+    ensures { λ _. ⌜ StandsFor (now (store .exit))
+        (withCredential (ledgerOf (now (store .entry))) kind formula interval) ⌝ }
+{
+    let n = row::live_count(store);
+    let serial = row::next(store);
+    let c = Credential {
+        serial,
+        kind,
+        formula,
+        interval,
+    };
+    row::put_credential(store, n, c);
+    row::put_live_count(store, n + 1);
+    row::put_next(store, serial + 1);
+}

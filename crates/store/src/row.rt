@@ -1,0 +1,160 @@
+// The only functions that know where a number stands in the array; specs/Layout.antt has the layout and its reason.
+use crate::Store;
+use ledger::Credential;
+use logic::Interval;
+use request::Kind;
+use steps::Row;
+ghost use mathlib.Core.Path.{_≡_};
+ghost use Prim.Native.Nat.{_<_};
+ghost use Rattle.logic.specs.Formula.{bit};
+ghost use Rattle.store.specs.Layout.{lineCount, liveCount, nextSerial, putLineCount, putLiveCount, putNext};
+ghost use Rattle.store.specs.Layout.{rowFrom, lineCell, sizeAt, plainAt, putLine};
+ghost use Rattle.store.specs.Layout.{kindFrom, kindNumber, credentialAt, putCredential};
+
+// where the tables start
+const LINES: usize = 4;
+
+const CREDENTIALS: usize = 1404;
+
+pub fn line_count(store: &Store) -> u32
+    ensures { λ r. ⌜ r ≡ lineCount (now (store .entry)) ⌝ }
+{
+    store[0]
+}
+
+pub fn live_count(store: &Store) -> u32
+    ensures { λ r. ⌜ r ≡ liveCount (now (store .entry)) ⌝ }
+{
+    store[1]
+}
+
+pub fn next(store: &Store) -> u32
+    ensures { λ r. ⌜ r ≡ nextSerial (now (store .entry)) ⌝ }
+{
+    store[2]
+}
+
+pub fn put_line_count(store: &mut Store, n: u32)
+    ensures { λ _. ⌜ now (store .exit) ≡ putLineCount (now (store .entry)) n ⌝ }
+{
+    store[0] = n;
+}
+
+pub fn put_live_count(store: &mut Store, n: u32)
+    ensures { λ _. ⌜ now (store .exit) ≡ putLiveCount (now (store .entry)) n ⌝ }
+{
+    store[1] = n;
+}
+
+pub fn put_next(store: &mut Store, n: u32)
+    ensures { λ _. ⌜ now (store .exit) ≡ putNext (now (store .entry)) n ⌝ }
+{
+    store[2] = n;
+}
+
+pub fn line_row(store: &Store, i: u32) -> Row
+    requires { ⌜ i < 200 ⌝ }
+    ensures { λ r. ⌜ r ≡ rowFrom (lineCell (now (store .entry)) i) ⌝ }
+{
+    let at = LINES + (i as usize) * 7;
+    Row {
+        letter: store[at],
+        a: store[at + 1],
+        b: store[at + 2],
+        c: store[at + 3],
+        d: store[at + 4],
+    }
+}
+
+pub fn size(store: &Store, i: u32) -> u32
+    requires { ⌜ i < 200 ⌝ }
+    ensures { λ r. ⌜ r ≡ sizeAt (now (store .entry)) i ⌝ }
+{
+    store[LINES + (i as usize) * 7 + 5]
+}
+
+pub fn plain(store: &Store, i: u32) -> u32
+    requires { ⌜ i < 200 ⌝ }
+    ensures { λ r. ⌜ r ≡ plainAt (now (store .entry)) i ⌝ }
+{
+    store[LINES + (i as usize) * 7 + 6]
+}
+
+fn bit_of(b: bool) -> u32
+    ensures { λ r. ⌜ r ≡ bit b ⌝ }
+{
+    if b { 1 } else { 0 }
+}
+
+pub fn put_line(store: &mut Store, i: u32, row: Row, size: u32, plain: bool)
+    requires { ⌜ i < 200 ⌝ }
+    ensures { λ _. ⌜ now (store .exit) ≡ putLine (now (store .entry)) i row size plain ⌝ }
+{
+    let p = bit_of(plain);
+    let at = LINES + (i as usize) * 7;
+    store[at] = row.letter;
+    store[at + 1] = row.a;
+    store[at + 2] = row.b;
+    store[at + 3] = row.c;
+    store[at + 4] = row.d;
+    store[at + 5] = size;
+    store[at + 6] = p;
+}
+
+fn kind_from(n: u32) -> Kind
+    ensures { λ r. ⌜ r ≡ kindFrom n ⌝ }
+{
+    if n == 0 {
+        Kind::Linear
+    } else {
+        Kind::Unrestricted
+    }
+}
+
+fn kind_number(k: Kind) -> u32
+    ensures { λ r. ⌜ r ≡ kindNumber k ⌝ }
+{
+    match k {
+        Kind::Linear => 0,
+        Kind::Unrestricted => 1,
+    }
+}
+
+pub fn serial(store: &Store, i: u32) -> u32
+    requires { ⌜ i < 512 ⌝ }
+    ensures { λ r. ⌜ r ≡ credentialAt (now (store .entry)) i .serial ⌝ }
+{
+    store[CREDENTIALS + (i as usize) * 5]
+}
+
+pub fn credential(store: &Store, i: u32) -> Credential
+    requires { ⌜ i < 512 ⌝ }
+    ensures { λ r. ⌜ r ≡ credentialAt (now (store .entry)) i ⌝ }
+{
+    let at = CREDENTIALS + (i as usize) * 5;
+    let kind = kind_from(store[at + 1]);
+    Credential {
+        serial: store[at],
+        kind,
+        formula: store[at + 2],
+        interval: Interval {
+            from: store[at + 3],
+            to: store[at + 4],
+        },
+    }
+}
+
+pub fn put_credential(store: &mut Store, i: u32, c: Credential)
+    requires { ⌜ i < 512 ⌝ }
+    ensures { λ _. ⌜ now (store .exit) ≡ putCredential (now (store .entry)) i c ⌝ }
+{
+    let kind = c.kind;
+    let k = kind_number(kind);
+    let w = c.interval;
+    let at = CREDENTIALS + (i as usize) * 5;
+    store[at] = c.serial;
+    store[at + 1] = k;
+    store[at + 2] = c.formula;
+    store[at + 3] = w.from;
+    store[at + 4] = w.to;
+}
