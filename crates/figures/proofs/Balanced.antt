@@ -1,0 +1,1 @@
+-- Balanced by the sessions of the atom rows: those that do not stand in the formula change nothing.

@@ -1,0 +1,5 @@
+pub mod Letters
+pub mod Rows
+pub mod Limits
+pub mod Columns
+pub mod Balanced
