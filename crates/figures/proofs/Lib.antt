@@ -1,4 +1,3 @@
-pub mod Letters
 pub mod Rows
 pub mod Limits
 pub mod Columns

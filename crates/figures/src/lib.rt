@@ -1,1 +1,2 @@
 // What requests ask of formulas and credentials.
+mod parts;
