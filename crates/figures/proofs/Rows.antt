@@ -1,7 +1,7 @@
 -- The row functions give the values of the formula of a line, over the formulas T of the numbers that it names.
-use mathlib.Core.Path.{_≡_, refl, sym, ap}
+use mathlib.Core.Path.{_≡_, refl, sym}
 use mathlib.Core.Bool.{Bool, true, false, _&&_}
-use Prim.Native.Nat.{ℕ, _+_}
+use Prim.Native.Nat.{ℕ}
 use native.Mathlib.Omega.{arith}
 use Rattle.logic.specs.Formula.{Formula, size, count, plain}
 use Rattle.logic.specs.Counts.{up, down, even, all}

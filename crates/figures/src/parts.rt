@@ -1,6 +1,5 @@
 // A row by its letter: the numbers that it names, and whether it is the letter of a plain formula.
 use steps::Row;
-
 ghost use mathlib.Core.Path.{_≡_};
 ghost use Rattle.figures.specs.Rows.{among, plains, partsOf};
 ghost use Rattle.figures.specs.Parts.{numbers};

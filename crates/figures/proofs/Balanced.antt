@@ -1,1 +1,0 @@
--- Balanced by the sessions of the atom rows: those that do not stand in the formula change nothing.
