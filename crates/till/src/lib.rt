@@ -2,6 +2,7 @@
 use ledger::Answer;
 use logic::Interval;
 use request::Kind;
+use steps::Row;
 use store::Found;
 use store::Store;
 use tests::Verdict;
@@ -10,8 +11,8 @@ mod tests;
 
 ghost use mathlib.Core.Path.{_≡_};
 ghost use Rattle.request.specs.declared.Kind.the-variants.{Linear};
-ghost use Rattle.request.specs.Request.{issue as issueRequest, withdraw as withdrawRequest};
-ghost use Rattle.store.specs.Store.{Good};
+ghost use Rattle.request.specs.Request.{word as wordRequest, issue as issueRequest, withdraw as withdrawRequest};
+ghost use Rattle.store.specs.Store.{lineOf, Canonical, Good};
 ghost use Rattle.till.specs.Handled.{Handled, Issuable};
 
 // Issue of a formula that has passed the checks before 22: 22, 23.
@@ -50,6 +51,38 @@ fn issue_linear(till: &mut Store, formula: u32, interval: Interval) -> Answer
         return Answer::Refused(20, 0);
     };
     issue_fair(till, Kind::Linear, formula, interval)
+}
+
+// Word: 3, 10, 12, 13, 14.
+fn word(till: &mut Store, row: Row) -> Answer
+    requires { ⌜ Good (now till) × Canonical row ⌝ }
+    ensures { λ r. ⌜ Handled (now (till .entry)) (wordRequest (lineOf row)) r (now (till .exit)) ⌝ }
+{
+    let ordered = tests::line_ordered(row);
+    let Verdict::Passed = ordered else {
+        return Answer::Refused(3, 0);
+    };
+    let present = tests::names_present(till, row);
+    let Verdict::Passed = present else {
+        return Answer::Refused(10, 0);
+    };
+    let size = figures::row_size(till, row);
+    let small = tests::tested(64 < size);
+    let Verdict::Passed = small else {
+        return Answer::Refused(12, 0);
+    };
+    let new = tests::tested(store::has_row(till, row));
+    let Verdict::Passed = new else {
+        return Answer::Refused(13, 0);
+    };
+    let free = tests::tested(200 <= store::formula_count(till));
+    let Verdict::Passed = free else {
+        return Answer::Refused(14, 0);
+    };
+    let plain = figures::row_plain(till, row);
+    let number = store::formula_count(till);
+    store::add_row(till, row, size, plain);
+    Answer::Accepted(number)
 }
 
 // Withdraw: 24.

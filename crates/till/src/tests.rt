@@ -8,10 +8,11 @@ ghost use Prim.Native.Nat.{_<_};
 ghost use lib.ListN.{length};
 ghost use Rattle.logic.specs.Interval.{reversed};
 ghost use Rattle.logic.specs.Formula.{plain};
+ghost use Rattle.ledger.specs.Table.{names};
 ghost use Rattle.ledger.specs.Ledger.{formula};
 ghost use Rattle.request.specs.Request.{lineIntervals};
 ghost use Rattle.ledger.specs.Checks.{any, missing, noRoom, usedUp};
-ghost use Rattle.store.specs.Store.{lineOf, ledgerOf, Good};
+ghost use Rattle.store.specs.Store.{lineOf, ledgerOf, Canonical, Good};
 ghost use Rattle.till.specs.Handled.{fails};
 
 pub enum Verdict {
@@ -54,6 +55,14 @@ pub fn present(till: &Store, n: u32) -> Verdict
     ensures { λ r. ⌜ fails r ≡ missing (ledgerOf (now (till .entry))) n ⌝ }
 {
     tested(store::formula_count(till) <= n)
+}
+
+// 10: a formula that a line names is not there.
+pub fn names_present(till: &Store, row: Row) -> Verdict
+    requires { ⌜ Canonical row ⌝ }
+    ensures { λ r. ⌜ fails r ≡ any (missing (ledgerOf (now (till .entry)))) (names (lineOf row)) ⌝ }
+{
+    tested(!figures::names_there(till, row))
 }
 
 // 20: the formula is not plain.

@@ -1,0 +1,4 @@
+pub mod Rows
+pub mod Column
+pub mod Parts
+pub mod Figures
