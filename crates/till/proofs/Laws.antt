@@ -220,3 +220,7 @@ others-ordered x h g =
     let is : Char → Bool = λ c. eqb (x .letter) (code c) in
     rw (ne-eqb (x .letter) (code "h") h, ne-eqb (x .letter) (code "g") g, lineOf)
     (without-interval x (is "a") (is "t") (is "w") (is "p") (is "l") (is "u") (is "b") (is "s"))
+
+pub not-not : (b : Bool) → not (not b) ≡ b
+not-not true = refl
+not-not false = refl

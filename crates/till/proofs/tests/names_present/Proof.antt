@@ -1,0 +1,14 @@
+use mathlib.Core.Path.{ap, _∙_}
+use mathlib.Core.Bool.{not}
+use borrow.Author.Needs.{needs}
+use Rattle.till.proofs.Laws.{not-not}
+use Rattle.till.proofs.tests.names_present.Statement.{statement}
+use Rattle.till.proofs.tests.names_present.Tie as tie
+
+pub names-present-spec : {M : Type 1} → statement M
+names-present-spec =
+    tie.close
+    (tie.spec
+    (λ c κs. search needs)
+    (λ c κs. search needs)
+    (λ c. c .tested .ensures ∙ ap not (c .before .names-there .ensures) ∙ not-not _))
