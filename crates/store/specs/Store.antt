@@ -1,4 +1,5 @@
--- The ledger (document 01: the till) that a store's numbers stand for, and what holds of every store that the functions leave.
+-- The ledger (document 01: the till) that a store's numbers stand for, and what holds of every store that the functions
+-- leave.
 use mathlib.Core.Path.{_≡_}
 use mathlib.Core.List.{List}
 use mathlib.Core.Bool.{Bool}
