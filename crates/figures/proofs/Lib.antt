@@ -2,3 +2,5 @@ pub mod Rows
 pub mod Named
 pub mod Limits
 pub mod Columns
+pub mod Counting
+pub mod Tallies

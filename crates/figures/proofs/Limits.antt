@@ -1,11 +1,17 @@
--- No count and no weight is over the size.
+-- No count and no weight is over the size, and a sum over parts is small.
 use mathlib.Core.Bool.{Bool, true, false, _&&_, _||_}
+use mathlib.Core.List.{List}
 use Prim.Native.Nat.{ℕ, _+_, _≤_}
 use native.Mathlib.Omega.{arith}
 use lib.Dec.{eqb}
 use Rattle.logic.specs.Formula.{Formula, atom, one, tensor, with, plus, lolli, implies, bang, at, says, superset}
 use Rattle.logic.specs.Formula.{size, count, bit}
 use Rattle.logic.specs.Counts.{up, down}
+use Rattle.logic.specs.Multiset.{sum}
+use Rattle.figures.specs.declared.parts.Parts.{Parts}
+use Rattle.figures.specs.declared.parts.Parts.the-variants.{Nothing, One, Two}
+use Rattle.figures.specs.Parts.{numbers}
+use Rattle.figures.specs.Column.{entry, Small}
 
 pub bit-le : (b : Bool) → bit b ≤ 1
 bit-le true = omega arith
@@ -38,3 +44,9 @@ weight-le s (bang a) = omega (arith, weight-le s a)
 weight-le s (at a i) = omega (arith, weight-le s a)
 weight-le s (says k a) = omega (arith, weight-le s a)
 weight-le s (superset i j) = omega arith
+
+pub parts-small : (xs : List ℕ) → Small xs → (p : Parts) → sum (entry xs) (numbers p) ≤ 128
+unfolding sum
+parts-small xs h Nothing = omega arith
+parts-small xs h (One i) = omega (arith, h .small i)
+parts-small xs h (Two i j) = omega (arith, h .small i, h .small j)

@@ -17,7 +17,10 @@ pub record Column {A : Type 0} (t : Ledger) (value : Formula → A) (d : A) (i :
   pub long : length xs ≡ maxFormulas
   pub holds : (k : ℕ) → getD xs k d ≡ value (early t i k)
 
+abbrev pub entry : List ℕ → ℕ → ℕ
+entry xs k = getD xs k 0
+
 -- room for every formula, and no entry above what a formula can have
 pub record Small (xs : List ℕ) : Type 0 where
   pub long : length xs ≡ maxFormulas
-  pub small : (k : ℕ) → getD xs k 0 ≤ maxSize
+  pub small : (k : ℕ) → entry xs k ≤ maxSize

@@ -1,18 +1,33 @@
 // What the checks of a request ask of formulas and credentials, in numbers: sizes, plain, balanced, and the tally's sums.
+use column::Column;
+use logic::Interval;
 use parts::Parts;
+use request::Kind;
 use steps::Row;
 use store::Store;
 
+mod column;
 mod parts;
 
 ghost use mathlib.Core.Path.{_≡_};
 ghost use mathlib.Core.Bool.{not};
+ghost use lib.ListN.{length};
+ghost use Rattle.logic.specs.Interval.{has};
 ghost use Rattle.logic.specs.Formula.{size, plain};
 ghost use Rattle.ledger.specs.Table.{form, names};
-ghost use Rattle.ledger.specs.Ledger.{formula};
+ghost use Rattle.ledger.specs.Ledger.{formula, byKind};
 ghost use Rattle.ledger.specs.Checks.{any, missing};
-ghost use Rattle.store.specs.Store.{lineOf, ledgerOf, Canonical};
-ghost use Rattle.figures.specs.Figures.{Formable};
+ghost use Rattle.ledger.specs.Calls.{only};
+ghost use Rattle.store.specs.Store.{lineOf, ledgerOf, Canonical, Good};
+ghost use Rattle.figures.specs.Figures.{Formable, Blank, Counted, Tallied};
+
+// The sums of a tally: "open = seats of the session in coupons whose window has the minute, shut = the other seats,
+// placed = places", over the live linear credentials.
+pub struct Figures {
+    pub open: u32,
+    pub shut: u32,
+    pub placed: u32,
+}
 
 // Whether the ledger has every formula that the row names.
 pub fn names_there(store: &Store, row: Row) -> bool
@@ -52,4 +67,67 @@ pub fn row_plain(store: &Store, row: Row) -> bool
         Parts::One(i) => store::plain_at(store, i),
         Parts::Two(i, j) => store::plain_at(store, i) && store::plain_at(store, j),
     }
+}
+
+// The seats and the places of a session in every formula, row by row.
+fn count_rows(store: &Store, session: u32, seats: &mut Column, places: &mut Column)
+    requires { ⌜ Good (now store) × (Blank (now seats) × Blank (now places)) ⌝ }
+    ensures { λ _. ⌜ Counted (now (store .entry)) session (length (ledgerOf (now (store .entry)) .lines)) (now (seats .exit)) (now (places .exit)) ⌝ }
+{
+    let n = store::formula_count(store);
+    let mut i = 0;
+    while i < n {
+        let row = store::row_at(store, i);
+        let s = column::count_row(row, 1, session, seats);
+        let p = column::count_row(row, 2, session, places);
+        seats[i as usize] = s;
+        places[i as usize] = p;
+        i += 1;
+    }
+}
+
+fn when_linear(kind: Kind, n: u32) -> u32
+    ensures { λ r. ⌜ r ≡ byKind kind n 0 ⌝ }
+{
+    match kind {
+        Kind::Linear => n,
+        Kind::Unrestricted => 0,
+    }
+}
+
+fn when_has(interval: Interval, minute: u32, n: u32) -> u32
+    ensures { λ r. ⌜ r ≡ only (has interval minute) n ⌝ }
+{
+    if interval.from <= minute {
+        if minute <= interval.to {
+            return n;
+        }
+    }
+    0
+}
+
+// The tally of a session at a minute.
+pub fn tally(store: &Store, session: u32, minute: u32) -> Figures
+    requires { ⌜ Good (now store) ⌝ }
+    ensures { λ r. ⌜ Tallied (now (store .entry)) session minute r ⌝ }
+{
+    let mut seats = [0u32; 200];
+    let mut places = [0u32; 200];
+    count_rows(store, session, &mut seats, &mut places);
+    let n = store::live_count(store);
+    let mut open = 0;
+    let mut shut = 0;
+    let mut placed = 0;
+    let mut i = 0;
+    while i < n {
+        let c = store::credential_at(store, i);
+        let kind = c.kind;
+        let held = when_linear(kind, column::at(&seats, c.formula));
+        let inside = when_has(c.interval, minute, held);
+        open += inside;
+        shut += held - inside;
+        placed += when_linear(kind, column::at(&places, c.formula));
+        i += 1;
+    }
+    Figures { open, shut, placed }
 }

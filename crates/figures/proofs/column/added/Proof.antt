@@ -1,0 +1,37 @@
+-- `added` meets its contract.
+use native.Mathlib.Omega.{arith}
+use borrow.Author.Needs.{needs}
+use Rattle.logic.specs.Multiset.{sum}
+use Rattle.figures.proofs.column.added.Statement.{statement}
+use Rattle.figures.proofs.column.added.Tie as tie
+
+add-result : tie.Need-add-result
+add-result c =
+    let p = c .before .before .before .parts2 .given .0 in
+    let s = c .before .before .before .before .before .pre in
+    omega (arith, c .at3 .ensures, c .before .at2 .ensures, s .small (p .0), s .small (p .1 .0))
+
+returns-2 : tie.Need-returns-2
+unfolding sum
+returns-2 c = rw (c .before .before .parts .given .1) (omega (arith, c .at .ensures))
+
+returns-3 : tie.Need-returns-3
+unfolding sum
+returns-3 c =
+    rw (c .before .before .before .parts2 .given .1) (omega (arith, c .at3 .ensures, c .before .at2 .ensures))
+
+pub added-spec : {M : Type 1} → statement M
+unfolding sum
+added-spec =
+    tie.close
+    (tie.spec
+    (λ c. search needs)
+    (λ c. search needs)
+    (λ c κs. search needs)
+    (λ c. search needs)
+    (λ c κs. search needs)
+    (λ c κs. search needs)
+    add-result
+    (λ c. search needs)
+    returns-2
+    returns-3)

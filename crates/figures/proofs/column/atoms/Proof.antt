@@ -1,0 +1,23 @@
+-- `atoms` meets its contract.
+use borrow.Author.Tests.{eq-eqb, ne-eqb}
+use Rattle.figures.proofs.column.atoms.Statement.{statement}
+use Rattle.figures.proofs.column.atoms.Tie as tie
+
+returns : tie.Need-returns
+returns c =
+    let b = c .before .before in
+    simp (eq-eqb _ _ (b .before .before .if1 .taken), eq-eqb _ _ (b .if2 .taken), eq-eqb _ _ (c .if3 .taken))
+
+returns-2 : tie.Need-returns-2
+returns-2 c =
+    let b = c .before .before in
+    simp (eq-eqb _ _ (b .before .before .if1 .taken), eq-eqb _ _ (b .if2 .taken), ne-eqb _ _ (c .if3 .left))
+
+returns-3 : tie.Need-returns-3
+returns-3 c = simp (eq-eqb _ _ (c .before .before .if1 .taken), ne-eqb _ _ (c .if2 .left))
+
+returns-4 : tie.Need-returns-4
+returns-4 c = simp (ne-eqb _ _ (c .if1 .left))
+
+pub atoms-spec : {M : Type 1} → statement M
+atoms-spec = tie.close (tie.spec returns returns-2 returns-3 returns-4)
