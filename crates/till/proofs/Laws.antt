@@ -16,14 +16,14 @@ use Rattle.logic.specs.Counts.{balanced}
 use Rattle.request.specs.declared.Kind.{Kind}
 use Rattle.request.specs.declared.Kind.the-variants.{Linear, Unrestricted}
 use Rattle.request.specs.Range.{serial}
-use Rattle.request.specs.Request.{Line, Request, word, issue, withdraw, lineIntervals, intervals}
+use Rattle.request.specs.Request.{Line, Request, word, issue, withdraw, tally, lineIntervals, intervals}
 use Rattle.steps.specs.declared.Row.{Row}
 use Rattle.ledger.specs.declared.Credential.{Credential}
 use Rattle.ledger.specs.declared.Answer.{Answer}
 use Rattle.ledger.specs.declared.Answer.the-variants.{Accepted, Counted, Refused}
 use Rattle.ledger.specs.Ledger.{Ledger, formula, find, withoutSerial, isNone}
 use Rattle.ledger.specs.Checks.{_if_, any, maxLive, missing, noRoom, usedUp, checks, readChecks}
-use Rattle.ledger.specs.Calls.{Reply, withLive, withCredential, accept, handle}
+use Rattle.ledger.specs.Calls.{Reply, openSeats, shutSeats, withLive, withCredential, accept, handle}
 use Rattle.ledger.specs.Statements.{Pass, FirstFails}
 use Rattle.ledger.proofs.Credentials.{take-out}
 use Rattle.ledger.proofs.Firsts.{if-false, if-true, skip, hit, handle-fails, handle-passes}
@@ -32,6 +32,8 @@ use Rattle.store.specs.declared.Found.the-variants.{At, Nothing}
 use Rattle.store.specs.Layout.{credentialAt}
 use Rattle.store.specs.Store.{lineOf, ledgerOf, Good, StandsFor, Givable, Finds}
 use Rattle.store.specs.Tab.{pick}
+use Rattle.figures.specs.declared.Figures.{Figures}
+use Rattle.figures.specs.Figures.{Tallied}
 use Rattle.till.specs.declared.tests.Verdict.{Verdict}
 use Rattle.till.specs.Handled.{Handled, fails, unfair, Issuable}
 
@@ -82,6 +84,18 @@ withdraw-done l l′ n i c f s =
     accepted l l′ (withdraw n) (Accepted n)
     (if-false 3 false refl, (if-false 24 _ (sym (ap isNone (f .found))), tt)) refl tt
     (subst (λ (k : ℕ). StandsFor l′ (withLive t (withoutSerial (t .live) k))) m s)
+
+-- Tally
+
+pub tally-done : (l : List ℕ) (s m : ℕ) (f : Figures) → Good l → Tallied l s m f
+    → Handled l (tally s m) (Counted (f .«open») (f .shut) (f .placed)) l
+unfolding checks intervals any accept
+tally-done l s m f g e =
+    accepted l l (tally s m) _ (if-false 3 false refl, tt)
+    (ap (λ (o : ℕ). Counted o (f .shut) (f .placed)) (e .«open»)
+    ∙ ap (λ (k : ℕ). Counted (openSeats (ledgerOf l) s m) k (f .placed)) (e .shut)
+    ∙ ap (Counted (openSeats (ledgerOf l) s m) (shutSeats (ledgerOf l) s m)) (e .placed))
+    tt (record { good = g; ledger = refl })
 
 -- Issue
 

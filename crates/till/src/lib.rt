@@ -12,6 +12,7 @@ mod tests;
 ghost use mathlib.Core.Path.{_≡_};
 ghost use Rattle.request.specs.declared.Kind.the-variants.{Linear};
 ghost use Rattle.request.specs.Request.{word as wordRequest, issue as issueRequest, withdraw as withdrawRequest};
+ghost use Rattle.request.specs.Request.{tally as tallyRequest};
 ghost use Rattle.store.specs.Store.{lineOf, Canonical, Good};
 ghost use Rattle.till.specs.Handled.{Handled, Issuable};
 
@@ -96,4 +97,13 @@ pub fn withdraw(till: &mut Store, serial: u32) -> Answer
     };
     store::remove(till, at);
     Answer::Accepted(serial)
+}
+
+// Tally: no check after 3 fails, and a tally has no interval.
+pub fn tally(till: &Store, session: u32, minute: u32) -> Answer
+    requires { ⌜ Good (now till) ⌝ }
+    ensures { λ r. ⌜ Handled (now (till .entry)) (tallyRequest session minute) r (now (till .entry)) ⌝ }
+{
+    let f = figures::tally(till, session, minute);
+    Answer::Counted(f.open, f.shut, f.placed)
 }
