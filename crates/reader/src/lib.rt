@@ -1,0 +1,26 @@
+// The reader of requests (document 01: sheets): from bytes to fields and rows, in one pass, by positions. This file has
+// the types of its answers; numbers.rt reads fields, lines.rt lines, first.rt a request's first line, parts.rt the
+// lines after a booking's head.
+mod numbers;
+
+use logic::Interval;
+use request::Kind;
+use steps::Row;
+
+// A number of a range and the position after the byte that ends it.
+pub enum Decimal {
+    Number(u32, u32),
+    Broken,
+}
+
+// A set of labels (document 01: a share) and the position after the byte that ends it.
+pub enum Labels {
+    Set(u64, u32),
+    Broken,
+}
+
+// The position after a text that stands at a position.
+pub enum Prefix {
+    Past(u32),
+    Absent,
+}
