@@ -36,7 +36,8 @@ module _ {A : Type 0} (stop : ℕ) where
   unfolding fieldTo
   field-same h b = then-same (cut b) (λ p. rw (h (p .0)))
 
-  pub field-bad : {read : List ℕ → Option A} → ((t : List ℕ) → read t ≡ none) → (b : List ℕ) → fieldTo stop read b ≡ none
+  pub field-bad : {read : List ℕ → Option A} → ((t : List ℕ) → read t ≡ none)
+      → (b : List ℕ) → fieldTo stop read b ≡ none
   unfolding fieldTo andThen
   field-bad h b = then-none (cut b) (λ p. rw (h (p .0), andThen) (go (eqb (p .1) stop)))
     where

@@ -4,3 +4,8 @@ pub mod Fields
 pub mod Decimals
 pub mod Sets
 pub mod Words
+pub mod Split
+pub mod Cut
+pub mod Shapes
+pub mod Tables
+pub mod Letters

@@ -41,7 +41,13 @@ hex-between x h k = record {
 pub hex-letter : (x : ℕ) → 97 ≤ x → x < 103 → DigitIs hexDigit 16 x (x - 87)
 unfolding hexDigit
 hex-letter x h k = record {
-  is = λ l. rw (le-leb 48 x (omega arith), lt-leb x 57 (omega arith), le-leb 97 x h, le-leb x 102 (omega arith), hexDigit);
+  is = λ l. rw (
+    le-leb 48 x (omega arith),
+    lt-leb x 57 (omega arith),
+    le-leb 97 x h,
+    le-leb x 102 (omega arith),
+    hexDigit,
+  );
   no = λ l. absurd (omega arith);
 }
 
@@ -49,8 +55,13 @@ pub hex-high : (x : ℕ) → 103 ≤ x → DigitIs hexDigit 16 x 16
 unfolding hexDigit
 hex-high x h = record {
   is = λ l. absurd (omega arith);
-  no = λ l. rw (le-leb 48 x (omega arith), lt-leb x 57 (omega arith), le-leb 97 x (omega arith), lt-leb x 102 (omega arith),
-      hexDigit);
+  no = λ l. rw (
+    le-leb 48 x (omega arith),
+    lt-leb x 57 (omega arith),
+    le-leb 97 x (omega arith),
+    lt-leb x 102 (omega arith),
+    hexDigit,
+  );
 }
 
 -- Texts
@@ -98,7 +109,8 @@ module _ (stop : ℕ) where
   unfolding hexDigit
   hex-on k v x d xs e = field-on stop (setIn k v) x xs (digit-inside hexDigit refl refl x d e) (set-on x d e k v)
 
-  pub set-stop : Stop stop → (k v x : ℕ) (xs : List ℕ) → k ≡ 16 → x ≡ stop → fieldTo stop (setIn k v) (x ∷ xs) ≡ some (v, xs)
+  pub set-stop : Stop stop → (k v x : ℕ) (xs : List ℕ) → k ≡ 16 → x ≡ stop
+      → fieldTo stop (setIn k v) (x ∷ xs) ≡ some (v, xs)
   unfolding setIn reads andThen
   set-stop h k v x xs q e = rw q (field-stop stop (setIn 16 v) x xs h e)
 

@@ -1,6 +1,7 @@
 // The reader of requests (document 01: sheets): from bytes to fields and rows, in one pass, by positions. This file has
 // the types of its answers; numbers.rt reads fields, lines.rt lines, first.rt a request's first line, parts.rt the
 // lines after a booking's head.
+mod formulas;
 mod numbers;
 
 use logic::Interval;
@@ -23,4 +24,16 @@ pub enum Labels {
 pub enum Prefix {
     Past(u32),
     Absent,
+}
+
+// An interval (document 01: a window) and the position after the byte that ends it.
+pub enum Span {
+    Minutes(Interval, u32),
+    Broken,
+}
+
+// A formula line (document 01: a wording line) as a row, and the position after its line end.
+pub enum FormulaLine {
+    Formula(Row, u32),
+    Broken,
 }

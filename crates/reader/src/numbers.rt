@@ -26,7 +26,8 @@ fn digit(b: u8) -> u32
 // The digits from `from` on, after those of the value `start`.
 fn more_digits(s: &[u8], from: usize, start: u32, first: u32, last: u32, stop: u8) -> Decimal
     requires { ⌜ NumberAsked (now s) last stop × (start ≤ last) ⌝ }
-    ensures { λ r. ⌜ decimalOf (now (s .entry)) r ≡ fieldTo stop (moreIn (first ‥ last) start) (drop from (now (s .entry))) ⌝ }
+    ensures { λ r. ⌜ decimalOf (now (s .entry)) r
+        ≡ fieldTo stop (moreIn (first ‥ last) start) (drop from (now (s .entry))) ⌝ }
 {
     let mut i = from;
     let mut v = start;
@@ -57,7 +58,8 @@ fn more_digits(s: &[u8], from: usize, start: u32, first: u32, last: u32, stop: u
 // A decimal number from `first` to `last`, without leading zeros, which the byte `stop` ends.
 pub fn number(s: &[u8], at: u32, first: u32, last: u32, stop: u8) -> Decimal
     requires { ⌜ NumberAsked (now s) last stop ⌝ }
-    ensures { λ r. ⌜ decimalOf (now (s .entry)) r ≡ fieldTo stop (numberIn (first ‥ last)) (drop at (now (s .entry))) ⌝ }
+    ensures { λ r. ⌜ decimalOf (now (s .entry)) r
+        ≡ fieldTo stop (numberIn (first ‥ last)) (drop at (now (s .entry))) ⌝ }
 {
     let i = at as usize;
     if s.len() <= i {

@@ -42,16 +42,21 @@ label-set-spec =
     (λ c κs. search needs)
     (λ c. let t = c .before .before .before .before in
     sym (t .before .loop .inv .1 .1 ∙ rw (here _ _ (c .before .before .before .if1 .left))
-    (hex-no _ (t .before .before .before .pre .1) _ _ (t .loop-test .taken) _ _ (c .before .hex .ensures .no (c .if2 .taken)))))
+    (hex-no _ (t .before .before .before .pre .1) _ _ (t .loop-test .taken) _ _
+    (c .before .hex .ensures .no (c .if2 .taken)))))
     (λ c. omega (arith, fits c))
     (λ c. omega (arith, fits c))
     (λ c. search needs)
     (λ c. search needs)
     (λ c. search needs)
-    (λ c. let t = c .before .before .before .before in
-    (search needs, (hex-below _ _ _ (t .before .loop .inv .1 .0) (omega (arith, c .if2 .left)),
-    t .before .loop .inv .1 .1 ∙ rw (here _ _ (c .before .before .before .if1 .left))
-    (hex-on _ _ _ _ _ _ (c .before .hex .ensures .is (omega (arith, c .if2 .left)))))))
+    (λ c. let t = c .before .before .before .before in (
+      search needs,
+      (
+        hex-below _ _ _ (t .before .loop .inv .1 .0) (omega (arith, c .if2 .left)),
+        t .before .loop .inv .1 .1 ∙ rw (here _ _ (c .before .before .before .if1 .left))
+            (hex-on _ _ _ _ _ _ (c .before .hex .ensures .is (omega (arith, c .if2 .left)))),
+      ),
+    ))
     (λ c. sym (c .before .before .loop .inv .1 .1 ∙ rw (past _ _ (c .if3 .taken)) (field-end _ _)))
     (λ c. search needs)
     (λ c. sym (c .before .before .before .before .loop .inv .1 .1 ∙ rw (here _ _ (c .before .before .if3 .left))

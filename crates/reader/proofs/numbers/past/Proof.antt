@@ -32,8 +32,10 @@ past-spec =
     (λ c. search needs)
     (λ c. search needs)
     (λ c. search needs)
-    (λ c. let t = c .before .before .before in
-    (search needs, t .before .before .loop .inv .1
-    ∙ rw (here _ _ (t .before .loop-test .taken), here _ _ (t .if1 .left)) (strip-on _ _ _ _ (c .if2 .left))))
+    (λ c. let t = c .before .before .before in (
+      search needs,
+      t .before .before .loop .inv .1
+          ∙ rw (here _ _ (t .before .loop-test .taken), here _ _ (t .if1 .left)) (strip-on _ _ _ _ (c .if2 .left)),
+    ))
     (λ c. search needs)
     (λ c. sym (c .before .loop .inv .1 ∙ rw (past _ _ (c .loop-test .left)) (strip-done _))))
