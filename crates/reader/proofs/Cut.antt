@@ -7,7 +7,7 @@ use Prim.Native.Nat.{ℕ}
 use lib.Dec.{eqb}
 use borrow.Author.Tests.{eqb-true}
 use Rattle.request.specs.Text.{andThen, push, fields}
-use Rattle.request.specs.Reader.{Reader, return, ended, whole}
+use Rattle.request.specs.Reader.{Reader, return, _>>=_, ended, whole}
 use Rattle.request.proofs.Gives.{Gives, nothing, just, gives-then}
 use Rattle.reader.specs.Field.{pick, ends, Stop, cut}
 use Rattle.reader.specs.Line.{split, readLine}
@@ -41,7 +41,8 @@ texts-on : (x : ℕ) (xs : List ℕ) → eqb x 44 ≡ false → eqb x 10 ≡ fal
 unfolding texts split fields andThen
 texts-on x xs e f =
     rw (split, f) (then-then (split xs) _ _
-    ∙ then-same (split xs) {g = λ p. pushed x (fields (p .0), p .1)} (λ p. rw (e, fields)) ∙ sym (then-then (split xs) _ _))
+    ∙ then-same (split xs) {g = λ p. pushed x (fields (p .0), p .1)} (λ p. rw (e, fields))
+    ∙ sym (then-then (split xs) _ _))
 
 pushed-taken : (x : ℕ) (p : Cut) → andThen (taken p) (pushed x) ≡ taken (x ∷ p .0, p .1, p .2)
 unfolding andThen push
@@ -102,6 +103,23 @@ module _ {A : Type 0} where
   pub line-return : (a : A) (b : List ℕ) → readLine (return a) b ≡ none
   unfolding return ended whole andThen
   line-return a b = line-cut (return a) b ∙ then-none (cut b) (λ p. stop-none _ (λ ts. refl) (p .1) (p .2))
+
+-- a value made of what was read
+pub line-map : {A B : Type 0} (r : Reader A) (f : A → B) (b : List ℕ)
+    → readLine (r >>= (λ a. return (f a))) b ≡ andThen (readLine r b) (λ x. some (f (x .0), x .1))
+unfolding readLine whole _>>=_ return ended andThen
+line-map {A} {B} r f b =
+    then-same (split b) (λ p. rw (made (fields (p .0))) (then-then (whole r (fields (p .0))) _ _
+    ∙ sym (then-then (whole r (fields (p .0))) _ _)))
+    ∙ sym (then-then (split b) _ _)
+  where
+    done : (a : A) (us : List (List ℕ)) → ended (f a) us ≡ andThen (ended a us) (λ a. some (f a))
+    done a [] = refl
+    done a (u ∷ us) = refl
+
+    made : (ts : List (List ℕ)) → whole (r >>= (λ a. return (f a))) ts ≡ andThen (whole r ts) (λ a. some (f a))
+    made ts =
+        then-then (r ts) _ _ ∙ then-same (r ts) (λ x. done (x .0) (x .1)) ∙ sym (then-then (r ts) _ _)
 
 -- the byte that ends a field
 pub gives-pick : {A : Type 0} {P : A → Type 0} (b : Bool) {x y : Option A}

@@ -54,12 +54,14 @@ module _ (letter : ℕ) where
   numbers-row m n make h b = two-row (number-shape (0 ‥ m)) (number-shape (0 ‥ n)) make h b
 
   pub at-row : letter ≡ 104 → (b : List ℕ)
-      → rowed (readLine (number formulaNumber >>= (λ i. interval >>= (λ w. return (Line.at i w)))) b) ≡ atFields letter b
+      → rowed (readLine (number formulaNumber >>= (λ i. interval >>= (λ w. return (Line.at i w)))) b)
+      ≡ atFields letter b
   unfolding atFields
   at-row h b = rw h (two-row (number-shape formulaNumber) interval-shape Line.at (λ i w. refl) b)
 
   pub superset-row : letter ≡ 103 → (b : List ℕ)
-      → rowed (readLine (interval >>= (λ v. interval >>= (λ w. return (Line.superset v w)))) b) ≡ supersetFields letter b
+      → rowed (readLine (interval >>= (λ v. interval >>= (λ w. return (Line.superset v w)))) b)
+      ≡ supersetFields letter b
   unfolding supersetFields
   superset-row h b = rw h (two-row interval-shape interval-shape Line.superset (λ v w. refl) b)
 

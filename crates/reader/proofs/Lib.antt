@@ -9,3 +9,4 @@ pub mod Cut
 pub mod Shapes
 pub mod Tables
 pub mod Letters
+pub mod Heads

@@ -6,11 +6,11 @@ use mathlib.Core.Bool.{true, false}
 use Prim.Native.Nat.{ℕ}
 use lib.Dec.{eqb}
 use Rattle.request.specs.Text.{andThen, fields, lines, pushLine}
-use Rattle.request.specs.Reader.{Reader, _>>=_, next, ended, whole, line}
+use Rattle.request.specs.Reader.{Reader, return, _>>=_, next, ended, whole, line}
 use Rattle.request.specs.Read.{firstLine, rest, requestLines, requestOf}
 use Rattle.reader.specs.Field.{pick}
 use Rattle.reader.specs.Line.{split, readLine, requestFrom}
-use Rattle.reader.proofs.Then.{then-then, then-same, then-swap, by-test}
+use Rattle.reader.proofs.Then.{then-then, then-same, then-none, then-swap, by-test}
 
 -- the first of the lines
 abbrev firstOf : List ℕ × List ℕ → Option (List (List ℕ))
@@ -42,7 +42,8 @@ module _ {A B : Type 0} (r : Reader A) (k : A → Reader B) where
 
   -- a line, and what the bytes after it say
   pub lines-then : (b : List ℕ)
-      → andThen (lines b) (whole (line r >>= k)) ≡ andThen (readLine r b) (λ p. andThen (lines (p .1)) (whole (k (p .0))))
+      → andThen (lines b) (whole (line r >>= k))
+      ≡ andThen (readLine r b) (λ p. andThen (lines (p .1)) (whole (k (p .0))))
   unfolding readLine lines split line next _>>=_ whole andThen
   lines-then [] = refl
   lines-then (x ∷ xs) =
@@ -52,6 +53,13 @@ module _ {A B : Type 0} (r : Reader A) (k : A → Reader B) where
       ∙ then-swap (lines (p .1)) (whole r (fields (p .0))) (λ ls a. whole (k a) ls)
       ∙ sym (then-then (whole r (fields (p .0))) _ _))
       ∙ sym (then-then (split (x ∷ xs)) _ _))
+
+-- lines where none is wanted
+pub lines-several : {A : Type 0} (r : A) (x : ℕ) (xs : List ℕ) → andThen (lines (x ∷ xs)) (whole (return r)) ≡ none
+unfolding whole return ended andThen
+lines-several r x xs =
+    rw (lines-first x xs) (then-then (split (x ∷ xs)) firstOf _
+    ∙ then-none (split (x ∷ xs)) (λ p. then-then (lines (p .1)) _ _ ∙ then-none (lines (p .1)) (λ ls. refl)))
 
 pub request-first : (b : List ℕ) → requestOf b ≡ requestFrom (readLine firstLine b)
 unfolding requestOf requestLines requestFrom

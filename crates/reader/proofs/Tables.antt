@@ -69,7 +69,7 @@ unless (some a) f b = f a
 abbrev alone : {A : Type 0} → Reader A → List ℕ → Option (A × List ℕ)
 alone r b = andThen (whole r []) (λ a. some (a, b))
 
-abbrev then-comma : String → List ℕ
+abbrev pub then-comma : String → List ℕ
 then-comma w = bytes w ++ (44 ∷ [])
 
 abbrev then-end : String → List ℕ
@@ -82,7 +82,7 @@ chosen (e ∷ es) b = unless (strip (then-comma (e .0)) b) (readLine (e .1))
     (unless (strip (then-end (e .0)) b) (alone (e .1)) (chosen es b))
 
 -- no word of the table has a byte that ends a field
-abbrev plain : {A : Type 0} → Table A → Bool
+abbrev pub plain : {A : Type 0} → Table A → Bool
 plain [] = true
 plain (e ∷ es) = pick (inside (bytes (e .0))) (plain es) false
 
@@ -158,7 +158,8 @@ no-word table b h k = choose-chosen b table h ∙ go table k
     go : {A : Type 0} (table : Table A)
         → Every (λ e. (strip (then-comma (e .0)) b ≡ none) × (e .1 [] ≡ none)) table → chosen table b ≡ none
     go [] k = refl
-    go (e ∷ es) k = rw (k .0 .0, chosen) (other (strip (then-end (e .0)) b) (e .1) (chosen es b) (k .0 .1) (go es (k .1)))
+    go (e ∷ es) k =
+        rw (k .0 .0, chosen) (other (strip (then-end (e .0)) b) (e .1) (chosen es b) (k .0 .1) (go es (k .1)))
 
 -- Words of one length
 
@@ -194,7 +195,8 @@ strip-short : (w b : List ℕ) → length b < length w → strip w b ≡ none
 unfolding strip
 strip-short [] b h = absurd (omega arith)
 strip-short (x ∷ w) [] h = refl
-strip-short (x ∷ w) (y ∷ b) h = by-test (eqb y x) (λ q. rw (q, strip) (strip-short w b (omega arith))) (λ q. rw (q, strip))
+strip-short (x ∷ w) (y ∷ b) h =
+    by-test (eqb y x) (λ q. rw (q, strip) (strip-short w b (omega arith))) (λ q. rw (q, strip))
 
 module _ {A : Type 0} (n : ℕ) where
   chosen-sized : (table : Table A) → sized n table ≡ true → (p : List ℕ) (e : ℕ) (t : List ℕ) → length p ≡ n
@@ -249,7 +251,8 @@ module _ {A : Type 0} (t : List ℕ) where
   unfolding choose named
   no-field [] h = refl
   no-field (e ∷ es) h = by-test (sameBytes t (bytes (e .0)))
-      (λ b. rw (b, named) (⊎-elim (λ q. no-truth (sym q ∙ b)) (λ q. q) (h .0))) (λ b. rw (b, named) (no-field es (h .1)))
+      (λ b. rw (b, named) (⊎-elim (λ q. no-truth (sym q ∙ b)) (λ q. q) (h .0)))
+      (λ b. rw (b, named) (no-field es (h .1)))
 
 pub one-other : (x y : ℕ) → (x ≡ y → ⊥) → sameBytes (x ∷ []) (y ∷ []) ≡ false
 unfolding sameBytes
@@ -293,7 +296,8 @@ pub no-key : {A : Type 0} (t : List ℕ) (ys : List ℕ) → Others (key t) ys �
 unfolding choose named
 no-key t ys n [] h ts = refl
 no-key t ys n (e ∷ es) h ts =
-    let m : among (key (bytes (e .0))) ys ≡ true = by-test (among (key (bytes (e .0))) ys) (λ q. q) (λ q. no-truth (rw q at h)) in
+    let m : among (key (bytes (e .0))) ys ≡ true =
+    by-test (among (key (bytes (e .0))) ys) (λ q. q) (λ q. no-truth (rw q at h)) in
     by-test (sameBytes t (bytes (e .0)))
     (λ q. let f : key t ≡ key (bytes (e .0)) = ap key (same-text t (bytes (e .0)) q) in
     no-truth (sym (none-among (key t) ys n) ∙ rw f m))

@@ -50,3 +50,11 @@ then-pair o g h k = then-then o _ k ∙ then-same o (λ a. then-then (g a) _ k)
 -- what an answer r of the code tells, where it is known to be q
 pub told : {A B : Type 0} (tell : A → B) {r q : A} {o : B} → tell r ≡ o → r ≡ q → o ≡ tell q
 told tell e h = sym e ∙ ap tell h
+
+pub then-some : {A B : Type 0} {o : Option A} {a : A} (k : A → Option B) → o ≡ some a → andThen o k ≡ k a
+unfolding andThen
+then-some k e = rw (e, andThen)
+
+pub then-no : {A B : Type 0} {o : Option A} (k : A → Option B) → o ≡ none → andThen o k ≡ none
+unfolding andThen
+then-no k e = rw (e, andThen)

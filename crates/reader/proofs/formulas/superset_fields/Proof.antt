@@ -18,11 +18,13 @@ superset-fields-spec =
     (λ c κs. search needs)
     (λ c. search needs)
     (λ c. search needs)
-    (λ c. simp (
-      told (spanOf _) (c .before .before .before .before .before .before .interval .ensures) (c .before .before .before .before .f .given .1),
+    (λ c. let d = c .before .before .before .before in
+    simp (
+      told (spanOf _) (d .before .before .interval .ensures) (d .f .given .1),
       told (spanOf _) (c .before .before .interval2 .ensures) (c .enum-told2 .given .1),
     ))
-    (λ c. simp (
-      told (spanOf _) (c .before .before .before .before .before .before .before .interval .ensures) (c .before .before .before .before .before .f .given .1),
+    (λ c. let d = c .before .before .before .before in
+    simp (
+      told (spanOf _) (d .before .before .before .interval .ensures) (d .before .f .given .1),
       told (spanOf _) (c .before .before .before .interval2 .ensures) (c .before .g .given .1),
     )))

@@ -19,11 +19,13 @@ two-fields-spec =
     (λ c κs. search needs)
     (λ c. search needs)
     (λ c. search needs)
-    (λ c. simp (
-      told (decimalOf _) (c .before .before .before .before .before .before .number .ensures) (c .before .before .before .before .f .given .1),
+    (λ c. let d = c .before .before .before .before in
+    simp (
+      told (decimalOf _) (d .before .before .number .ensures) (d .f .given .1),
       told (decimalOf _) (c .before .before .number2 .ensures) (c .enum-told2 .given .1),
     ))
-    (λ c. simp (
-      told (decimalOf _) (c .before .before .before .before .before .before .before .number .ensures) (c .before .before .before .before .before .f .given .1),
+    (λ c. let d = c .before .before .before .before in
+    simp (
+      told (decimalOf _) (d .before .before .before .number .ensures) (d .before .f .given .1),
       told (decimalOf _) (c .before .before .before .number2 .ensures) (c .before .g .given .1),
     )))

@@ -64,10 +64,11 @@ more-digits-spec =
     (λ c. search needs)
     (λ c. search needs)
     (λ c. search needs)
-    (λ c. (
+    (λ c. let d = c .before .before .before .before in (
       c .if5 .left,
-      turn (c .before .before .before .before .before .before)
-          ∙ step-on _ _ _ _ _ _ (c .before .before .before .digit .ensures .is (omega (arith, c .before .before .if3 .left)))
+      turn (d .before .before)
+          ∙ step-on _ _ _ _ _ _
+          (c .before .before .before .digit .ensures .is (omega (arith, c .before .before .if3 .left)))
           (omega (arith, c .before .if4 .left)),
     ))
     (λ c. sym (c .before .loop .inv .1 ∙ rw (past _ _ (c .loop-test .left)) (more-end _ _ _))))
