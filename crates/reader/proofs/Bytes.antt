@@ -1,0 +1,23 @@
+-- Bytes from a position on.
+use mathlib.Core.Path.{_≡_, _∙_}
+use mathlib.Core.List.{List, [], _∷_}
+use Prim.Native.Nat.{ℕ, _+_, _≤_, _<_}
+use native.Mathlib.Omega.{arith}
+use native.Mathlib.Numerals.{add-one}
+use lib.ListN.{length, getD, drop, drop-of-length-le}
+use lib.Seq.{drop-cons}
+
+pub here-at : (s : List ℕ) (i : ℕ) → i < length s → drop i s ≡ getD s i 0 ∷ drop (i + 1) s
+here-at s i h = rw (add-one, drop-cons s i 0 h)
+
+module _ (s : List ℕ) (i : ℕ) where
+  pub here : i < length s → drop i s ≡ getD s i 0 ∷ drop (i + 1) s
+  here h = here-at s i h
+
+  pub here2 : i + 1 < length s → drop i s ≡ getD s i 0 ∷ getD s (i + 1) 0 ∷ drop (i + 2) s
+  here2 h =
+      let q : i + 1 + 1 ≡ i + 2 = omega arith in
+      here (omega arith) ∙ rw (here-at s (i + 1) h, q)
+
+  pub past : length s ≤ i → drop i s ≡ []
+  past h = drop-of-length-le s {i = i} h

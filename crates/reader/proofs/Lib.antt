@@ -1,0 +1,12 @@
+pub mod Then
+pub mod Bytes
+pub mod Fields
+pub mod Decimals
+pub mod Sets
+pub mod Words
+pub mod Split
+pub mod Cut
+pub mod Shapes
+pub mod Tables
+pub mod Letters
+pub mod Heads

@@ -1,0 +1,60 @@
+// The reader of requests (document 01: sheets): from bytes to fields and rows, in one pass, by positions. This file has
+// the types of its answers; numbers.rt reads fields, lines.rt lines, first.rt a request's first line, parts.rt the
+// lines after a booking's head.
+pub mod formulas;
+pub mod numbers;
+pub mod requests;
+
+use logic::Interval;
+use request::Kind;
+use steps::Row;
+
+// A number of a range and the position after the byte that ends it.
+pub enum Decimal {
+    Number(u32, u32),
+    Broken,
+}
+
+// A set of labels (document 01: a share) and the position after the byte that ends it.
+pub enum Labels {
+    Set(u64, u32),
+    Broken,
+}
+
+// The position after a text that stands at a position.
+pub enum Prefix {
+    Past(u32),
+    Absent,
+}
+
+// An interval (document 01: a window) and the position after the byte that ends it.
+pub enum Span {
+    Minutes(Interval, u32),
+    Broken,
+}
+
+// A formula line (document 01: a wording line) as a row, and the position after its line end.
+pub enum FormulaLine {
+    Formula(Row, u32),
+    Broken,
+}
+
+// The head of a booking, `book,now,wording,from,to,holds,steps`, and the position of the line after it.
+pub struct Head {
+    pub now: u32,
+    pub formula: u32,
+    pub interval: Interval,
+    pub holds: u32,
+    pub steps: u32,
+    pub next: u32,
+}
+
+// What a request's bytes say: a whole request of one line, or the head of a booking.
+pub enum First {
+    Word(Row),
+    Issue(Kind, u32, Interval),
+    Withdraw(u32),
+    Tally(u32, u32),
+    Book(Head),
+    Broken,
+}
