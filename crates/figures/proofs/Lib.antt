@@ -4,3 +4,4 @@ pub mod Limits
 pub mod Columns
 pub mod Counting
 pub mod Tallies
+pub mod Weighing

@@ -8,6 +8,7 @@ use store::Store;
 
 mod column;
 mod parts;
+mod weight;
 
 ghost use mathlib.Core.Path.{_≡_};
 ghost use mathlib.Core.Bool.{not};
