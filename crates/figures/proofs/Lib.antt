@@ -5,3 +5,4 @@ pub mod Columns
 pub mod Counting
 pub mod Tallies
 pub mod Weighing
+pub mod Balancing

@@ -47,7 +47,7 @@ module _ (l : List ℕ) (s : ℕ) where
     -- a row function of these columns, at the ledger's row
     at-row : {A : Type 0} (f : (ℕ → ℕ) → (ℕ → ℕ) → (ℕ → Bool) → Row → A) → f (entry xs) (entry ys) (flag zs) (rowAt l i)
         ≡ f (λ k. up s (early (ledgerOf l) i k)) (λ k. down s (early (ledgerOf l) i k))
-          (λ k. even s (early (ledgerOf l) i k)) (rowOf (lineAt (ledgerOf l) i))
+        (λ k. even s (early (ledgerOf l) i k)) (rowOf (lineAt (ledgerOf l) i))
     at-row f =
         ap₂ (λ (a : ℕ → ℕ) (b : ℕ → ℕ). f a b (flag zs) (rowAt l i)) (fun-ext (w .ups .holds)) (fun-ext (w .downs .holds))
         ∙ ap₂ (f _ _) (fun-ext (w .evens .holds)) (sym (row-is l g i))
@@ -76,5 +76,5 @@ module _ (l : List ℕ) (s : ℕ) where
     weighed-is n h q =
         ap₂ _&&_
         (ap₂ eqb (column-is (ledgerOf l) (up s) 0 i xs h (w .ups) n q)
-          (column-is (ledgerOf l) (down s) 0 i ys h (w .downs) n q))
+        (column-is (ledgerOf l) (down s) 0 i ys h (w .downs) n q))
         (column-is (ledgerOf l) (even s) true i zs h (w .evens) n q)

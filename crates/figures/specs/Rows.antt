@@ -4,9 +4,9 @@ use mathlib.Core.Bool.{Bool, true, false, _&&_, _||_}
 use Prim.Native.Nat.{ℕ, _+_}
 use Prim.Native.Char.{code}
 use lib.Dec.{eqb}
-use Rattle.logic.specs.Formula.{bit}
+use Rattle.logic.specs.Formula.{Formula, bit}
 use Rattle.logic.specs.Weight.{counted}
-use Rattle.logic.specs.Counts.{all}
+use Rattle.logic.specs.Counts.{level, even, all}
 use Rattle.logic.specs.Multiset.{sum}
 use Rattle.steps.specs.declared.Row.{Row}
 use Rattle.store.specs.Tab.{pick}
@@ -16,7 +16,7 @@ abbrev pub among : ℕ → List ℕ → Bool
 among n [] = false
 among n (k ∷ ks) = eqb n k || among n ks
 
--- the letters of lines of two parts; of one part, first or second in the row; of plain formulas
+-- the letters of lines of two parts; of one part, which stands first in the row; of plain formulas
 abbrev pub pairs : List ℕ
 pairs = code "t" ∷ code "w" ∷ code "p" ∷ code "l" ∷ code "u" ∷ []
 
@@ -75,3 +75,7 @@ levelRow ups downs r =
 
 unfoldable pub evenRow : (ℕ → ℕ) → (ℕ → ℕ) → (ℕ → Bool) → Row → Bool
 evenRow ups downs evens r = all evens (partsOf r) && levelRow ups downs r
+
+-- formula a weighs 0 and is well weighed for the session of the row, if that is an atom's
+unfoldable pub fairRow : Formula → Row → Bool
+fairRow a r = pick (eqb (r .letter) (code "a")) (level (r .b) a && even (r .b) a) true

@@ -5,7 +5,6 @@ use crate::parts;
 use crate::parts::Parts;
 use steps::Row;
 use store::Store;
-
 ghost use mathlib.Core.Path.{_≡_};
 ghost use mathlib.Core.Bool.{true, _&&_};
 ghost use Prim.Native.Nat.{_+_, _<_};

@@ -20,9 +20,9 @@ all-even-spec =
     (λ c. rw (c .enum-told .given .1))
     (λ c. rw (c .before .before .parts .given .1) (c .flag-at .ensures ∙ sym (and-true _)))
     (λ c.
-      let b = c .before .before in
-      rw (b .before .before .parts2 .given .1)
-      (rw (sym (b .flag-at2 .ensures), c .before .if1 .taken) (c .flag-at3 .ensures ∙ sym (and-true _))))
+    let b = c .before .before in
+    rw (b .before .before .parts2 .given .1)
+    (rw (sym (b .flag-at2 .ensures), c .before .if1 .taken) (c .flag-at3 .ensures ∙ sym (and-true _))))
     (λ c.
-      let b = c .before in
-      rw (b .before .before .parts2 .given .1, sym (b .flag-at2 .ensures), c .if1 .left)))
+    let b = c .before in
+    rw (b .before .before .parts2 .given .1, sym (b .flag-at2 .ensures), c .if1 .left)))

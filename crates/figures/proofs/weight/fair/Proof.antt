@@ -1,7 +1,7 @@
 -- `fair` meets its contract. The loop: the columns have the weights of the first i formulas.
-use mathlib.Core.Path.{_≡_, sym, ap, ap₂, _∙_}
-use mathlib.Core.Bool.{Bool, _&&_}
-use Prim.Native.Nat.{ℕ, _+_, _≤_, _<_, _-_}
+use mathlib.Core.Path.{_≡_, _∙_}
+use mathlib.Core.Bool.{_&&_}
+use Prim.Native.Nat.{_+_, _≤_, _<_, _-_}
 use native.Mathlib.Omega.{arith}
 use borrow.Author.Needs.{needs}
 use lib.ListN.{length}
@@ -60,11 +60,12 @@ loop-again c =
     let e = u .before .before .before in
     let w = e .before .before .before .before in
     let t = w .before .before in
-    let at = t .before in
-    (omega arith,
+    let at = t .before in (
+      omega arith,
       weighed-next (now (at .before .args .store)) _ (at .before .pre .0) (at .loop .i) _ _ _ (at .loop .inv .1) _ _ _ _ _
-      (turn t) (w .before .row-at .ensures) (w .atom-weight .ensures) (u .side .ensures) (c .side2 .ensures)
-      (e .even-row .ensures))
+          (turn t) (w .before .row-at .ensures) (w .atom-weight .ensures) (u .side .ensures) (c .side2 .ensures)
+          (e .even-row .ensures),
+    )
 
 level-requires : tie.Need-level-requires Inv-loop μ-loop
 level-requires c κs =
@@ -81,11 +82,11 @@ tested : (c : tie.After-level Inv-loop μ-loop)
     → (c .level .result
     && flag (c .before .before .before .before .loop .evens) (c .before .before .before .before .before .args .n))
     ≡ (level (c .before .before .before .before .before .args .session)
-        (formula (ledgerOf (now (c .before .before .before .before .before .args .store)))
-        (c .before .before .before .before .before .args .n))
-      && even (c .before .before .before .before .before .args .session)
-        (formula (ledgerOf (now (c .before .before .before .before .before .args .store)))
-        (c .before .before .before .before .before .args .n)))
+    (formula (ledgerOf (now (c .before .before .before .before .before .args .store)))
+    (c .before .before .before .before .before .args .n))
+    && even (c .before .before .before .before .before .args .session)
+    (formula (ledgerOf (now (c .before .before .before .before .before .args .store)))
+    (c .before .before .before .before .before .args .n)))
 tested c =
     let at = c .before .before .before .before in
     let s = at .before in
