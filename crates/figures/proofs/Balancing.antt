@@ -10,7 +10,7 @@ use lib.Dec.{eqb}
 use lib.ListN.{length}
 use borrow.Author.Tests.{eq-eqb}
 use Rattle.logic.specs.Formula.{Formula, atom, one, tensor, with, plus, lolli, implies, bang, at, says, superset}
-use Rattle.logic.specs.Counts.{up, down, level, even, sessionsOf, all, balanced}
+use Rattle.logic.specs.Counts.{up, down, even, sessionsOf, all, balanced}
 use Rattle.logic.specs.Multiset.{Every}
 use Rattle.logic.proofs.Tests.{no-truth}
 use Rattle.logic.proofs.Weights.{Even, balanced-is}
@@ -23,7 +23,7 @@ use Rattle.ledger.proofs.Tables.{lineAt}
 use Rattle.store.specs.Layout.{rowAt}
 use Rattle.store.specs.Store.{ledgerOf, Good}
 use Rattle.store.proofs.Views.{row-is}
-use Rattle.figures.specs.Rows.{fairRow}
+use Rattle.figures.specs.Rows.{fairFor, fairRow}
 use Rattle.figures.specs.Column.{early}
 use Rattle.figures.proofs.Columns.{early-next, early-is}
 
@@ -45,7 +45,7 @@ even-true s (says k a) h = even-true s a h
 even-true s (superset i j) h = refl
 
 abbrev Fair : Formula → ℕ → Type 0
-Fair a s = (level s a && even s a) ≡ true
+Fair a s = fairFor s a ≡ true
 
 -- a balanced formula passes at every session, whether it stands there or not
 fair-every : (a : Formula) → balanced a ≡ true → (s : ℕ) → Fair a s
@@ -116,7 +116,7 @@ unfolding balanced fairRow
 all-fair l g n h f =
     let t = ledgerOf l in
     let a = formula t n in
-    sym (all-true (λ s. level s a && even s a) (sessionsOf a)
+    sym (all-true (λ s. fairFor s a) (sessionsOf a)
     (subst (λ (b : Formula). Every (Fair a) (sessionsOf b)) (early-is t n (n + 1) (omega arith) (omega arith))
     (sessions-early (Fair a) t (n + 1) (omega arith)
     (λ j q e. rw (eq-eqb _ _ e) at (rw (sym (row-is l g j)) at (f j q))) n)))

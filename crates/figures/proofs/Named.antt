@@ -61,7 +61,9 @@ module _ (r : Row) (p q : Parts) (e : numbers p ≡ partsOf r) (g : p ≡ q) whe
   pub all-below : (l : List ℕ) (n : ℕ) → n ≡ length (ledgerOf l .lines) → Canonical r
       → all (λ i. ltb i n) (numbers q) ≡ not (any (missing (ledgerOf l)) (names (lineOf r)))
   all-below l n h c =
-      rw h (all-there (ledgerOf l) (numbers q) ∙ ap (λ (ns : List ℕ). not (any (missing (ledgerOf l)) ns)) (parts-names c))
+      rw h
+      (all-there (ledgerOf l) (numbers q)
+      ∙ ap (λ (ns : List ℕ). not (any (missing (ledgerOf l)) ns)) (parts-names c))
 
   module _ (l : List ℕ) (f : Formable l r) where
     pub parts-there : There (ledgerOf l) (numbers q)

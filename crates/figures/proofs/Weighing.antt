@@ -7,7 +7,7 @@ use native.Mathlib.Omega.{arith}
 use lib.Dec.{eqb}
 use lib.ListN.{length, set, replicate}
 use Rattle.logic.specs.Weight.{counted}
-use Rattle.logic.specs.Counts.{up, down, even, level}
+use Rattle.logic.specs.Counts.{up, down, even}
 use Rattle.ledger.specs.Table.{rowOf}
 use Rattle.ledger.specs.Ledger.{formula}
 use Rattle.ledger.specs.Checks.{maxFormulas}
@@ -16,7 +16,7 @@ use Rattle.steps.specs.declared.Row.{Row}
 use Rattle.store.specs.Layout.{rowAt}
 use Rattle.store.specs.Store.{ledgerOf, Good}
 use Rattle.store.proofs.Views.{row-is}
-use Rattle.figures.specs.Rows.{sideRow, upRow, downRow, evenRow}
+use Rattle.figures.specs.Rows.{levelAt, fairFor, sideRow, upRow, downRow, evenRow}
 use Rattle.figures.specs.Column.{entry, flag, early, Column, Small}
 use Rattle.figures.proofs.Rows.{up-row, down-row, even-row}
 use Rattle.figures.proofs.Limits.{weight-le}
@@ -45,18 +45,20 @@ module _ (l : List ℕ) (s : ℕ) where
     )
 
     -- a row function of these columns, at the ledger's row
-    at-row : {A : Type 0} (f : (ℕ → ℕ) → (ℕ → ℕ) → (ℕ → Bool) → Row → A) → f (entry xs) (entry ys) (flag zs) (rowAt l i)
+    at-row : {A : Type 0} (f : (ℕ → ℕ) → (ℕ → ℕ) → (ℕ → Bool) → Row → A)
+        → f (entry xs) (entry ys) (flag zs) (rowAt l i)
         ≡ f (λ k. up s (early (ledgerOf l) i k)) (λ k. down s (early (ledgerOf l) i k))
         (λ k. even s (early (ledgerOf l) i k)) (rowOf (lineAt (ledgerOf l) i))
     at-row f =
-        ap₂ (λ (a : ℕ → ℕ) (b : ℕ → ℕ). f a b (flag zs) (rowAt l i)) (fun-ext (w .ups .holds)) (fun-ext (w .downs .holds))
+        ap₂ (λ (a : ℕ → ℕ) (b : ℕ → ℕ). f a b (flag zs) (rowAt l i)) (fun-ext (w .ups .holds))
+        (fun-ext (w .downs .holds))
         ∙ ap₂ (f _ _) (fun-ext (w .evens .holds)) (sym (row-is l g i))
 
-    pub weighed-next : (r : Row) (k v u : ℕ) (e : Bool) → i < length (ledgerOf l .lines) → r ≡ rowAt l i
+    pub weighed-next : {r : Row} {k v u : ℕ} {e : Bool} → i < length (ledgerOf l .lines) → r ≡ rowAt l i
         → k ≡ counted s (r .a) (r .b) → v ≡ sideRow k (entry xs) (entry ys) r → u ≡ sideRow 0 (entry ys) (entry xs) r
         → e ≡ evenRow (entry xs) (entry ys) (flag zs) r
         → Weighed l s (i + 1) (set xs i v) (set ys i u) (set zs i e)
-    weighed-next r k v u e h row ek ev eu ee =
+    weighed-next {r} {v = v} {u = u} {e = e} h row ek ev eu ee =
         let T = early (ledgerOf l) i in
         let line = lineAt (ledgerOf l) i in
         record {
@@ -71,8 +73,7 @@ module _ (l : List ℕ) (s : ℕ) where
 
     -- the test of a formula that has been weighed
     pub weighed-is : (n : ℕ) → i ≤ length (ledgerOf l .lines) → n < i
-        → (eqb (entry xs n) (entry ys n) && flag zs n)
-        ≡ (level s (formula (ledgerOf l) n) && even s (formula (ledgerOf l) n))
+        → (levelAt (entry xs) (entry ys) n && flag zs n) ≡ fairFor s (formula (ledgerOf l) n)
     weighed-is n h q =
         ap₂ _&&_
         (ap₂ eqb (column-is (ledgerOf l) (up s) 0 i xs h (w .ups) n q)

@@ -1,4 +1,5 @@
-// What the checks of a request ask of formulas and credentials, in numbers: sizes, plain, balanced, and the tally's sums.
+// What the checks of a request and a tally ask of formulas and credentials: sizes, plain, balanced, and sums of seats
+// and places, each computed row by row from what the store has.
 use column::Column;
 use logic::Interval;
 use parts::Parts;
@@ -104,7 +105,8 @@ pub fn balanced(store: &Store, n: u32) -> bool
 // The seats and the places of a session in every formula, row by row.
 fn count_rows(store: &Store, session: u32, seats: &mut Column, places: &mut Column)
     requires { ⌜ Good (now store) × (Blank (now seats) × Blank (now places)) ⌝ }
-    ensures { λ _. ⌜ Counted (now (store .entry)) session (length (ledgerOf (now (store .entry)) .lines)) (now (seats .exit)) (now (places .exit)) ⌝ }
+    ensures { λ _. ⌜ Counted (now (store .entry)) session (length (ledgerOf (now (store .entry)) .lines))
+        (now (seats .exit)) (now (places .exit)) ⌝ }
 {
     let n = store::formula_count(store);
     let mut i = 0;

@@ -6,19 +6,17 @@ use crate::parts::Parts;
 use steps::Row;
 use store::Store;
 ghost use mathlib.Core.Path.{_≡_};
-ghost use mathlib.Core.Bool.{true, _&&_};
-ghost use Prim.Native.Nat.{_+_, _<_};
-ghost use lib.Dec.{eqb};
+ghost use mathlib.Core.Bool.{true};
+ghost use Prim.Native.Nat.{_<_};
 ghost use lib.ListN.{length, getD};
-ghost use Rattle.logic.specs.Counts.{even, all};
-ghost use Rattle.logic.specs.Counts.{level as levelIn};
+ghost use Rattle.logic.specs.Counts.{all};
 ghost use Rattle.logic.specs.Weight.{counted};
 ghost use Rattle.ledger.specs.Checks.{maxFormulas};
 ghost use Rattle.ledger.specs.Ledger.{formula};
 ghost use Rattle.store.specs.Store.{ledgerOf, Good};
 ghost use Rattle.figures.specs.Column.{entry, flag, Small};
 ghost use Rattle.figures.specs.Parts.{numbers};
-ghost use Rattle.figures.specs.Rows.{sideRow, levelRow, evenRow};
+ghost use Rattle.figures.specs.Rows.{sideRow, alikeAt, levelAt, levelRow, evenRow, fairFor};
 
 type Flags = [bool; 200];
 
@@ -68,7 +66,7 @@ fn side(row: Row, atom: u32, own: &Column, other: &Column) -> u32
 // Whether two formulas weigh alike.
 fn alike(i: u32, j: u32, ups: &Column, downs: &Column) -> bool
     requires { ⌜ Small (now ups) × Small (now downs) ⌝ }
-    ensures { λ r. ⌜ r ≡ eqb (entry (now (ups .entry)) i + entry (now (downs .entry)) j) (entry (now (ups .entry)) j + entry (now (downs .entry)) i) ⌝ }
+    ensures { λ r. ⌜ r ≡ alikeAt (entry (now (ups .entry))) (entry (now (downs .entry))) i j ⌝ }
 {
     column::at(ups, i) + column::at(downs, j) == column::at(ups, j) + column::at(downs, i)
 }
@@ -76,7 +74,7 @@ fn alike(i: u32, j: u32, ups: &Column, downs: &Column) -> bool
 // Whether a formula weighs 0.
 fn level(i: u32, ups: &Column, downs: &Column) -> bool
     requires { ⌜ Small (now ups) × Small (now downs) ⌝ }
-    ensures { λ r. ⌜ r ≡ eqb (entry (now (ups .entry)) i) (entry (now (downs .entry)) i) ⌝ }
+    ensures { λ r. ⌜ r ≡ levelAt (entry (now (ups .entry))) (entry (now (downs .entry))) i ⌝ }
 {
     column::at(ups, i) == column::at(downs, i)
 }
@@ -111,7 +109,8 @@ fn all_even(parts: Parts, evens: &Flags) -> bool
 // Whether the row's formula is well weighed.
 fn even_row(row: Row, ups: &Column, downs: &Column, evens: &Flags) -> bool
     requires { ⌜ Small (now ups) × (Small (now downs) × (length (now evens) ≡ maxFormulas)) ⌝ }
-    ensures { λ r. ⌜ r ≡ evenRow (entry (now (ups .entry))) (entry (now (downs .entry))) (flag (now (evens .entry))) row ⌝ }
+    ensures { λ r. ⌜ r ≡ evenRow (entry (now (ups .entry))) (entry (now (downs .entry))) (flag (now (evens .entry)))
+        row ⌝ }
 {
     if !all_even(parts::parts_of(row), evens) {
         return false;
@@ -122,7 +121,7 @@ fn even_row(row: Row, ups: &Column, downs: &Column, evens: &Flags) -> bool
 // Whether formula n weighs 0 and is well weighed for the session.
 pub fn fair(store: &Store, n: u32, session: u32) -> bool
     requires { ⌜ Good (now store) × (n < length (ledgerOf (now store) .lines)) ⌝ }
-    ensures { λ r. ⌜ r ≡ (levelIn session (formula (ledgerOf (now (store .entry))) n) && even session (formula (ledgerOf (now (store .entry))) n)) ⌝ }
+    ensures { λ r. ⌜ r ≡ fairFor session (formula (ledgerOf (now (store .entry))) n) ⌝ }
 {
     let mut ups = [0u32; 200];
     let mut downs = [0u32; 200];

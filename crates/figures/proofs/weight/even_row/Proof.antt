@@ -12,7 +12,9 @@ use Rattle.figures.proofs.weight.even_row.Tie as tie
 -- the parts' flags
 parts-even : (c : tie.After-all-even)
     → all (flag (now (c .before .before .args .evens))) (partsOf (c .before .before .args .row)) ≡ c .all-even .result
-parts-even c = sym (c .all-even .ensures ∙ ap (all (flag (now (c .before .before .args .evens)))) (c .before .parts-of .ensures))
+parts-even c =
+    let f = flag (now (c .before .before .args .evens)) in
+    sym (c .all-even .ensures ∙ ap (all f) (c .before .parts-of .ensures))
 
 returns : tie.Need-returns
 unfolding evenRow

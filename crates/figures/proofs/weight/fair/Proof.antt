@@ -6,9 +6,9 @@ use native.Mathlib.Omega.{arith}
 use borrow.Author.Needs.{needs}
 use lib.ListN.{length}
 use denote.Ref.{now}
-use Rattle.logic.specs.Counts.{level, even}
 use Rattle.ledger.specs.Ledger.{formula}
 use Rattle.store.specs.Store.{ledgerOf}
+use Rattle.figures.specs.Rows.{fairFor}
 use Rattle.figures.specs.Column.{flag, Small}
 use Rattle.figures.proofs.Weighing.{Weighed, weighed-start, weighed-small, weighed-next, weighed-is}
 use Rattle.figures.proofs.weight.fair.Statement.{statement}
@@ -47,12 +47,13 @@ side-requires-2 c κs =
     let h = small (c .before .before .before .before .before .before .before .before .before .before .before) in
     (h .1, h .0)
 
+-- the loop's head, from after the weighing of a row
+abbrev head : tie.After-side2 Inv-loop μ-loop → tie.In-loop Inv-loop μ-loop
+head c = c .before .before .before .before .before .before .before .before .before .before .before .before
+
 -- the row's number is below 200
-low : (c : tie.After-side2 Inv-loop μ-loop)
-    → c .before .before .before .before .before .before .before .before .before .before .before .before .before .loop .i < 200
-low c =
-    let t = c .before .before .before .before .before .before .before .before .before .before .before .before in
-    omega (arith, turn t, t .before .before .pre .0 .bounded .lines)
+low : (c : tie.After-side2 Inv-loop μ-loop) → head c .before .loop .i < 200
+low c = let t = head c in omega (arith, turn t, t .before .before .pre .0 .bounded .lines)
 
 loop-again : tie.Need-loop-again Inv-loop μ-loop
 loop-again c =
@@ -62,7 +63,7 @@ loop-again c =
     let t = w .before .before in
     let at = t .before in (
       omega arith,
-      weighed-next (now (at .before .args .store)) _ (at .before .pre .0) (at .loop .i) _ _ _ (at .loop .inv .1) _ _ _ _ _
+      weighed-next (now (at .before .args .store)) _ (at .before .pre .0) (at .loop .i) _ _ _ (at .loop .inv .1)
           (turn t) (w .before .row-at .ensures) (w .atom-weight .ensures) (u .side .ensures) (c .side2 .ensures)
           (e .even-row .ensures),
     )
@@ -81,12 +82,9 @@ flag-at-requires c κs = c .before .before .before .before .before .before .loop
 tested : (c : tie.After-level Inv-loop μ-loop)
     → (c .level .result
     && flag (c .before .before .before .before .loop .evens) (c .before .before .before .before .before .args .n))
-    ≡ (level (c .before .before .before .before .before .args .session)
+    ≡ fairFor (c .before .before .before .before .before .args .session)
     (formula (ledgerOf (now (c .before .before .before .before .before .args .store)))
     (c .before .before .before .before .before .args .n))
-    && even (c .before .before .before .before .before .args .session)
-    (formula (ledgerOf (now (c .before .before .before .before .before .args .store)))
-    (c .before .before .before .before .before .args .n)))
 tested c =
     let at = c .before .before .before .before in
     let s = at .before in
