@@ -4,3 +4,5 @@ pub mod Limits
 pub mod Columns
 pub mod Counting
 pub mod Tallies
+pub mod Weighing
+pub mod Balancing

@@ -7,14 +7,16 @@ use native.Mathlib.Omega.{arith}
 use native.Mathlib.Decide.{decLt}
 use lib.Dec.{ltb, leb}
 use lib.ListN.{length}
-use borrow.Author.Tests.{lt-ltb, le-ltb, le-leb, lt-leb}
+use borrow.Author.Tests.{lt-ltb, le-ltb, le-leb, lt-leb, leb-false, not-true}
 use Rattle.logic.specs.Formula.{Formula, size, plain}
 use Rattle.logic.specs.Counts.{all}
 use Rattle.logic.specs.Multiset.{sum}
+use Rattle.logic.proofs.Multisets.{every-map}
 use Rattle.steps.specs.declared.Row.{Row}
 use Rattle.ledger.specs.Table.{form, names}
 use Rattle.ledger.specs.Ledger.{Ledger, formula}
 use Rattle.ledger.specs.Checks.{any, missing}
+use Rattle.ledger.proofs.Credentials.{any-none}
 use Rattle.ledger.proofs.Tables.{There}
 use Rattle.store.specs.Store.{lineOf, ledgerOf, Canonical}
 use Rattle.figures.specs.Rows.{among, plains, partsOf, sizeRow, plainRow}
@@ -45,6 +47,10 @@ pub other-letter : (T : ℕ → Formula) (r : Row) → Canonical r → among (r 
 unfolding plainRow
 other-letter T r c e = sym (plain-row T (lineOf r) ∙ rw (c, e))
 
+-- where none is missing, all are there
+pub none-missing : (t : Ledger) (ns : List ℕ) → not (any (missing t) ns) ≡ true → There t ns
+none-missing t ns e = every-map (λ k q. leb-false _ _ q) ns (any-none (missing t) ns (not-true _ e))
+
 module _ (r : Row) (p q : Parts) (e : numbers p ≡ partsOf r) (g : p ≡ q) where
   parts-are : numbers q ≡ partsOf r
   parts-are = ap numbers (sym g) ∙ e
@@ -55,7 +61,9 @@ module _ (r : Row) (p q : Parts) (e : numbers p ≡ partsOf r) (g : p ≡ q) whe
   pub all-below : (l : List ℕ) (n : ℕ) → n ≡ length (ledgerOf l .lines) → Canonical r
       → all (λ i. ltb i n) (numbers q) ≡ not (any (missing (ledgerOf l)) (names (lineOf r)))
   all-below l n h c =
-      rw h (all-there (ledgerOf l) (numbers q) ∙ ap (λ (ns : List ℕ). not (any (missing (ledgerOf l)) ns)) (parts-names c))
+      rw h
+      (all-there (ledgerOf l) (numbers q)
+      ∙ ap (λ (ns : List ℕ). not (any (missing (ledgerOf l)) ns)) (parts-names c))
 
   module _ (l : List ℕ) (f : Formable l r) where
     pub parts-there : There (ledgerOf l) (numbers q)

@@ -14,6 +14,10 @@ pub and-true : (x : Bool) → (x && true) ≡ x
 and-true true = refl
 and-true false = refl
 
+pub and-false : (x : Bool) → (x && false) ≡ false
+and-false true = refl
+and-false false = refl
+
 and-assoc : (x y z : Bool) → ((x && y) && z) ≡ (x && (y && z))
 and-assoc true y z = refl
 and-assoc false y z = refl

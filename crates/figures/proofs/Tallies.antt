@@ -83,12 +83,12 @@ module _ (l : List ℕ) (s m : ℕ) where
       }
 
   module _ (g : Good l) (xs ys : List ℕ) (k : Counted l s (length (ledgerOf l .lines)) xs ys) where
-    pub tally-next : (c : Credential) (i o h p a b v w y : ℕ) → c ≡ credentialAt l i
+    pub tally-next : {c : Credential} {i o h p a b v w y : ℕ} → c ≡ credentialAt l i
         → a ≡ entry xs (c .formula) → v ≡ byKind (c .kind) a 0
         → w ≡ only (has (c .interval) m) v
         → b ≡ entry ys (c .formula) → y ≡ byKind (c .kind) b 0
         → Tallying l s m i o h p → Tallying l s m (i + 1) (o + w) (h + (v - w)) (p + y)
-    tally-next c i o h p a b v w y ec ea ev ew eb ey t =
+    tally-next {c} {i} {o} {h} {p} {a} {b} {v} {w} {y} ec ea ev ew eb ey t =
         let ss = entry-is l g seat s xs (k .seats) (c .kind) (c .formula) a v ea ev in
         let ps = entry-is l g place s ys (k .places) (c .kind) (c .formula) b y eb ey in
         let sm = entry-small l g seat s xs (k .seats) (c .kind) (c .formula) a v ea ev in

@@ -1,6 +1,7 @@
 -- A column: a value of each formula of a ledger, kept by the formula's number.
 use mathlib.Core.Path.{_≡_}
 use mathlib.Core.List.{List}
+use mathlib.Core.Bool.{Bool, true}
 use Prim.Native.Nat.{ℕ, _≤_}
 use lib.ListN.{length, getD, take}
 use Rattle.logic.specs.Formula.{Formula}
@@ -19,6 +20,9 @@ pub record Column {A : Type 0} (t : Ledger) (value : Formula → A) (d : A) (i :
 
 abbrev pub entry : List ℕ → ℕ → ℕ
 entry xs k = getD xs k 0
+
+abbrev pub flag : List Bool → ℕ → Bool
+flag xs k = getD xs k true
 
 -- room for every formula, and no entry above what a formula can have
 pub record Small (xs : List ℕ) : Type 0 where

@@ -4,9 +4,9 @@ use mathlib.Core.Bool.{Bool, true, false, _&&_, _||_}
 use Prim.Native.Nat.{ℕ, _+_}
 use Prim.Native.Char.{code}
 use lib.Dec.{eqb}
-use Rattle.logic.specs.Formula.{bit}
+use Rattle.logic.specs.Formula.{Formula, bit}
 use Rattle.logic.specs.Weight.{counted}
-use Rattle.logic.specs.Counts.{all}
+use Rattle.logic.specs.Counts.{level, even, all}
 use Rattle.logic.specs.Multiset.{sum}
 use Rattle.steps.specs.declared.Row.{Row}
 use Rattle.store.specs.Tab.{pick}
@@ -16,7 +16,7 @@ abbrev pub among : ℕ → List ℕ → Bool
 among n [] = false
 among n (k ∷ ks) = eqb n k || among n ks
 
--- the letters of lines of two parts; of one part, first or second in the row; of plain formulas
+-- the letters of lines of two parts; of one part, which stands first in the row; of plain formulas
 abbrev pub pairs : List ℕ
 pairs = code "t" ∷ code "w" ∷ code "p" ∷ code "l" ∷ code "u" ∷ []
 
@@ -65,13 +65,26 @@ upRow s ups downs r = sideRow (counted s (r .a) (r .b)) ups downs r
 abbrev pub downRow : (ℕ → ℕ) → (ℕ → ℕ) → Row → ℕ
 downRow ups downs r = sideRow 0 downs ups r
 
+-- formula i weighs 0, and i and j weigh alike
+abbrev pub levelAt : (ℕ → ℕ) → (ℕ → ℕ) → ℕ → Bool
+levelAt ups downs i = eqb (ups i) (downs i)
+
+abbrev pub alikeAt : (ℕ → ℕ) → (ℕ → ℕ) → ℕ → ℕ → Bool
+alikeAt ups downs i j = eqb (ups i + downs j) (ups j + downs i)
+
 -- "arms of & and ⊕ weigh alike and what stands under ! or left of ⊃ weighs 0"
 unfoldable pub levelRow : (ℕ → ℕ) → (ℕ → ℕ) → Row → Bool
 levelRow ups downs r =
-    pick (among (r .letter) (code "w" ∷ code "p" ∷ []))
-    (eqb (ups (r .a) + downs (r .b)) (ups (r .b) + downs (r .a)))
-    (pick (among (r .letter) (code "u" ∷ code "b" ∷ [])) (eqb (ups (r .a)) (downs (r .a)))
+    pick (among (r .letter) (code "w" ∷ code "p" ∷ [])) (alikeAt ups downs (r .a) (r .b))
+    (pick (among (r .letter) (code "u" ∷ code "b" ∷ [])) (levelAt ups downs (r .a))
     true)
 
 unfoldable pub evenRow : (ℕ → ℕ) → (ℕ → ℕ) → (ℕ → Bool) → Row → Bool
 evenRow ups downs evens r = all evens (partsOf r) && levelRow ups downs r
+
+-- formula a weighs 0 and is well weighed for session s; for the session of a row, if that is an atom's
+abbrev pub fairFor : ℕ → Formula → Bool
+fairFor s a = level s a && even s a
+
+unfoldable pub fairRow : Formula → Row → Bool
+fairRow a r = pick (eqb (r .letter) (code "a")) (fairFor (r .b) a) true

@@ -1,4 +1,5 @@
-// What the checks of a request ask of formulas and credentials, in numbers: sizes, plain, balanced, and the tally's sums.
+// What the checks of a request and a tally ask of formulas and credentials: sizes, plain, balanced, and sums of seats
+// and places, each computed row by row from what the store has.
 use column::Column;
 use logic::Interval;
 use parts::Parts;
@@ -8,17 +9,21 @@ use store::Store;
 
 mod column;
 mod parts;
+mod weight;
 
 ghost use mathlib.Core.Path.{_≡_};
 ghost use mathlib.Core.Bool.{not};
+ghost use Prim.Native.Nat.{_<_};
 ghost use lib.ListN.{length};
 ghost use Rattle.logic.specs.Interval.{has};
 ghost use Rattle.logic.specs.Formula.{size, plain};
+ghost use Rattle.logic.specs.Counts.{balanced as isBalanced};
 ghost use Rattle.ledger.specs.Table.{form, names};
 ghost use Rattle.ledger.specs.Ledger.{formula, byKind};
 ghost use Rattle.ledger.specs.Checks.{any, missing};
 ghost use Rattle.ledger.specs.Calls.{only};
 ghost use Rattle.store.specs.Store.{lineOf, ledgerOf, Canonical, Good};
+ghost use Rattle.figures.specs.Rows.{fairRow};
 ghost use Rattle.figures.specs.Figures.{Formable, Blank, Counted, Tallied};
 
 // The sums of a tally: "open = seats of the session in coupons whose window has the minute, shut = the other seats,
@@ -69,10 +74,39 @@ pub fn row_plain(store: &Store, row: Row) -> bool
     }
 }
 
+// Whether formula n weighs 0 and is well weighed for the session of the row, if that is an atom's.
+fn fair_row(store: &Store, n: u32, row: Row) -> bool
+    requires { ⌜ Good (now store) × (n < length (ledgerOf (now store) .lines)) ⌝ }
+    ensures { λ r. ⌜ r ≡ fairRow (formula (ledgerOf (now (store .entry))) n) row ⌝ }
+{
+    if row.letter == parts::ATOM {
+        return weight::fair(store, n, row.b);
+    }
+    true
+}
+
+// Whether formula n is balanced. Only sessions of atoms up to its row are tried: for others it weighs 0 and is well
+// weighed.
+pub fn balanced(store: &Store, n: u32) -> bool
+    requires { ⌜ Good (now store) × (n < length (ledgerOf (now store) .lines)) ⌝ }
+    ensures { λ r. ⌜ r ≡ isBalanced (formula (ledgerOf (now (store .entry))) n) ⌝ }
+{
+    let mut i = 0;
+    while i <= n {
+        let row = store::row_at(store, i);
+        if !fair_row(store, n, row) {
+            return false;
+        }
+        i += 1;
+    }
+    true
+}
+
 // The seats and the places of a session in every formula, row by row.
 fn count_rows(store: &Store, session: u32, seats: &mut Column, places: &mut Column)
     requires { ⌜ Good (now store) × (Blank (now seats) × Blank (now places)) ⌝ }
-    ensures { λ _. ⌜ Counted (now (store .entry)) session (length (ledgerOf (now (store .entry)) .lines)) (now (seats .exit)) (now (places .exit)) ⌝ }
+    ensures { λ _. ⌜ Counted (now (store .entry)) session (length (ledgerOf (now (store .entry)) .lines))
+        (now (seats .exit)) (now (places .exit)) ⌝ }
 {
     let n = store::formula_count(store);
     let mut i = 0;

@@ -59,8 +59,9 @@ unfolding all
 returns-3 c =
     let p = c .before .before .before .before in
     let s = p .before .before .before in
+    let l = now (s .args .store) in
     c .plain-at .ensures ∙ sym (and-true _)
-    ∙ parts-plain _ _ _ (p .parts-of .ensures) (c .before .before .i .given .1) (now (s .args .store)) (s .pre) (known p)
+    ∙ parts-plain _ _ _ (p .parts-of .ensures) (c .before .before .i .given .1) l (s .pre) (known p)
 
 -- two parts
 two : (c : tie.After-plain-at2)
@@ -74,8 +75,9 @@ unfolding all
 two c =
     let p = c .before .before .before .before in
     let s = p .before .before .before in
+    let l = now (s .args .store) in
     rw (c .plain-at2 .ensures)
-    (parts-plain _ _ _ (p .parts-of .ensures) (c .before .before .i2 .given .1) (now (s .args .store)) (s .pre) (known p))
+    (parts-plain _ _ _ (p .parts-of .ensures) (c .before .before .i2 .given .1) l (s .pre) (known p))
 
 returns-4 : tie.Need-returns-4
 returns-4 c =

@@ -48,11 +48,13 @@ bounds c =
     let r = k .before .before .before .before in
     let s = r .before .before .before in
     let l = now (s .args .store) in
+    let d = k .credential-at .result in
     let h = k .before .loop-test .taken in
     record {
-      held = entry-small l (s .pre) seat _ _ (r .count-rows .ensures .seats) (k .credential-at .result .kind) _ _ _ (a .at .ensures)
+      held = entry-small l (s .pre) seat _ _ (r .count-rows .ensures .seats) (d .kind) _ _ _ (a .at .ensures)
           (c .before .when-linear .ensures);
-      inside = omega (arith, c .when-has .ensures, only-le (has (k .credential-at .result .interval) (s .args .minute)) (c .before .when-linear .result));
+      inside = let m = only-le (has (d .interval) (s .args .minute)) (c .before .when-linear .result) in
+          omega (arith, c .when-has .ensures);
       few = omega (arith, k .before .before .before .live-count .ensures, s .pre .bounded .live);
     }
 
@@ -82,8 +84,9 @@ add-placed c =
     let k = c .before .before .before .before .before .before .before in
     let b = bounds (c .before .before .before) in
     let d = c .before .before .before .before .before .before .before .before .before .loop .inv .1 .small in
+    let l = now (s .args .store) in
     let p =
-    entry-small (now (s .args .store)) (s .pre) place _ _ (r .count-rows .ensures .places) (k .credential-at .result .kind) _ _ _
+    entry-small l (s .pre) place _ _ (r .count-rows .ensures .places) (k .credential-at .result .kind) _ _ _
     (c .before .at2 .ensures) (c .when-linear2 .ensures) in
     omega arith
 
@@ -96,9 +99,8 @@ loop-again c =
     let r = at .before .before in
     let s = r .before .before .before in (
       search needs,
-      tally-next (now (s .args .store)) _ _ (s .pre) _ _ (r .count-rows .ensures) (k .credential-at .result) _ _ _ _ _ _ _ _ _
-          (k .credential-at .ensures) (a .at .ensures) (w .before .when-linear .ensures) (w .when-has .ensures)
-          (c .before .at2 .ensures) (c .when-linear2 .ensures) (at .loop .inv .1),
+      tally-next (now (s .args .store)) _ _ (s .pre) _ _ (r .count-rows .ensures) (k .credential-at .ensures)
+          (a .at .ensures) (w .before .when-linear .ensures) (w .when-has .ensures) (c .before .at2 .ensures) (c .when-linear2 .ensures) (at .loop .inv .1),
     )
 
 returns : tie.Need-returns Inv-loop μ-loop
