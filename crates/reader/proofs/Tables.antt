@@ -17,7 +17,7 @@ use Rattle.request.proofs.Gives.{Gives, nothing, just, gives-then}
 use Rattle.reader.specs.Field.{pick, ends, Stop, cut, strip, lookup}
 use Rattle.reader.specs.Line.{readLine}
 use Rattle.reader.proofs.Then.{then-then, then-same, then-none, then-given, by-test}
-use Rattle.reader.proofs.Cut.{atStop, line-cut, line-none, line-return, whole-none, stop-none, cut-stop}
+use Rattle.reader.proofs.Cut.{atStop, line-cut, line-same, line-none, line-return, whole-none, stop-none, cut-stop}
 
 abbrev pub Table : Type 0 → Type 0
 Table A = List (String × Reader A)
@@ -237,6 +237,11 @@ pub onward-comma : {A : Type 0} (r : Reader A) {e : ℕ} (b : List ℕ) → e �
 unfolding onward
 onward-comma r b q = rw (q, onward)
 
+pub onward-same : {A : Type 0} {r q : Reader A} → ((ts : List (List ℕ)) → r ts ≡ q ts)
+    → (e : ℕ) (b : List ℕ) → onward e r b ≡ onward e q b
+unfolding onward whole
+onward-same h e b = rw (line-same h b, h [])
+
 -- a reader that wants no field
 pub onward-end : {A : Type 0} (a : A) {e : ℕ} (b : List ℕ) → e ≡ 10 → onward e (return a) b ≡ some (a, b)
 unfolding onward whole return ended andThen
@@ -307,7 +312,7 @@ unfolding lookup
 no-key t ys n d [] h = refl
 no-key t ys n d (e ∷ es) h =
     let m : among (key (bytes (e .0))) ys ≡ true =
-        by-test (among (key (bytes (e .0))) ys) (λ q. q) (λ q. no-truth (rw q at h)) in
+    by-test (among (key (bytes (e .0))) ys) (λ q. q) (λ q. no-truth (rw q at h)) in
     by-test (sameBytes t (bytes (e .0)))
     (λ q. let f : key t ≡ key (bytes (e .0)) = ap key (same-text t (bytes (e .0)) q) in
     no-truth (sym (none-among (key t) ys n) ∙ rw f m))
