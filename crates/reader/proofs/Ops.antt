@@ -145,8 +145,8 @@ module _ (s : List ℕ) (i : ℕ) where
 
     pub step-fields : getD s (i + 2) 0 ≡ 44 → (k : ℕ) → op ≡ k
         → readLine stepLine (drop i s) ≡ readLine (stepReader k) (drop (i + 3) s)
-    step-fields e k p = step-at ∙ onward-comma _ (drop (i + 3) s) e ∙ ap
-    (λ x. readLine (stepReader x) (drop (i + 3) s)) p
+    step-fields e k p =
+        step-at ∙ onward-comma _ (drop (i + 3) s) e ∙ ap (λ x. readLine (stepReader x) (drop (i + 3) s)) p
 
     pub step-label : getD s (i + 2) 0 ≡ 44 → 9 ≤ op → (op ≡ 9 → ⊥) → op < 20
         → readLine stepLine (drop i s) ≡ readLine (labelReader op) (drop (i + 3) s)

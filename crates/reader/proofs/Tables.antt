@@ -17,7 +17,8 @@ use Rattle.request.proofs.Gives.{Gives, nothing, just, gives-then}
 use Rattle.reader.specs.Field.{pick, ends, Stop, cut, strip, lookup}
 use Rattle.reader.specs.Line.{readLine}
 use Rattle.reader.proofs.Then.{then-then, then-same, then-none, then-given, by-test}
-use Rattle.reader.proofs.Cut.{atStop, line-cut, line-same, line-none, line-return, whole-none, stop-none, cut-stop}
+use Rattle.reader.proofs.Cut.{atStop, line-cut, line-same, line-none, line-return, whole-none, stop-none}
+use Rattle.reader.proofs.Cut.{cut-stop}
 
 abbrev pub Table : Type 0 → Type 0
 Table A = List (String × Reader A)

@@ -27,18 +27,22 @@ stepRow op l h w i j = record { op = op; label = l; high = h; low = w; from = i;
 abbrev pub share : StepRow → ℕ
 share r = r .high * 4294967296 + r .low
 
+abbrev pub implies : StepRow → Step
+implies r = Step.ul (r .label) (span (r .from) (r .to))
+
 -- in the order of the steps' numbers, from 0
 abbrev pub makers : List (StepRow → Step)
 makers =
-    (λ r. Step.af) ∷ (λ r. Step.or) ∷ (λ r. Step.gr) ∷ (λ r. Step.p1) ∷ (λ r. Step.p2) ∷ (λ r. Step.br) ∷ (λ r. Step.hr) ∷
-    (λ r. Step.sr) ∷ (λ r. Step.wr) ∷ (λ r. Step.tr (share r)) ∷ (λ r. Step.ax (r .label)) ∷ (λ r. Step.cp (r .label)) ∷
-    (λ r. Step.ol (r .label)) ∷ (λ r. Step.w1 (r .label)) ∷ (λ r. Step.w2 (r .label)) ∷ (λ r. Step.bl (r .label)) ∷
-    (λ r. Step.hl (r .label)) ∷ (λ r. Step.sl (r .label)) ∷ (λ r. Step.tl (r .label)) ∷ (λ r. Step.pl (r .label)) ∷
-    (λ r. Step.ll (r .label) (share r) (span (r .from) (r .to))) ∷ (λ r. Step.ul (r .label) (span (r .from) (r .to))) ∷ []
+    (λ r. Step.af) ∷ (λ r. Step.or) ∷ (λ r. Step.gr) ∷ (λ r. Step.p1) ∷ (λ r. Step.p2) ∷ (λ r. Step.br) ∷
+    (λ r. Step.hr) ∷ (λ r. Step.sr) ∷ (λ r. Step.wr) ∷ (λ r. Step.tr (share r)) ∷
+    (λ r. Step.ax (r .label)) ∷ (λ r. Step.cp (r .label)) ∷ (λ r. Step.ol (r .label)) ∷ (λ r. Step.w1 (r .label)) ∷
+    (λ r. Step.w2 (r .label)) ∷ (λ r. Step.bl (r .label)) ∷ (λ r. Step.hl (r .label)) ∷ (λ r. Step.sl (r .label)) ∷
+    (λ r. Step.tl (r .label)) ∷ (λ r. Step.pl (r .label)) ∷
+    (λ r. Step.ll (r .label) (share r) (span (r .from) (r .to))) ∷ implies ∷ []
 
 -- the step of a row
 abbrev pub stepOf : StepRow → Step
-stepOf r = getD makers (r .op) (λ r. Step.af) r
+stepOf r = getD makers (r .op) implies r
 
 -- the steps' words, in the order of `stepLine`, with their numbers
 unfoldable pub ops : List (String × ℕ)

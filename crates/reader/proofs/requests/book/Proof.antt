@@ -56,7 +56,6 @@ book-spec =
     ∙ then-some _ (told (decimalOf _) (d .before .before .number3 .ensures) (d .d .given .1))
     ∙ then-no _ (told (decimalOf _) (c .before .before .number4 .ensures) (c .enum-told5 .given .1))))
     (λ c. let d = c .before .before .before .before in
-    let d = d in
     let e = d .before .before .before .before in
     let f = e .before .before .before .before in
     let g = f .before .before .before .before in

@@ -16,7 +16,6 @@ word-spec =
     (λ c. no-formula _ (told (formulaOf _) (c .before .before .formula-line .ensures) (c .enum-told .given .1)))
     (λ c. search needs)
     (λ c. let d = c .before .before .before .before in
-    let d = d in
     word-follow _ _ _ (told (formulaOf _) (d .formula-line .ensures) (c .before .before .f .given .1)) (c .if1 .taken))
     (λ c. let d = c .before .before .before .before in
     word-whole _ _ _ (told (formulaOf _) (d .formula-line .ensures) (c .before .before .f .given .1)) (c .if1 .left)))
