@@ -19,5 +19,11 @@ module _ (s : List ℕ) (i : ℕ) where
       let q : i + 1 + 1 ≡ i + 2 = omega arith in
       here (omega arith) ∙ rw (here-at s (i + 1) h, q)
 
+  pub here3 : i + 2 < length s
+      → drop i s ≡ getD s i 0 ∷ getD s (i + 1) 0 ∷ getD s (i + 2) 0 ∷ drop (i + 3) s
+  here3 h =
+      let q : i + 2 + 1 ≡ i + 3 = omega arith in
+      here2 (omega arith) ∙ rw (here-at s (i + 2) h, q)
+
   pub past : length s ≤ i → drop i s ≡ []
   past h = drop-of-length-le s {i = i} h

@@ -24,7 +24,7 @@ use Rattle.reader.proofs.Bytes.{here2}
 use Rattle.reader.proofs.Cut.{line-none, line-return, whole-none}
 use Rattle.reader.proofs.Shapes.{Shape, number-shape, interval-shape, both-last}
 use Rattle.reader.proofs.Tables.{inside, onward, onward-comma, onward-bare, onward-none, word-line, word-short}
-use Rattle.reader.proofs.Tables.{Others, no-key, no-field, one-other}
+use Rattle.reader.proofs.Tables.{onward-end, onward-on, Others, no-key, choose-lookup, no-field, one-other}
 
 -- Fields as a row
 
@@ -92,15 +92,12 @@ module _ (s : List ℕ) (i : ℕ) where
     -- `o`, which has no field
     pub letter-one : getD s i 0 ≡ 111 → getD s (i + 1) 0 ≡ 10
         → readLine formulaLine (drop i s) ≡ some (Line.one, drop (i + 2) s)
-    unfolding onward formulaLine choose named sameBytes bytes whole return ended andThen
-    letter-one q k = letter-line h ∙ rw (k, q)
+    unfolding formulaLine choose named sameBytes bytes
+    letter-one q k = letter-line h ∙ rw q (onward-end Line.one (drop (i + 2) s) k)
 
     pub letter-one-bare : getD s i 0 ≡ 111 → (getD s (i + 1) 0 ≡ 10 → ⊥) → readLine formulaLine (drop i s) ≡ none
-    unfolding onward formulaLine choose named sameBytes bytes
-    letter-one-bare q k = letter-line h ∙ by-test (eqb (getD s (i + 1) 0) 44)
-        (λ z. onward-comma _ (drop (i + 2) s) (eqb-true (getD s (i + 1) 0) 44 z)
-        ∙ rw q (line-return Line.one (drop (i + 2) s)))
-        (λ z. rw (z, ne-eqb (getD s (i + 1) 0) 10 k, onward))
+    unfolding formulaLine choose named sameBytes bytes
+    letter-one-bare q k = letter-line h ∙ rw q (onward-on Line.one (drop (i + 2) s) k)
 
     -- a letter of a line with fields, and no comma
     pub letter-bare : (getD s i 0 ≡ 111 → ⊥) → (getD s (i + 1) 0 ≡ 44 → ⊥) → readLine formulaLine (drop i s) ≡ none
@@ -131,8 +128,14 @@ module _ (s : List ℕ) (i : ℕ) where
         ))
 
     -- no letter of a formula line
+    letter-none : Others (getD s i 0) letters → (ts : List (List ℕ)) → formulaLine ((getD s i 0 ∷ []) ∷ ts) ≡ none
+    unfolding formulaLine bytes
+    letter-none n ts =
+        choose-lookup _ (getD s i 0 ∷ []) ts
+        ∙ ap (λ (r : Reader Line). r ts) (no-key (getD s i 0 ∷ []) letters n _ _ refl)
+
     pub letter-other : Others (getD s i 0) letters
         → readLine formulaLine (drop i s) ≡ none
     unfolding formulaLine bytes
     letter-other n =
-        letter-line h ∙ onward-none _ (λ ts. whole-none _ ts (no-key (getD s i 0 ∷ []) letters n _ refl ts)) _ _
+        letter-line h ∙ onward-none _ (λ ts. whole-none _ ts (letter-none n ts)) _ _

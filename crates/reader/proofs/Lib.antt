@@ -10,3 +10,4 @@ pub mod Shapes
 pub mod Tables
 pub mod Letters
 pub mod Heads
+pub mod Ops

@@ -89,6 +89,17 @@ pub set-shape : Shape labelSet (λ stop. fieldTo stop labelSetIn)
 unfolding labelSet
 set-shape = next-shape labelSetIn
 
+-- one field alone
+pub alone-shape : {A : Type 0} {r : Reader A} {p : ℕ → List ℕ → Option (A × List ℕ)} → Shape r p
+    → (b : List ℕ) → readLine r b ≡ p 10 b
+unfolding _>>=_ return andThen
+alone-shape {r} {p} d b =
+    line-same (λ ts. sym (again (r ts))) b ∙ d .last (λ a. a) b ∙ again (p 10 b)
+  where
+    again : {A B : Type 0} (o : Option (A × B)) → andThen o (λ x. some (x .0, x .1)) ≡ o
+    again none = refl
+    again (some x) = refl
+
 -- Two fields, one after the other
 
 module _ {A B : Type 0} {r : Reader A} {s : Reader B} {p : ℕ → List ℕ → Option (A × List ℕ)}

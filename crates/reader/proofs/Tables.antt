@@ -1,6 +1,6 @@
 -- Tables of words: the line of a word that the bytes begin with.
 use mathlib.Core.Path.{_≡_, refl, sym, ap, subst, _∙_}
-use mathlib.Core.List.{List, [], _∷_, _++_}
+use mathlib.Core.List.{List, [], _∷_, _++_, map}
 use mathlib.Core.Option.{Option, none, some}
 use mathlib.Core.Bool.{Bool, true, false, _||_, _&&_}
 use Prim.Native.Nat.{ℕ, _*_, _+_, _≤_, _<_}
@@ -12,12 +12,13 @@ use lib.ListN.{length, length-append}
 use borrow.Author.Tests.{eq-eqb, ne-eqb, eqb-true, eqb-false}
 use Rattle.logic.specs.Multiset.{Every}
 use Rattle.request.specs.Text.{bytes, sameBytes, andThen}
-use Rattle.request.specs.Reader.{Reader, named, choose, whole}
+use Rattle.request.specs.Reader.{Reader, return, named, choose, whole, ended}
 use Rattle.request.proofs.Gives.{Gives, nothing, just, gives-then}
-use Rattle.reader.specs.Field.{pick, ends, Stop, cut, strip}
+use Rattle.reader.specs.Field.{pick, ends, Stop, cut, strip, lookup}
 use Rattle.reader.specs.Line.{readLine}
 use Rattle.reader.proofs.Then.{then-then, then-same, then-none, then-given, by-test}
-use Rattle.reader.proofs.Cut.{atStop, line-cut, line-none, whole-none, stop-none, cut-stop}
+use Rattle.reader.proofs.Cut.{atStop, line-cut, line-same, line-none, line-return, whole-none, stop-none}
+use Rattle.reader.proofs.Cut.{cut-stop}
 
 abbrev pub Table : Type 0 → Type 0
 Table A = List (String × Reader A)
@@ -237,6 +238,21 @@ pub onward-comma : {A : Type 0} (r : Reader A) {e : ℕ} (b : List ℕ) → e �
 unfolding onward
 onward-comma r b q = rw (q, onward)
 
+pub onward-same : {A : Type 0} {r q : Reader A} → ((ts : List (List ℕ)) → r ts ≡ q ts)
+    → (e : ℕ) (b : List ℕ) → onward e r b ≡ onward e q b
+unfolding onward whole
+onward-same h e b = rw (line-same h b, h [])
+
+-- a reader that wants no field
+pub onward-end : {A : Type 0} (a : A) {e : ℕ} (b : List ℕ) → e ≡ 10 → onward e (return a) b ≡ some (a, b)
+unfolding onward whole return ended andThen
+onward-end a b q = rw (q, onward)
+
+pub onward-on : {A : Type 0} (a : A) {e : ℕ} (b : List ℕ) → (e ≡ 10 → ⊥) → onward e (return a) b ≡ none
+unfolding onward
+onward-on a {e} b n = by-test (eqb e 44) (λ q. rw (q, onward) (line-return a b))
+    (λ q. rw (q, ne-eqb e 10 n, onward))
+
 -- a reader that wants a field, where no comma follows the word
 pub onward-bare : {A : Type 0} (r : Reader A) {e : ℕ} (b : List ℕ) → (e ≡ 44 → ⊥) → r [] ≡ none → onward e r b ≡ none
 unfolding onward andThen
@@ -274,7 +290,7 @@ abbrev among : ℕ → List ℕ → Bool
 among x [] = false
 among x (y ∷ ys) = pick (eqb x y) true (among x ys)
 
-abbrev pub keyed : {A : Type 0} → List ℕ → Table A → Bool
+abbrev pub keyed : {A : Type 0} → List ℕ → List (String × A) → Bool
 keyed ys [] = true
 keyed ys (e ∷ es) = pick (among (key (bytes (e .0))) ys) (keyed ys es) false
 
@@ -291,14 +307,30 @@ same-text (x ∷ s) (y ∷ t) e = by-test (eqb x y)
     (λ q. rw (eqb-true x y q, same-text s t (rw (q, sameBytes) at e))) (λ q. no-truth (rw (q, sameBytes) at e))
 
 -- a text whose number is none of the words'
-pub no-key : {A : Type 0} (t : List ℕ) (ys : List ℕ) → Others (key t) ys → (table : Table A) → keyed ys table ≡ true
-    → (ts : List (List ℕ)) → choose table (t ∷ ts) ≡ none
-unfolding choose named
-no-key t ys n [] h ts = refl
-no-key t ys n (e ∷ es) h ts =
+pub no-key : {A : Type 0} (t : List ℕ) (ys : List ℕ) → Others (key t) ys → (d : A) (table : List (String × A))
+    → keyed ys table ≡ true → lookup table d t ≡ d
+unfolding lookup
+no-key t ys n d [] h = refl
+no-key t ys n d (e ∷ es) h =
     let m : among (key (bytes (e .0))) ys ≡ true =
     by-test (among (key (bytes (e .0))) ys) (λ q. q) (λ q. no-truth (rw q at h)) in
     by-test (sameBytes t (bytes (e .0)))
     (λ q. let f : key t ≡ key (bytes (e .0)) = ap key (same-text t (bytes (e .0)) q) in
     no-truth (sym (none-among (key t) ys n) ∙ rw f m))
-    (λ q. rw (q, named) (no-key t ys n es (rw m at h) ts))
+    (λ q. rw (q, lookup) (no-key t ys n d es (rw m at h)))
+
+-- a table of readers
+pub choose-lookup : {A : Type 0} (table : Table A) (t : List ℕ) (ts : List (List ℕ))
+    → choose table (t ∷ ts) ≡ lookup table (λ us. none) t ts
+unfolding choose named lookup
+choose-lookup [] t ts = refl
+choose-lookup (e ∷ es) t ts = by-test (sameBytes t (bytes (e .0))) (λ q. rw (q, named, lookup))
+    (λ q. rw (q, named, lookup) (choose-lookup es t ts))
+
+-- a table whose entries are named by others
+pub lookup-by : {A B : Type 0} (f : A → B) (table : List (String × A)) (d : A) (t : List ℕ)
+    → lookup (map (λ e. (e .0, f (e .1))) table) (f d) t ≡ f (lookup table d t)
+unfolding lookup
+lookup-by f [] d t = refl
+lookup-by f (e ∷ es) d t = by-test (sameBytes t (bytes (e .0))) (λ q. rw (q, lookup))
+    (λ q. rw (q, lookup) (lookup-by f es d t))

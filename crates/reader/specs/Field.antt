@@ -5,10 +5,11 @@ use mathlib.Core.List.{List, [], _∷_}
 use mathlib.Core.Option.{Option, none, some}
 use mathlib.Core.Bool.{Bool, true, false, _||_, _&&_}
 use Prim.Native.Nat.{ℕ, _+_, _≤_, _<_}
+use Prim.Native.String.{String}
 use lib.Dec.{eqb, leb}
 use lib.ListN.{length, drop}
 use Rattle.request.specs.Range.{Range, maxBytes}
-use Rattle.request.specs.Text.{andThen, reads, decimalDigit, hexDigit}
+use Rattle.request.specs.Text.{bytes, sameBytes, andThen, reads, decimalDigit, hexDigit}
 use Rattle.reader.specs.declared.Decimal.{Decimal}
 use Rattle.reader.specs.declared.Decimal.the-variants.{Number, Broken as NoNumber}
 use Rattle.reader.specs.declared.Labels.{Labels}
@@ -42,6 +43,11 @@ unfoldable pub strip : List ℕ → List ℕ → Option (List ℕ)
 strip [] b = some b
 strip (x ∷ w) [] = none
 strip (x ∷ w) (y ∷ b) = pick (eqb y x) (strip w b) none
+
+-- what a table has for a text, or else d
+unfoldable pub lookup : {A : Type 0} → List (String × A) → A → List ℕ → A
+lookup [] d t = d
+lookup (e ∷ es) d t = pick (sameBytes t (bytes (e .0))) (e .1) (lookup es d t)
 
 -- What an answer of the code says of the bytes s: the value, and the bytes from the position on
 

@@ -2,8 +2,10 @@
 // the types of its answers; numbers.rt reads fields, lines.rt lines, first.rt a request's first line, parts.rt the
 // lines after a booking's head.
 pub mod formulas;
+pub mod holds;
 pub mod numbers;
 pub mod requests;
+pub mod rows;
 
 use logic::Interval;
 use request::Kind;
@@ -56,5 +58,28 @@ pub enum First {
     Withdraw(u32),
     Tally(u32, u32),
     Book(Head),
+    Broken,
+}
+
+// A serial from a line `hold,serial`, and the position after its line end.
+pub enum HoldLine {
+    Serial(u32, u32),
+    Broken,
+}
+
+// A step line as a row of numbers: which step it is, its label, its set of labels (document 01: a share) in two halves,
+// its interval; 0 where a step has no such field.
+pub struct StepRow {
+    pub op: u32,
+    pub label: u32,
+    pub high: u32,
+    pub low: u32,
+    pub from: u32,
+    pub to: u32,
+}
+
+// A step line, and the position after its line end.
+pub enum StepLine {
+    Step(StepRow, u32),
     Broken,
 }
