@@ -11,8 +11,6 @@ use native.Mathlib.Omega.{arith}
 use Rattle.logic.specs.declared.Interval.{Interval}
 use Prim.Native.Char.{Char, code}
 use Rattle.logic.specs.Interval.{span, reversed}
-use Rattle.logic.specs.Formula.{plain}
-use Rattle.logic.specs.Counts.{balanced}
 use Rattle.request.specs.declared.Kind.{Kind}
 use Rattle.request.specs.declared.Kind.the-variants.{Linear, Unrestricted}
 use Rattle.request.specs.Range.{serial}
@@ -35,7 +33,7 @@ use Rattle.store.specs.Tab.{pick}
 use Rattle.figures.specs.declared.Figures.{Figures}
 use Rattle.figures.specs.Figures.{Tallied}
 use Rattle.till.specs.declared.tests.Verdict.{Verdict}
-use Rattle.till.specs.Handled.{Handled, fails, unfair, Issuable}
+use Rattle.till.specs.Handled.{Handled, fails, unfair, unfairNumber, Issuable}
 
 abbrev IsDone : Answer → Type 0
 IsDone (Accepted n) = Unit {0}
@@ -103,17 +101,12 @@ tally-done l s m f g e =
 pub room-free : {m n k : ℕ} → m ≡ n → m ≤ k → false ≡ leb maxLive (n - k)
 room-free {m} {n} {k} e l = sym (lt-leb maxLive (n - k) (omega arith))
 
--- the row of 20 or 21
-unfairNumber : Kind → ℕ
-unfairNumber Linear = 20
-unfairNumber Unrestricted = 21
-
 -- the checks of an issue, in one list for both kinds
 issue-checks : (t : Ledger) (k : Kind) (n : ℕ) (i : Interval)
     → readChecks t (some (issue k n i))
     ≡ (3 if any reversed (intervals (issue k n i))) ∷ (10 if missing t n)
     ∷ (unfairNumber k if unfair k (formula t n)) ∷ (22 if noRoom t 0) ∷ (23 if usedUp t) ∷ []
-unfolding checks unfairNumber
+unfolding checks
 issue-checks t Linear n i = refl
 issue-checks t Unrestricted n i = refl
 
@@ -137,6 +130,14 @@ module _ (l : List ℕ) (k : Kind) (n : ℕ) (i : Interval) where
   pub issue-missing : Good l → reversed i ≡ false → missing (ledgerOf l) n ≡ true
       → Handled l (issue k n i) (Refused 10 0) l
   issue-missing g s e = issue-refused 10 g (skip (if-false 3 _ (straight k n i s)) (hit (if-true 10 _ e)))
+
+  pub issue-unfair : Good l → reversed i ≡ false → missing (ledgerOf l) n ≡ false
+      → unfair k (formula (ledgerOf l) n) ≡ true → {c : ℕ} → c ≡ unfairNumber k
+      → Handled l (issue k n i) (Refused c 0) l
+  issue-unfair g s m e {c} q =
+      subst (λ (x : ℕ). Handled l (issue k n i) (Refused x 0) l) (sym q)
+      (issue-refused (unfairNumber k) g (skip (if-false 3 _ (straight k n i s)) (skip (if-false 10 _ m)
+      (hit (if-true (unfairNumber k) _ e)))))
 
   pub issue-full : Issuable l k n i → noRoom (ledgerOf l) 0 ≡ true → Handled l (issue k n i) (Refused 22 0) l
   issue-full p e =
@@ -172,21 +173,6 @@ module _ (l : List ℕ) (k : Kind) (n : ℕ) (i : Interval) where
     unused = ltb-false (serial .last) (ledgerOf l .next) u;
     there = leb-false (length (ledgerOf l .lines)) n (p .there);
   }
-
-pub issue-not-plain : (l : List ℕ) (n : ℕ) (i : Interval) → Good l → reversed i ≡ false → missing (ledgerOf l) n ≡ false
-    → not (plain (formula (ledgerOf l) n)) ≡ true → Handled l (issue Linear n i) (Refused 20 0) l
-unfolding unfairNumber
-issue-not-plain l n i g s m e =
-    issue-refused l Linear n i 20 g (skip (if-false 3 _ (straight Linear n i s)) (skip (if-false 10 _ m)
-    (hit (if-true 20 _ e))))
-
-pub issue-not-balanced : (l : List ℕ) (n : ℕ) (i : Interval) → Good l → reversed i ≡ false
-    → missing (ledgerOf l) n ≡ false → not (balanced (formula (ledgerOf l) n)) ≡ true
-    → Handled l (issue Unrestricted n i) (Refused 21 0) l
-unfolding unfairNumber
-issue-not-balanced l n i g s m e =
-    issue-refused l Unrestricted n i 21 g (skip (if-false 3 _ (straight Unrestricted n i s)) (skip (if-false 10 _ m)
-    (hit (if-true 21 _ e))))
 
 -- a test by its verdict
 pub by-verdict : {v w : Verdict} {b : Bool} → fails v ≡ b → v ≡ w → b ≡ fails w

@@ -3,20 +3,27 @@
 use mathlib.Core.Path.{_≡_}
 use mathlib.Core.List.{List}
 use mathlib.Core.Bool.{Bool, true, false, not}
-use Prim.Native.Nat.{ℕ}
+use Prim.Native.Nat.{ℕ, _≤_}
+use lib.ListN.{length}
 use Rattle.logic.specs.declared.Interval.{Interval}
 use Rattle.logic.specs.Interval.{reversed}
 use Rattle.logic.specs.Formula.{Formula, plain}
 use Rattle.logic.specs.Counts.{balanced}
 use Rattle.request.specs.declared.Kind.{Kind}
 use Rattle.request.specs.declared.Kind.the-variants.{Linear, Unrestricted}
+use Rattle.request.specs.Range.{maxBytes}
 use Rattle.request.specs.Request.{Request}
+use Rattle.request.specs.Read.{requestOf}
 use Rattle.ledger.specs.declared.Answer.{Answer}
 use Rattle.ledger.specs.declared.Answer.the-variants.{Refused}
 use Rattle.ledger.specs.Ledger.{formula}
 use Rattle.ledger.specs.Checks.{missing}
-use Rattle.ledger.specs.Calls.{handle}
+use Rattle.ledger.specs.Calls.{handle, call}
 use Rattle.store.specs.Store.{ledgerOf, Good}
+use Rattle.reader.specs.declared.Head.{Head}
+use Rattle.reader.specs.First.{BookIs}
+use Rattle.till.specs.declared.Reply.{Reply}
+use Rattle.till.specs.declared.Reply.the-variants.{Answered, Booking}
 use Rattle.till.specs.declared.tests.Verdict.{Verdict}
 use Rattle.till.specs.declared.tests.Verdict.the-variants.{Passed, Failed}
 
@@ -36,9 +43,30 @@ abbrev pub unfair : Kind → Formula → Bool
 unfair Linear a = not (plain a)
 unfair Unrestricted a = not (balanced a)
 
+abbrev pub unfairNumber : Kind → ℕ
+unfairNumber Linear = 20
+unfairNumber Unrestricted = 21
+
 -- an issue that has passed the checks before 22
 pub record Issuable (l : List ℕ) (k : Kind) (n : ℕ) (i : Interval) : Type 0 where
   pub good : Good l
   pub straight : reversed i ≡ false
   pub there : missing (ledgerOf l) n ≡ false
   pub fair : unfair k (formula (ledgerOf l) n) ≡ false
+
+-- What a call leaves, of bytes.
+pub record Called (l b : List ℕ) (a : Answer) (l′ : List ℕ) : Type 0 where
+  pub good : Good l′
+  pub answer : a ≡ call (ledgerOf l) b .answer
+  pub ledger : ledgerOf l′ ≡ call (ledgerOf l) b .ledger
+  pub same : (n k : ℕ) → a ≡ Refused n k → l′ ≡ l
+
+-- bytes within the length that begin as a booking; nothing is done yet
+pub record Pending (l b : List ℕ) (h : Head) (l′ : List ℕ) : Type 0 where
+  pub short : length b ≤ maxBytes
+  pub head : BookIs (requestOf b) b h
+  pub same : l′ ≡ l
+
+abbrev pub Replied : List ℕ → List ℕ → Reply → List ℕ → Type 0
+Replied l b (Answered a) l′ = Called l b a l′
+Replied l b (Booking h) l′ = Pending l b h l′

@@ -1,6 +1,8 @@
 // The calls (document 01: what the till answers): each checks a request in the paper's order and does what it says.
 use ledger::Answer;
 use logic::Interval;
+use reader::First;
+use reader::Head;
 use request::Kind;
 use steps::Row;
 use store::Found;
@@ -9,12 +11,17 @@ use tests::Verdict;
 
 mod tests;
 
+// What becomes of a sheet: its answer, or the head of a booking.
+pub enum Reply {
+    Answered(Answer),
+    Booking(Head),
+}
+
 ghost use mathlib.Core.Path.{_≡_};
-ghost use Rattle.request.specs.declared.Kind.the-variants.{Linear};
 ghost use Rattle.request.specs.Request.{word as wordRequest, issue as issueRequest, withdraw as withdrawRequest};
 ghost use Rattle.request.specs.Request.{tally as tallyRequest};
 ghost use Rattle.store.specs.Store.{lineOf, Canonical, Good};
-ghost use Rattle.till.specs.Handled.{Handled, Issuable};
+ghost use Rattle.till.specs.Handled.{Handled, Issuable, Replied};
 
 // Issue of a formula that has passed the checks before 22: 22, 23.
 fn issue_fair(till: &mut Store, kind: Kind, formula: u32, interval: Interval) -> Answer
@@ -34,10 +41,10 @@ fn issue_fair(till: &mut Store, kind: Kind, formula: u32, interval: Interval) ->
     Answer::Accepted(serial)
 }
 
-// Issue of a linear credential: 3, 10, 20, then as above.
-fn issue_linear(till: &mut Store, formula: u32, interval: Interval) -> Answer
+// Issue: 3, 10, 20 or 21 by the kind, then as above.
+pub fn issue(till: &mut Store, kind: Kind, formula: u32, interval: Interval) -> Answer
     requires { ⌜ Good (now till) ⌝ }
-    ensures { λ r. ⌜ Handled (now (till .entry)) (issueRequest Linear formula interval) r (now (till .exit)) ⌝ }
+    ensures { λ r. ⌜ Handled (now (till .entry)) (issueRequest kind formula interval) r (now (till .exit)) ⌝ }
 {
     let ordered = tests::ordered(interval);
     let Verdict::Passed = ordered else {
@@ -47,15 +54,15 @@ fn issue_linear(till: &mut Store, formula: u32, interval: Interval) -> Answer
     let Verdict::Passed = present else {
         return Answer::Refused(10, 0);
     };
-    let plain = tests::plainly(till, formula);
-    let Verdict::Passed = plain else {
-        return Answer::Refused(20, 0);
+    let fair = tests::fair(till, kind, formula);
+    let Verdict::Passed = fair else {
+        return Answer::Refused(tests::unfair_number(kind), 0);
     };
-    issue_fair(till, Kind::Linear, formula, interval)
+    issue_fair(till, kind, formula, interval)
 }
 
 // Word: 3, 10, 12, 13, 14.
-fn word(till: &mut Store, row: Row) -> Answer
+pub fn word(till: &mut Store, row: Row) -> Answer
     requires { ⌜ Good (now till) × Canonical row ⌝ }
     ensures { λ r. ⌜ Handled (now (till .entry)) (wordRequest (lineOf row)) r (now (till .exit)) ⌝ }
 {
@@ -106,4 +113,29 @@ pub fn tally(till: &Store, session: u32, minute: u32) -> Answer
 {
     let f = figures::tally(till, session, minute);
     Answer::Counted(f.open, f.shut, f.placed)
+}
+
+// The answer to a sheet that is not a booking: 1, 2, then the calls. A booking is left to `book`, with its head read.
+pub fn answer(till: &mut Store, sheet: &[u8]) -> Reply
+    requires { ⌜ Good (now till) ⌝ }
+    ensures { λ r. ⌜ Replied (now (till .entry)) (now (sheet .entry)) r (now (till .exit)) ⌝ }
+{
+    let short = tests::tested(16384 < sheet.len());
+    let Verdict::Passed = short else {
+        return Reply::Answered(Answer::Refused(1, 0));
+    };
+    let first = reader::requests::read_first(sheet);
+    match first {
+        First::Word(row) => Reply::Answered(word(till, row)),
+        First::Issue(kind, formula, interval) => Reply::Answered(issue(
+            till,
+            kind,
+            formula,
+            interval,
+        )),
+        First::Withdraw(serial) => Reply::Answered(withdraw(till, serial)),
+        First::Tally(session, minute) => Reply::Answered(tally(till, session, minute)),
+        First::Book(head) => Reply::Booking(head),
+        First::Broken => Reply::Answered(Answer::Refused(2, 0)),
+    }
 }

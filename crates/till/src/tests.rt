@@ -1,5 +1,6 @@
 // The tests of the checks, each answered by an enum.
 use logic::Interval;
+use request::Kind;
 use steps::Row;
 use store::Store;
 ghost use mathlib.Core.Path.{_≡_};
@@ -8,12 +9,13 @@ ghost use Prim.Native.Nat.{_<_};
 ghost use lib.ListN.{length};
 ghost use Rattle.logic.specs.Interval.{reversed};
 ghost use Rattle.logic.specs.Formula.{plain};
+ghost use Rattle.logic.specs.Counts.{balanced};
 ghost use Rattle.ledger.specs.Table.{names};
 ghost use Rattle.ledger.specs.Ledger.{formula};
 ghost use Rattle.request.specs.Request.{lineIntervals};
 ghost use Rattle.ledger.specs.Checks.{any, missing, noRoom, usedUp};
 ghost use Rattle.store.specs.Store.{lineOf, ledgerOf, Canonical, Good};
-ghost use Rattle.till.specs.Handled.{fails};
+ghost use Rattle.till.specs.Handled.{fails, unfair, unfairNumber};
 
 pub enum Verdict {
     Passed,
@@ -66,11 +68,40 @@ pub fn names_present(till: &Store, row: Row) -> Verdict
 }
 
 // 20: the formula is not plain.
-pub fn plainly(till: &Store, n: u32) -> Verdict
+fn plainly(till: &Store, n: u32) -> Verdict
     requires { ⌜ Good (now till) × (n < length (ledgerOf (now till) .lines)) ⌝ }
     ensures { λ r. ⌜ fails r ≡ not (plain (formula (ledgerOf (now (till .entry))) n)) ⌝ }
 {
     tested(!store::plain_at(till, n))
+}
+
+// 21: the formula is not balanced.
+fn balancedly(till: &Store, n: u32) -> Verdict
+    requires { ⌜ Good (now till) × (n < length (ledgerOf (now till) .lines)) ⌝ }
+    ensures { λ r. ⌜ fails r ≡ not (balanced (formula (ledgerOf (now (till .entry))) n)) ⌝ }
+{
+    tested(!figures::balanced(till, n))
+}
+
+// 20 or 21: the formula is not what an issue of this kind asks.
+pub fn fair(till: &Store, kind: Kind, n: u32) -> Verdict
+    requires { ⌜ Good (now till) × (n < length (ledgerOf (now till) .lines)) ⌝ }
+    ensures { λ r. ⌜ fails r ≡ unfair kind (formula (ledgerOf (now (till .entry))) n) ⌝ }
+{
+    match kind {
+        Kind::Linear => plainly(till, n),
+        Kind::Unrestricted => balancedly(till, n),
+    }
+}
+
+// The number of that check.
+pub fn unfair_number(kind: Kind) -> u32
+    ensures { λ r. ⌜ r ≡ unfairNumber kind ⌝ }
+{
+    match kind {
+        Kind::Linear => 20,
+        Kind::Unrestricted => 21,
+    }
 }
 
 // 22: live credentials, less the linear ones held, are 512 or more.

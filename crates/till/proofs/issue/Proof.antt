@@ -1,8 +1,8 @@
 use borrow.Author.Tests.{leb-false}
 use borrow.Author.Needs.{needs}
-use Rattle.till.proofs.Laws.{issue-reversed, issue-missing, issue-not-plain, by-verdict}
-use Rattle.till.proofs.issue_linear.Statement.{statement}
-use Rattle.till.proofs.issue_linear.Tie as tie
+use Rattle.till.proofs.Laws.{issue-reversed, issue-missing, issue-unfair, by-verdict}
+use Rattle.till.proofs.issue.Statement.{statement}
+use Rattle.till.proofs.issue.Tie as tie
 
 returns : tie.Need-returns
 returns c =
@@ -16,20 +16,22 @@ returns-2 c =
     (by-verdict (ordered .before .before .ordered .ensures) (ordered .enum-told .given .1))
     (by-verdict (c .before .before .present .ensures) (c .enum-told4 .given .1))
 
-plainly-requires : tie.Need-plainly-requires
-plainly-requires c κs =
+fair-requires : tie.Need-fair-requires
+fair-requires c κs =
     let present = c .before in
     let start = present .before .before .before .before .before .before .before in
     (start .pre, leb-false _ _ (by-verdict (present .before .before .present .ensures) (present .enum-told3 .given .1)))
 
 returns-3 : tie.Need-returns-3
 returns-3 c =
-    let present = c .before .before .before .before in
+    let unfair = c .before in
+    let present = unfair .before .before .before .before in
     let ordered = present .before .before .before .before in
-    issue-not-plain _ _ _ (ordered .before .before .before .pre)
+    issue-unfair _ _ _ _ (ordered .before .before .before .pre)
     (by-verdict (ordered .before .before .ordered .ensures) (ordered .enum-told .given .1))
     (by-verdict (present .before .before .present .ensures) (present .enum-told3 .given .1))
-    (by-verdict (c .before .before .plainly .ensures) (c .enum-told6 .given .1))
+    (by-verdict (unfair .before .before .fair .ensures) (unfair .enum-told6 .given .1))
+    (c .unfair-number .ensures)
 
 issue-fair-requires : tie.Need-issue-fair-requires
 issue-fair-requires c κs =
@@ -40,11 +42,11 @@ issue-fair-requires c κs =
       good = ordered .before .before .before .pre;
       straight = by-verdict (ordered .before .before .ordered .ensures) (ordered .enum-told .given .1);
       there = by-verdict (present .before .before .present .ensures) (present .enum-told3 .given .1);
-      fair = by-verdict (fair .before .before .plainly .ensures) (fair .enum-told5 .given .1);
+      fair = by-verdict (fair .before .before .fair .ensures) (fair .enum-told5 .given .1);
     }
 
-pub issue-linear-spec : {M : Type 1} → statement M
-issue-linear-spec =
+pub issue-spec : {M : Type 1} → statement M
+issue-spec =
     tie.close
     (tie.spec
     (λ c κs. search needs)
@@ -55,9 +57,10 @@ issue-linear-spec =
     (λ c. search needs)
     (λ c. search needs)
     returns-2
-    plainly-requires
+    fair-requires
     (λ c. search needs)
     (λ c. search needs)
+    (λ c κs. search needs)
     returns-3
     issue-fair-requires
     (λ c. c .issue-fair .ensures))

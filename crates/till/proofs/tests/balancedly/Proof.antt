@@ -1,0 +1,12 @@
+use mathlib.Core.Path.{_∙_}
+use borrow.Author.Needs.{needs}
+use Rattle.till.proofs.tests.balancedly.Statement.{statement}
+use Rattle.till.proofs.tests.balancedly.Tie as tie
+
+pub balancedly-spec : {M : Type 1} → statement M
+balancedly-spec =
+    tie.close
+    (tie.spec
+    (λ c κs. search needs)
+    (λ c κs. search needs)
+    (λ c. c .tested .ensures ∙ simp (c .before .balanced .ensures)))
