@@ -99,8 +99,10 @@ loop-again c =
     let r = at .before .before in
     let s = r .before .before .before in (
       search needs,
-      tally-next (now (s .args .store)) _ _ (s .pre) _ _ (r .count-rows .ensures) (k .credential-at .ensures)
-          (a .at .ensures) (w .before .when-linear .ensures) (w .when-has .ensures) (c .before .at2 .ensures) (c .when-linear2 .ensures) (at .loop .inv .1),
+      tally-next (now (s .args .store)) _ _ (s .pre) _ _ (r .count-rows .ensures)
+          (k .credential-at .ensures) (a .at .ensures) (w .before .when-linear .ensures)
+          (w .when-has .ensures) (c .before .at2 .ensures) (c .when-linear2 .ensures)
+          (at .loop .inv .1),
     )
 
 returns : tie.Need-returns Inv-loop μ-loop
