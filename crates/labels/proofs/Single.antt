@@ -14,7 +14,9 @@ use Rattle.labels.proofs.Sets.{only-member}
 -- no label: the empty set
 none : (f n : ℕ) → n ≤ f → ones n ≡ 0 → n ≡ 0
 none zero n le e = omega arith
-none (suc f) n le e = omega (arith, none f (n / 2) (omega (arith, ones-step n)) (omega (arith, ones-step n)), ones-step n)
+none (suc f) n le e =
+    let s = ones-step n in
+    omega (arith, none f (n / 2) (omega arith) (omega arith))
 
 just : (d k : ℕ) → ones d ≡ 1 → d ∋ k → d ≡ 2 ^ k
 just d k o h =

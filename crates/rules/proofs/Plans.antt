@@ -40,23 +40,18 @@ unfolding stepOf
 numbered s h e =
     rw (lt-leb 64 (s .label) h, stepOf) (ap (λ (k : ℕ). getD (inOrder (s .label) (s .share) (s .interval)) k noStep) e)
 
--- a number that is not the least comes after it
-from-next : (b k : ℕ) {n : ℕ} → b + k ≤ n → (n ≡ b + k → ⊥) → b + (k + 1) ≤ n
-from-next b k h d = omega (arith, d)
+-- n is none of k numbers from b on, as a match leaves it
+abbrev Others : ℕ → ℕ → ℕ → Type 0
+Others b zero n = Unit {0}
+Others b (suc k) n = Others b k n × (n ≡ b + k → ⊥)
 
-from-least : (b : ℕ) {n : ℕ} → b ≤ n → (n ≡ b → ⊥) → b + 1 ≤ n
-from-least b h d = omega (arith, d)
+beyond : (b k n : ℕ) → b ≤ n → Others b k n → b + k ≤ n
+beyond b zero n h o = omega arith
+beyond b (suc k) n h o = omega (arith, beyond b k n h (o .0), o .1)
 
-equal : {m n : ℕ} → m ≤ n → n ≤ m → n ≡ m
-equal h k = omega arith
-
--- the last of ten numbers, where it is none of the others
-pub tenth : (b : ℕ) {n : ℕ} → b ≤ n → n ≤ b + 9 → (n ≡ b → ⊥) → (n ≡ b + 1 → ⊥) → (n ≡ b + 2 → ⊥) → (n ≡ b + 3 → ⊥)
-    → (n ≡ b + 4 → ⊥) → (n ≡ b + 5 → ⊥) → (n ≡ b + 6 → ⊥) → (n ≡ b + 7 → ⊥) → (n ≡ b + 8 → ⊥) → n ≡ b + 9
-tenth b l m d₀ d₁ d₂ d₃ d₄ d₅ d₆ d₇ d₈ =
-    let h = from-next b 1 (from-least b l d₀) d₁ in
-    let i = from-next b 4 (from-next b 3 (from-next b 2 h d₂) d₃) d₄ in
-    equal (from-next b 8 (from-next b 7 (from-next b 6 (from-next b 5 i d₅) d₆) d₇) d₈) m
+-- the last of a group's ten numbers, where it is none of the others
+pub last : (b n : ℕ) → b ≤ n → n ≤ b + 9 → Others b 9 n → n ≡ b + 9
+last b n h l o = omega (arith, beyond b 9 n h o)
 
 -- what holds at 0 to k - 1 holds at each number below k
 abbrev Each : (ℕ → Type 0) → ℕ → Type 0

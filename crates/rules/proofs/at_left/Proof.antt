@@ -1,5 +1,5 @@
 use Rattle.steps.specs.Plans.{planOf, affirmed, left}
-use Rattle.rules.proofs.Plans.{when-and, when-refused, numbered, tenth}
+use Rattle.rules.proofs.Plans.{when-and, when-refused, numbered, last}
 use borrow.Author.Needs.{needs}
 use Rattle.rules.proofs.at_left.Statement.{statement}
 use Rattle.rules.proofs.at_left.Tie as tie
@@ -125,8 +125,7 @@ returns-11 : tie.Need-returns-11
 unfolding planOf left
 returns-11 c =
     let a = c .before .before .before .before .before .before .before in
-    let n = c .before .match .rest in
-    let e = tenth 12 (a .pre .least) (a .pre .most) (n .0 .0 .0 .0 .0 .0 .0 .0 .1) (n .0 .0 .0 .0 .0 .0 .0 .1) (n .0 .0 .0 .0 .0 .0 .1) (n .0 .0 .0 .0 .0 .1) (n .0 .0 .0 .0 .1) (n .0 .0 .0 .1) (n .0 .0 .1) (n .0 .1) (n .1) in
+    let e = last 12 _ (a .pre .least) (a .pre .most) (c .before .match .rest) in
     rw (numbered (a .args .s) (a .pre .label) e, when-and)
     (simp (
       c .ul .ensures,

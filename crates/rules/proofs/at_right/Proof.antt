@@ -1,6 +1,6 @@
 use mathlib.Core.Path.{_∙_}
 use Rattle.steps.specs.Plans.{planOf, right}
-use Rattle.rules.proofs.Plans.{numbered, tenth}
+use Rattle.rules.proofs.Plans.{numbered, last}
 use borrow.Author.Needs.{needs}
 use Rattle.rules.proofs.at_right.Statement.{statement}
 use Rattle.rules.proofs.at_right.Tie as tie
@@ -72,8 +72,7 @@ returns-10 : tie.Need-returns-10
 unfolding planOf right
 returns-10 c =
     let a = c .before .before .before .before .before in
-    let n = c .before .before .before .match .rest in
-    let e = tenth 1 (a .pre .least) (a .pre .most) (n .0 .0 .0 .0 .0 .0 .0 .0 .1) (n .0 .0 .0 .0 .0 .0 .0 .1) (n .0 .0 .0 .0 .0 .0 .1) (n .0 .0 .0 .0 .0 .1) (n .0 .0 .0 .0 .1) (n .0 .0 .0 .1) (n .0 .0 .1) (n .0 .1) (n .1) in
+    let e = last 1 _ (a .pre .least) (a .pre .most) (c .before .before .before .match .rest) in
     rw (numbered (a .args .s) (a .pre .label) e)
     (c .ax .ensures
     ∙ simp (

@@ -11,7 +11,9 @@ returns c = c .one-row .ensures ∙ rw (le-ltb _ _ (c .before .if1 .taken), rowA
 
 returns-2 : tie.Need-returns-2
 unfolding rowAt
-returns-2 c = c .one-row2 .ensures ∙ rw (lt-ltb _ _ (c .before .before .if1 .left), le-ltb _ _ (c .before .if2 .taken), rowAt)
+returns-2 c =
+    c .one-row2 .ensures
+    ∙ rw (lt-ltb _ _ (c .before .before .if1 .left), le-ltb _ _ (c .before .if2 .taken), rowAt)
 
 returns-3 : tie.Need-returns-3
 unfolding rowAt
