@@ -1,3 +1,4 @@
 pub mod Sets
 pub mod Permutations
 pub mod Pick
+pub mod Single

@@ -1,0 +1,116 @@
+// The rules: what a step does at a sequent, as a plan. Nothing here calls itself.
+use logic::Interval;
+use steps::Fresh;
+use steps::Goal;
+use steps::Plan;
+use steps::Sequent;
+use tables::StepRow;
+use tables::held;
+use tables::rows;
+
+mod left;
+mod make;
+mod right;
+
+ghost use mathlib.Core.Path.{_≡_};
+ghost use Rattle.labels.specs.Labels.{member};
+ghost use Rattle.steps.specs.Plans.{when, planOf};
+ghost use Rattle.tables.specs.Rows.{rowAt};
+ghost use Rattle.tables.specs.Held.{heldAt};
+ghost use Rattle.tables.specs.Lines.{stepOf};
+ghost use Rattle.rules.specs.Among.{Among};
+
+// The right steps and `ax`, at the goal of formula n at i.
+fn at_right(
+    store: &[u32; 3964],
+    table: &[u32; 192],
+    q: Sequent,
+    n: u32,
+    i: Interval,
+    s: StepRow,
+) -> Plan
+    requires { ⌜ Among 1 10 s ⌝ }
+    ensures { λ r. ⌜ r ≡ planOf (rowAt (now (store .entry))) (heldAt (now (table .entry))) (q .unrestricted)
+        (q .linear) (Goal.Holds n i) (stepOf s) ⌝ }
+{
+    let x = rows::row_at(store, n);
+    let d = q.linear;
+    let op = s.op;
+    match op {
+        1 => right::or(d, x),
+        2 => right::gr(d, x),
+        3 => right::p1(d, x, i),
+        4 => right::p2(d, x, i),
+        5 => right::br(d, x, i),
+        6 => right::hr(d, x),
+        7 => right::sr(d, x, i),
+        8 => right::wr(d, x, i),
+        9 => right::tr(d, x, i, s.share),
+        _ => {
+            let h = held::held_at(table, s.label);
+            right::ax(d, x, i, s.label, h, rows::row_at(store, h.formula))
+        }
+    }
+}
+
+// The left steps, but for the test that the label is in D.
+fn at_left(store: &[u32; 3964], table: &[u32; 192], q: Sequent, s: StepRow) -> Plan
+    requires { ⌜ Among 12 21 s ⌝ }
+    ensures { λ r. ⌜ when (member (q .linear) (s .label)) r ≡ planOf (rowAt (now (store .entry)))
+        (heldAt (now (table .entry))) (q .unrestricted) (q .linear) (q .goal) (stepOf s) ⌝ }
+{
+    let h = held::held_at(table, s.label);
+    let x = rows::row_at(store, h.formula);
+    let d = labels::remove(q.linear, s.label);
+    let g = q.goal;
+    let i = h.interval;
+    let j = s.interval;
+    let op = s.op;
+    match op {
+        12 => left::ol(d, g, x),
+        13 => left::w1(d, g, x, i),
+        14 => left::w2(d, g, x, i),
+        15 => left::bl(d, g, x, i),
+        16 => left::hl(d, g, x),
+        17 => match g {
+            Goal::Holds(_, _) => Plan::Refused,
+            Goal::Affirms(k, _, v) => left::sl(d, g, x, i, k, v),
+        },
+        18 => left::tl(d, g, x, i),
+        19 => left::pl(d, g, x, i),
+        20 => left::ll(d, g, x, i, s.share, j),
+        _ => left::ul(d, g, x, i, j),
+    }
+}
+
+// What a step does at a sequent (document 01: the table of steps).
+pub fn rule(store: &[u32; 3964], table: &[u32; 192], q: Sequent, s: StepRow) -> Plan
+    ensures { λ r. ⌜ r ≡ planOf (rowAt (now (store .entry))) (heldAt (now (table .entry))) (q .unrestricted)
+        (q .linear) (q .goal) (stepOf s) ⌝ }
+{
+    if 64 <= s.label {
+        return Plan::Refused;
+    }
+    let g = q.goal;
+    let op = s.op;
+    match op {
+        0 => match g {
+            Goal::Holds(_, _) => Plan::Refused,
+            Goal::Affirms(_, n, i) => Plan::One(make::premise(
+                q.linear,
+                Goal::Holds(n, i),
+                Fresh::Nothing,
+            )),
+        },
+        1..=10 => match g {
+            Goal::Holds(n, i) => at_right(store, table, q, n, i, s),
+            Goal::Affirms(_, _, _) => Plan::Refused,
+        },
+        11 => left::cp(q, s.label, held::held_at(table, s.label)),
+        12..=21 => make::when(
+            labels::member(q.linear, s.label),
+            at_left(store, table, q, s),
+        ),
+        _ => Plan::Refused,
+    }
+}

@@ -1,0 +1,14 @@
+use Rattle.tables.specs.Held.{heldAt}
+use borrow.Author.Needs.{needs}
+use Rattle.tables.proofs.held.held_at.Statement.{statement}
+use Rattle.tables.proofs.held.held_at.Tie as tie
+
+returns : tie.Need-returns
+unfolding heldAt
+returns c = search needs
+
+pub held-at-spec : {M : Type 1} → statement M
+held-at-spec =
+    tie.close
+    (tie.spec (λ c. search needs) (λ c. search needs) (λ c. search needs) (λ c. search needs) (λ c. search needs)
+    (λ c. search needs) (λ c. search needs) (λ c. search needs) (λ c. search needs) returns)

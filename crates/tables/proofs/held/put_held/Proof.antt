@@ -1,0 +1,16 @@
+use native.Mathlib.Numerals.{add-one}
+use Rattle.tables.specs.Held.{putHeld}
+use Rattle.tables.proofs.Cells.{add-two}
+use borrow.Author.Needs.{needs}
+use Rattle.tables.proofs.held.put_held.Statement.{statement}
+use Rattle.tables.proofs.held.put_held.Tie as tie
+
+returns : tie.Need-returns
+unfolding putHeld
+returns c = simp (add-one, add-two)
+
+pub put-held-spec : {M : Type 1} → statement M
+put-held-spec =
+    tie.close
+    (tie.spec (λ c. search needs) (λ c. search needs) (λ c. search needs) (λ c. search needs) (λ c. search needs)
+    (λ c. search needs) (λ c. search needs) (λ c. search needs) (λ c. search needs) returns)

@@ -1,0 +1,19 @@
+use native.Mathlib.Numerals.{add-one}
+use Rattle.tables.specs.Lines.{putStepRow}
+use Rattle.tables.proofs.Cells.{add-two, add-three, add-four, add-five}
+use borrow.Author.Needs.{needs}
+use Rattle.tables.proofs.lines.put_step.Statement.{statement}
+use Rattle.tables.proofs.lines.put_step.Tie as tie
+
+returns : tie.Need-returns
+unfolding putStepRow
+returns c = simp (add-one, add-two, add-three, add-four, add-five, c .low .ensures, c .before .high .ensures)
+
+pub put-step-spec : {M : Type 1} → statement M
+put-step-spec =
+    tie.close
+    (tie.spec (λ c. search needs) (λ c κs. search needs) (λ c κs. search needs) (λ c. search needs)
+    (λ c. search needs) (λ c. search needs) (λ c. search needs) (λ c. search needs) (λ c. search needs)
+    (λ c. search needs) (λ c. search needs) (λ c. search needs) (λ c. search needs) (λ c. search needs)
+    (λ c. search needs) (λ c. search needs) (λ c. search needs) (λ c. search needs) (λ c. search needs)
+    (λ c. search needs) returns)

@@ -1,0 +1,16 @@
+use Rattle.tables.specs.Lines.{stepRowAt}
+use borrow.Author.Needs.{needs}
+use Rattle.tables.proofs.lines.step_at.Statement.{statement}
+use Rattle.tables.proofs.lines.step_at.Tie as tie
+
+returns : tie.Need-returns
+unfolding stepRowAt
+returns c = simp (c .before .before .joined .ensures)
+
+pub step-at-spec : {M : Type 1} → statement M
+step-at-spec =
+    tie.close
+    (tie.spec (λ c. search needs) (λ c. search needs) (λ c. search needs) (λ c. search needs) (λ c. search needs)
+    (λ c. search needs) (λ c. search needs) (λ c. search needs) (λ c. search needs) (λ c. search needs)
+    (λ c. search needs) (λ c. search needs) (λ c κs. search needs) (λ c. search needs) (λ c. search needs)
+    (λ c. search needs) (λ c. search needs) (λ c. search needs) (λ c. search needs) returns)
