@@ -18,7 +18,7 @@ use Rattle.ledger.specs.Checks.{any}
 use Rattle.reader.specs.declared.StepRow.{StepRow}
 use Rattle.reader.specs.Field.{pick}
 use Rattle.reader.specs.Step.{stepRow, makers, implies, stepOf, rowAt, putRow, stepsAt, turned}
-use Rattle.reader.proofs.Then.{by-test}
+use Rattle.reader.proofs.Then.{by-test, or-false, or-true}
 
 -- A row that was written
 
@@ -96,14 +96,6 @@ unfolding stepsAt
 steps-next t k r h = sym (rw (add-one, stepsAt, steps-below t k r k (omega arith), put-same t k r h))
 
 -- Reversed intervals
-
-or-false : (b : Bool) → (b || false) ≡ b
-or-false true = refl
-or-false false = refl
-
-or-true : (b : Bool) → (b || true) ≡ true
-or-true true = refl
-or-true false = refl
 
 any-append : {A : Type 0} (f : A → Bool) (xs ys : List A) → any f (xs ++ ys) ≡ (any f xs || any f ys)
 unfolding any

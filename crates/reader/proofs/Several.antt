@@ -44,7 +44,8 @@ module _ {A : Type 0} (r : Reader A) where
   lines-turn n k b {a} {c} h e xs =
       let q : n - k ≡ suc (n - (k + 1)) = omega arith in
       rw (q, readLines, e, andThen) (then-then (readLines (n - (k + 1)) r c) _ _
-      ∙ then-same (readLines (n - (k + 1)) r c) (λ p. ap (λ (ys : List A). some (ys, p .1)) (sym (append-assoc xs (a ∷ []) (p .0)))))
+      ∙ then-same (readLines (n - (k + 1)) r c) (λ p.
+      ap (λ (ys : List A). some (ys, p .1)) (sym (append-assoc xs (a ∷ []) (p .0)))))
 
   pub lines-broken : (n k : ℕ) (b : List ℕ) → k < n → readLine r b ≡ none → (xs : List A)
       → prefixed xs (readLines (n - k) r b) ≡ none
@@ -70,7 +71,8 @@ many-lines : {A B : Type 0} (r : Reader A) (n : ℕ) (k : List A → Reader B) (
 unfolding many readLines whole return _>>=_ andThen
 many-lines r zero k b = refl
 many-lines {A} {B} r (suc n) k b =
-    then-same (lines b) (λ ts. ap (λ (o : Option (B × List (List ℕ))). andThen o (λ x. ended (x .0) (x .1))) (grouped ts))
+    then-same (lines b) (λ ts.
+    ap (λ (o : Option (B × List (List ℕ))). andThen o (λ x. ended (x .0) (x .1))) (grouped ts))
     ∙ lines-then r (λ a. many n (line r) >>= (λ more. k (a ∷ more))) b
     ∙ then-same (readLine r b) (λ p. many-lines r n (λ more. k (p .0 ∷ more)) (p .1))
     ∙ sym (then-pair (readLine r b) (λ p. readLines n r (p .1)) (λ p q. (p .0 ∷ q .0, q .1))

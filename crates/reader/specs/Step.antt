@@ -92,8 +92,8 @@ holdsOf s count serials NoHolds = none
 
 unfoldable pub rowAt : List ℕ → ℕ → StepRow
 rowAt t k =
-    stepRow (getD t (k * 6) 0) (getD t (k * 6 + 1) 0) (getD t (k * 6 + 2) 0) (getD t (k * 6 + 3) 0) (getD t (k * 6 + 4) 0)
-    (getD t (k * 6 + 5) 0)
+    stepRow (getD t (k * 6) 0) (getD t (k * 6 + 1) 0) (getD t (k * 6 + 2) 0) (getD t (k * 6 + 3) 0)
+    (getD t (k * 6 + 4) 0) (getD t (k * 6 + 5) 0)
 
 unfoldable pub putRow : List ℕ → ℕ → StepRow → List ℕ
 putRow t k r =

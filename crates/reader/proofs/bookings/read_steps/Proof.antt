@@ -3,7 +3,8 @@ use Prim.Native.Nat.{_-_}
 use borrow.Author.Needs.{needs}
 use Rattle.reader.specs.Step.{stepLineOf}
 use Rattle.reader.proofs.Then.{told}
-use Rattle.reader.proofs.Reading.{Reading, first-reading, no-step, next-reading, more-bytes, in-order, some-reversed}
+use Rattle.reader.proofs.Reading.{Reading, first-reading, no-step, next-reading, more-bytes, in-order}
+use Rattle.reader.proofs.Reading.{some-reversed}
 use Rattle.reader.proofs.bookings.read_steps.Statement.{statement}
 use Rattle.reader.proofs.bookings.read_steps.Tie as tie
 

@@ -8,7 +8,8 @@ use Rattle.request.specs.Read.{holdLine}
 use Rattle.reader.specs.Line.{readLines}
 use Rattle.reader.specs.Step.{holdOf}
 use Rattle.reader.proofs.Then.{told}
-use Rattle.reader.proofs.Several.{prefixed, lines-begin, lines-end, lines-turn, lines-broken, take-next, take-here}
+use Rattle.reader.proofs.Several.{prefixed, lines-begin, lines-end, lines-turn, lines-broken}
+use Rattle.reader.proofs.Several.{take-next, take-here}
 use Rattle.reader.proofs.holds.read_holds.Statement.{statement}
 use Rattle.reader.proofs.holds.read_holds.Tie as tie
 
