@@ -1,7 +1,7 @@
 -- Rows of six numbers: what is written is read, and the steps that rows hold; which of their intervals are reversed.
 use mathlib.Core.Path.{_≡_, refl, sym, ap, subst, _∙_}
 use mathlib.Core.List.{List, [], _∷_, _++_, append-assoc, append-nil}
-use mathlib.Core.Bool.{Bool, true, false, _||_}
+use mathlib.Core.Bool.{Bool, _||_}
 use Prim.Native.Nat.{ℕ, zero, suc, _+_, _*_, _≤_, _<_}
 use native.Mathlib.Omega.{arith}
 use native.Mathlib.Numerals.{add-one}
@@ -9,8 +9,7 @@ use native.Mathlib.Nat.{add-zero}
 use lib.Dec.{eqb, ltb}
 use lib.ListN.{length, getD, take, drop, set, length-set, length-drop, List·getD-eq-default}
 use lib.Seq.{getD-drop, getD-take, drop-set-add, take-set-le}
-use borrow.Author.Tests.{eqb-true, eqb-false, lt-ltb, le-ltb, ltb-true, ltb-false}
-use Rattle.logic.specs.declared.Interval.{Interval}
+use borrow.Author.Tests.{eqb-true, eqb-false, lt-ltb, ltb-true, ltb-false}
 use Rattle.logic.specs.Interval.{span, reversed}
 use Rattle.logic.specs.Multiset.{Every}
 use Rattle.request.specs.Request.{Step, stepIntervals, stepsIntervals}

@@ -2,8 +2,8 @@
 use mathlib.Core.Path.{_≡_, refl, sym, ap, _∙_}
 use mathlib.Core.List.{List, [], _∷_}
 use mathlib.Core.Option.{Option, none, some}
-use mathlib.Core.Bool.{Bool, true, false, _||_, _&&_}
-use mathlib.Core.Logic.{_⊎_, inl, inr}
+use mathlib.Core.Bool.{Bool, true, false, _||_}
+use mathlib.Core.Logic.{inl, inr}
 use Prim.Native.Nat.{ℕ, _+_, _≤_, _<_}
 use native.Mathlib.Omega.{arith}
 use lib.Dec.{eqb, ltb}
@@ -12,17 +12,17 @@ use lib.ListN.{length, getD, drop, length-drop}
 use Rattle.logic.specs.Interval.{reversed}
 use Rattle.request.specs.Range.{formulaNumber, _‥_}
 use Rattle.request.specs.Text.{bytes, sameBytes, andThen, numberIn}
-use Rattle.request.specs.Reader.{Reader, return, _>>=_, next, named, choose, whole, ended}
+use Rattle.request.specs.Reader.{Reader, return, _>>=_, next, named, choose}
 use Rattle.request.specs.Request.{Line, lineIntervals}
 use Rattle.request.specs.Read.{number, interval, part, parts, formulaLine}
 use Rattle.steps.specs.declared.Row.{Row}
 use Rattle.ledger.specs.Table.{rowOf}
 use Rattle.ledger.specs.Checks.{any}
-use Rattle.reader.specs.Field.{pick, ends, fieldTo}
+use Rattle.reader.specs.Field.{pick, fieldTo}
 use Rattle.reader.specs.Line.{readLine, row, oneField, twoFields, atFields, supersetFields, rowed}
-use Rattle.reader.proofs.Then.{then-then, then-same, then-pair, by-test, or-false}
+use Rattle.reader.proofs.Then.{then-then, then-same, then-pair, or-false}
 use Rattle.reader.proofs.Bytes.{here2}
-use Rattle.reader.proofs.Cut.{line-none, line-return, whole-none}
+use Rattle.reader.proofs.Cut.{whole-none}
 use Rattle.reader.proofs.Shapes.{Shape, number-shape, interval-shape, both-last}
 use Rattle.reader.proofs.Tables.{inside, onward, onward-comma, onward-bare, onward-none, word-line, word-short}
 use Rattle.reader.proofs.Tables.{onward-end, onward-on, Others, no-key, choose-lookup, no-field, one-other}

@@ -1,16 +1,15 @@
 -- Reading the step lines of a booking: what holds before each line, and after the last.
-use mathlib.Core.Path.{_≡_, refl, sym, ap, _∙_}
-use mathlib.Core.List.{List, [], _∷_}
-use mathlib.Core.Option.{Option, none, some}
+use mathlib.Core.Path.{_≡_, refl, _∙_}
+use mathlib.Core.List.{List}
+use mathlib.Core.Option.{none, some}
 use mathlib.Core.Bool.{true, false}
-use Prim.Native.Nat.{ℕ, _+_, _-_, _*_, _≤_, _<_}
+use Prim.Native.Nat.{ℕ, _+_, _-_, _≤_, _<_}
 use native.Mathlib.Omega.{arith}
-use lib.Dec.{eqb, ltb}
+use lib.Dec.{ltb}
 use lib.ListN.{length, drop, length-drop}
 use borrow.Author.Tests.{lt-ltb, eq-eqb, ne-eqb}
 use Rattle.logic.specs.Interval.{reversed}
-use Rattle.request.specs.Text.{andThen}
-use Rattle.request.specs.Request.{Step, stepsIntervals}
+use Rattle.request.specs.Request.{stepsIntervals}
 use Rattle.request.specs.Read.{stepLine}
 use Rattle.ledger.specs.Checks.{any}
 use Rattle.reader.specs.declared.StepRow.{StepRow}

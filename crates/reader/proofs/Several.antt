@@ -18,7 +18,7 @@ use Rattle.reader.specs.declared.Head.{Head}
 use Rattle.reader.specs.Field.{pick}
 use Rattle.reader.specs.Line.{readLine, readLines, allLines}
 use Rattle.reader.specs.First.{bookingFrom}
-use Rattle.reader.proofs.Then.{then-then, then-same, then-some, then-no, then-pair}
+use Rattle.reader.proofs.Then.{then-then, then-same, then-pair}
 use Rattle.reader.proofs.Split.{lines-then, lines-several}
 
 -- lines before others
