@@ -1,17 +1,17 @@
 -- A decimal number, a digit at a time.
-use mathlib.Core.Path.{_≡_, refl, sym, ap, _∙_}
+use mathlib.Core.Path.{_≡_, refl, ap, _∙_}
 use mathlib.Core.List.{List, [], _∷_}
 use mathlib.Core.Option.{Option, none, some}
-use mathlib.Core.Bool.{Bool, true, false, _&&_}
+use mathlib.Core.Bool.{false, _&&_}
 use Prim.Native.Nat.{ℕ, _+_, _*_, _-_, _≤_, _<_}
 use native.Mathlib.Omega.{arith}
 use lib.Dec.{eqb, leb}
 use borrow.Author.Tests.{eq-eqb, ne-eqb, eqb-true, eqb-false, le-leb, lt-leb}
 use Rattle.logic.proofs.Tests.{and-decides, le-decides}
-use Rattle.request.specs.Range.{Range, _‥_}
+use Rattle.request.specs.Range.{Range}
 use Rattle.request.specs.Text.{andThen, reads, decimalDigit, decimal, numberIn}
 use Rattle.request.proofs.Gives.{Gives, nothing, just, given, gives-then, gives-so, gives-if}
-use Rattle.reader.specs.Field.{DigitIs, pick, ends, Stop, fieldTo, more, within, moreIn}
+use Rattle.reader.specs.Field.{DigitIs, ends, Stop, fieldTo, more, within, moreIn}
 use Rattle.reader.proofs.Then.{by-test}
 use Rattle.reader.proofs.Fields.{field-end, field-stop, field-on, field-no, digit-inside}
 

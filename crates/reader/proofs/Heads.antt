@@ -2,8 +2,8 @@
 use mathlib.Core.Path.{_≡_, refl, sym, ap, subst, _∙_}
 use mathlib.Core.List.{List, [], _∷_}
 use mathlib.Core.Option.{Option, none, some}
-use mathlib.Core.Bool.{Bool, true, false, _||_, _&&_}
-use Prim.Native.Nat.{ℕ, _+_, _≤_, _<_}
+use mathlib.Core.Bool.{true}
+use Prim.Native.Nat.{ℕ, _≤_, _<_}
 use Prim.Native.String.{String}
 use native.Mathlib.Omega.{arith}
 use lib.Dec.{eqb}
@@ -13,20 +13,20 @@ use Rattle.request.specs.declared.Kind.{Kind}
 use Rattle.request.specs.declared.Kind.the-variants.{Linear, Unrestricted}
 use Rattle.request.specs.Range.{Range, minute, formulaNumber, serial, session, holds, steps}
 use Rattle.request.specs.Text.{bytes, sameBytes, andThen, lines, numberIn}
-use Rattle.request.specs.Reader.{Reader, return, _>>=_, next, named, choose, whole, ended}
+use Rattle.request.specs.Reader.{return, _>>=_, next, named, choose, whole, ended}
 use Rattle.request.specs.Request.{Line, Request, word, issue, withdraw, tally}
 use Rattle.request.specs.Read.{number, interval, kind, formulaLine, firstLine, bookLine, rest, alone, booking}
 use Rattle.request.specs.Read.{requestOf, Head as FirstLine}
 use Rattle.request.specs.InRange.{_∈_, IntervalInRange}
-use Rattle.request.proofs.Gives.{Gives, nothing, just, given, gives-then, gives-so}
+use Rattle.request.proofs.Gives.{Gives, nothing, just, given, gives-then}
 use Rattle.request.proofs.Digits.{number-only}
 use Rattle.steps.specs.declared.Row.{Row}
 use Rattle.ledger.specs.Table.{rowOf}
-use Rattle.reader.specs.Field.{pick, ends, cut, fieldTo, strip}
-use Rattle.reader.specs.Line.{split, readLine, requestFrom, intervalTo, rowed}
+use Rattle.reader.specs.Field.{fieldTo, strip}
+use Rattle.reader.specs.Line.{readLine, requestFrom, intervalTo, rowed}
 use Rattle.reader.specs.First.{after, issueFields, WordIs, FirstIs}
 use Rattle.reader.specs.declared.First.{First}
-use Rattle.reader.proofs.Then.{then-then, then-same, then-some, then-no, by-test}
+use Rattle.reader.proofs.Then.{then-same, then-some, then-no, by-test}
 use Rattle.reader.proofs.Bytes.{here, past}
 use Rattle.reader.proofs.Split.{lines-several, request-first}
 use Rattle.reader.proofs.Cut.{line-same, line-map, gives-pick, cut-stop}

@@ -2,26 +2,27 @@
 use mathlib.Core.Path.{_≡_, refl, sym, ap, _∙_}
 use mathlib.Core.List.{List, [], _∷_}
 use mathlib.Core.Option.{Option, none, some}
-use mathlib.Core.Bool.{true, false, _||_, _&&_}
-use mathlib.Core.Logic.{_⊎_, inl, inr}
+use mathlib.Core.Bool.{Bool, true, false, _||_}
+use mathlib.Core.Logic.{inl, inr}
 use Prim.Native.Nat.{ℕ, _+_, _≤_, _<_}
 use native.Mathlib.Omega.{arith}
-use lib.Dec.{eqb}
-use borrow.Author.Tests.{eqb-true, ne-eqb}
+use lib.Dec.{eqb, ltb}
+use borrow.Author.Tests.{ne-eqb, lt-ltb, le-ltb}
 use lib.ListN.{length, getD, drop, length-drop}
-use Rattle.logic.specs.declared.Interval.{Interval}
+use Rattle.logic.specs.Interval.{reversed}
 use Rattle.request.specs.Range.{formulaNumber, _‥_}
 use Rattle.request.specs.Text.{bytes, sameBytes, andThen, numberIn}
-use Rattle.request.specs.Reader.{Reader, return, _>>=_, next, named, choose, whole, ended}
-use Rattle.request.specs.Request.{Line}
+use Rattle.request.specs.Reader.{Reader, return, _>>=_, next, named, choose}
+use Rattle.request.specs.Request.{Line, lineIntervals}
 use Rattle.request.specs.Read.{number, interval, part, parts, formulaLine}
 use Rattle.steps.specs.declared.Row.{Row}
 use Rattle.ledger.specs.Table.{rowOf}
-use Rattle.reader.specs.Field.{pick, ends, fieldTo}
+use Rattle.ledger.specs.Checks.{any}
+use Rattle.reader.specs.Field.{pick, fieldTo}
 use Rattle.reader.specs.Line.{readLine, row, oneField, twoFields, atFields, supersetFields, rowed}
-use Rattle.reader.proofs.Then.{then-then, then-same, then-pair, by-test}
+use Rattle.reader.proofs.Then.{then-then, then-same, then-pair, or-false}
 use Rattle.reader.proofs.Bytes.{here2}
-use Rattle.reader.proofs.Cut.{line-none, line-return, whole-none}
+use Rattle.reader.proofs.Cut.{whole-none}
 use Rattle.reader.proofs.Shapes.{Shape, number-shape, interval-shape, both-last}
 use Rattle.reader.proofs.Tables.{inside, onward, onward-comma, onward-bare, onward-none, word-line, word-short}
 use Rattle.reader.proofs.Tables.{onward-end, onward-on, Others, no-key, choose-lookup, no-field, one-other}
@@ -139,3 +140,43 @@ module _ (s : List ℕ) (i : ℕ) where
     unfolding formulaLine bytes
     letter-other n =
         letter-line h ∙ onward-none _ (λ ts. whole-none _ ts (letter-none n ts)) _ _
+
+-- Reversed intervals, by the row
+
+abbrev turned : Row → Bool
+turned x = pick (eqb (x .letter) 104) (ltb (x .c) (x .b))
+    (pick (eqb (x .letter) 103) (ltb (x .b) (x .a) || ltb (x .d) (x .c)) false)
+
+line-turned : (l : Line) → turned (rowOf l) ≡ any reversed (lineIntervals l)
+unfolding any reversed
+line-turned (Line.atom p s) = refl
+line-turned Line.one = refl
+line-turned (Line.tensor i j) = refl
+line-turned (Line.with i j) = refl
+line-turned (Line.plus i j) = refl
+line-turned (Line.lolli i j) = refl
+line-turned (Line.implies i j) = refl
+line-turned (Line.bang i) = refl
+line-turned (Line.at i w) = sym (or-false (ltb (w .to) (w .from)))
+line-turned (Line.says k i) = refl
+line-turned (Line.superset v w) = ap (λ b. ltb (v .to) (v .from) || b) (sym (or-false (ltb (w .to) (w .from))))
+
+-- what the code tells of a row
+abbrev pub Told : Row → Bool → Type 0
+Told x r = (l : Line) → rowOf l ≡ x → r ≡ any reversed (lineIntervals l)
+
+row-turned : (x : Row) {r : Bool} → r ≡ turned x → Told x r
+row-turned x e l q = e ∙ rw (← q) (line-turned l)
+
+module _ (x : Row) where
+  pub told-at : x .letter ≡ 104 → Told x (ltb (x .c) (x .b))
+  told-at h = row-turned x (rw h)
+
+  pub told-none : (x .letter ≡ 104 → ⊥) → (x .letter ≡ 103 → ⊥) → Told x false
+  told-none n m = row-turned x (rw (ne-eqb (x .letter) 104 n, ne-eqb (x .letter) 103 m))
+
+  pub told-first : x .letter ≡ 103 → x .b < x .a → Told x true
+  told-first h l = row-turned x (rw (h, lt-ltb (x .b) (x .a) l))
+
+  pub told-second : x .letter ≡ 103 → x .a ≤ x .b → Told x (ltb (x .d) (x .c))
+  told-second h l = row-turned x (rw (h, le-ltb (x .b) (x .a) l))

@@ -11,3 +11,6 @@ pub mod Tables
 pub mod Letters
 pub mod Heads
 pub mod Ops
+pub mod Several
+pub mod Arrays
+pub mod Reading

@@ -1,28 +1,27 @@
 -- Hold lines and step lines: by their words, and what their fields say.
-use mathlib.Core.Path.{_≡_, refl, sym, ap, _∙_}
-use mathlib.Core.List.{List, [], _∷_, map}
+use mathlib.Core.Path.{_≡_, refl, ap, _∙_}
+use mathlib.Core.List.{List, [], _∷_}
 use mathlib.Core.Option.{Option, none, some}
-use mathlib.Core.Bool.{true, false, _||_, _&&_}
 use Prim.Native.Nat.{ℕ, _+_, _*_, _/_, _%_, _≤_, _<_}
 use native.Mathlib.Omega.{arith}
 use lib.Dec.{eqb, ltb}
 use lib.ListN.{length, getD, drop, length-drop}
-use borrow.Author.Tests.{eqb-true, eqb-false, eq-eqb, ne-eqb, lt-ltb, le-ltb}
+use borrow.Author.Tests.{ne-eqb, lt-ltb, le-ltb}
 use Rattle.logic.specs.declared.Interval.{Interval}
 use Rattle.request.specs.Range.{label, serial}
 use Rattle.request.specs.Text.{bytes, sameBytes, andThen, numberIn, labelSetIn}
 use Rattle.request.specs.Reader.{Reader, return, _>>=_, next, named, choose}
 use Rattle.request.specs.Request.{Step}
 use Rattle.request.specs.Read.{number, labelSet, interval, labelled, stepLine, holdLine}
-use Rattle.reader.specs.Field.{pick, ends, fieldTo, strip, lookup}
+use Rattle.reader.specs.Field.{fieldTo, strip}
 use Rattle.reader.specs.Line.{readLine, intervalTo}
 use Rattle.reader.specs.Step.{stepRow, stepOf, ops, opOf, labelReader, stepReader}
 use Rattle.reader.proofs.Then.{then-same, by-test}
 use Rattle.reader.proofs.Bytes.{here3}
 use Rattle.reader.proofs.Cut.{line-none, whole-none}
-use Rattle.reader.proofs.Shapes.{Shape, number-shape, set-shape, interval-shape, alone-shape, both-last}
+use Rattle.reader.proofs.Shapes.{number-shape, set-shape, interval-shape, alone-shape, both-last}
 use Rattle.reader.proofs.Tables.{inside, then-comma, word-found, no-word, onward, word-line, word-short}
-use Rattle.reader.proofs.Tables.{onward-same, onward-none, onward-comma, onward-bare, onward-end, onward-on}
+use Rattle.reader.proofs.Tables.{onward-same, onward-comma, onward-bare, onward-end, onward-on}
 use Rattle.reader.proofs.Tables.{Others, no-key, choose-lookup, lookup-by}
 
 -- Hold lines

@@ -1,17 +1,16 @@
 -- A set of labels, a digit at a time.
-use mathlib.Core.Path.{_≡_, refl, ap, _∙_}
+use mathlib.Core.Path.{_≡_, refl, _∙_}
 use mathlib.Core.List.{List, [], _∷_}
 use mathlib.Core.Option.{none, some}
-use mathlib.Core.Bool.{true, false}
 use Prim.Native.Nat.{ℕ, _+_, _*_, _-_, _^_, _≤_, _<_}
 use native.Mathlib.Omega.{arith}
 use native.Mathlib.Nat.{pow-suc, pow-le-pow-right}
 use native.Mathlib.Numerals.{add-one}
 use lib.Dec.{eqb}
 use lib.ListN.{length}
-use borrow.Author.Tests.{eq-eqb, ne-eqb, eqb-true, eqb-false, le-leb, lt-leb}
+use borrow.Author.Tests.{ne-eqb, eqb-true, eqb-false, le-leb, lt-leb}
 use Rattle.request.specs.Text.{andThen, reads, hexDigit, labelSetIn}
-use Rattle.reader.specs.Field.{DigitIs, pick, ends, Stop, fieldTo, setIn}
+use Rattle.reader.specs.Field.{DigitIs, Stop, fieldTo, setIn}
 use Rattle.reader.proofs.Then.{by-test}
 use Rattle.reader.proofs.Fields.{field-stop, field-on, field-no, field-same, digit-inside}
 

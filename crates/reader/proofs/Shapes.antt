@@ -1,8 +1,8 @@
 -- What a line's fields are, by the readers of the definition: a field that others follow, and a last one.
-use mathlib.Core.Path.{_≡_, refl, sym, ap, _∙_}
-use mathlib.Core.List.{List, [], _∷_}
+use mathlib.Core.Path.{_≡_, refl, sym, _∙_}
+use mathlib.Core.List.{List, []}
 use mathlib.Core.Option.{Option, none, some}
-use mathlib.Core.Bool.{Bool, true, false, _||_}
+use mathlib.Core.Bool.{true}
 use Prim.Native.Nat.{ℕ}
 use lib.Dec.{eqb}
 use borrow.Author.Tests.{eqb-true}
@@ -12,7 +12,6 @@ use Rattle.request.specs.Range.{Range, minute}
 use Rattle.request.specs.Text.{andThen, numberIn, labelSetIn}
 use Rattle.request.specs.Reader.{Reader, return, _>>=_, next, whole, ended}
 use Rattle.request.specs.Read.{number, labelSet, interval}
-use Rattle.request.proofs.Gives.{Gives, nothing, just}
 use Rattle.reader.specs.Field.{pick, ends, Stop, cut, fieldTo}
 use Rattle.reader.specs.Line.{readLine, intervalTo}
 use Rattle.reader.proofs.Then.{then-then, then-same, then-given, then-pair, by-test}

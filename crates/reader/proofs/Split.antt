@@ -2,13 +2,11 @@
 use mathlib.Core.Path.{_≡_, refl, sym, _∙_}
 use mathlib.Core.List.{List, [], _∷_}
 use mathlib.Core.Option.{Option, none, some}
-use mathlib.Core.Bool.{true, false}
 use Prim.Native.Nat.{ℕ}
 use lib.Dec.{eqb}
 use Rattle.request.specs.Text.{andThen, fields, lines, pushLine}
 use Rattle.request.specs.Reader.{Reader, return, _>>=_, next, ended, whole, line}
 use Rattle.request.specs.Read.{firstLine, rest, requestLines, requestOf}
-use Rattle.reader.specs.Field.{pick}
 use Rattle.reader.specs.Line.{split, readLine, requestFrom}
 use Rattle.reader.proofs.Then.{then-then, then-same, then-none, then-swap, by-test}
 

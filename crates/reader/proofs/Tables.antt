@@ -1,22 +1,22 @@
 -- Tables of words: the line of a word that the bytes begin with.
-use mathlib.Core.Path.{_≡_, refl, sym, ap, subst, _∙_}
+use mathlib.Core.Path.{_≡_, refl, sym, ap, _∙_}
 use mathlib.Core.List.{List, [], _∷_, _++_, map}
 use mathlib.Core.Option.{Option, none, some}
-use mathlib.Core.Bool.{Bool, true, false, _||_, _&&_}
+use mathlib.Core.Bool.{Bool, true, false, _&&_}
 use Prim.Native.Nat.{ℕ, _*_, _+_, _≤_, _<_}
 use Prim.Native.String.{String}
-use mathlib.Core.Logic.{_⊎_, inl, inr, ⊎-elim}
+use mathlib.Core.Logic.{_⊎_, ⊎-elim}
 use native.Mathlib.Omega.{arith}
 use lib.Dec.{eqb}
 use lib.ListN.{length, length-append}
-use borrow.Author.Tests.{eq-eqb, ne-eqb, eqb-true, eqb-false}
+use borrow.Author.Tests.{ne-eqb, eqb-true}
 use Rattle.logic.specs.Multiset.{Every}
 use Rattle.request.specs.Text.{bytes, sameBytes, andThen}
 use Rattle.request.specs.Reader.{Reader, return, named, choose, whole, ended}
-use Rattle.request.proofs.Gives.{Gives, nothing, just, gives-then}
+use Rattle.request.proofs.Gives.{Gives, just}
 use Rattle.reader.specs.Field.{pick, ends, Stop, cut, strip, lookup}
 use Rattle.reader.specs.Line.{readLine}
-use Rattle.reader.proofs.Then.{then-then, then-same, then-none, then-given, by-test}
+use Rattle.reader.proofs.Then.{then-then, then-same, then-none, by-test}
 use Rattle.reader.proofs.Cut.{atStop, line-cut, line-same, line-none, line-return, whole-none, stop-none}
 use Rattle.reader.proofs.Cut.{cut-stop}
 

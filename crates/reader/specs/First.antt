@@ -10,7 +10,7 @@ use Rattle.request.specs.Range.{minute, formulaNumber, holds, steps}
 use Rattle.request.specs.Text.{bytes, andThen, lines}
 use Rattle.request.specs.Reader.{Reader, return, _>>=_, whole}
 use Rattle.request.specs.Request.{Line, Request, word, issue, withdraw, tally}
-use Rattle.request.specs.Read.{number, interval, firstLine, rest, alone, booking, requestOf, Head as FirstLine}
+use Rattle.request.specs.Read.{number, interval, firstLine, rest, alone, booking, Head as FirstLine}
 use Rattle.request.specs.InRange.{_∈_, IntervalInRange}
 use Rattle.steps.specs.declared.Row.{Row}
 use Rattle.ledger.specs.Table.{rowOf}

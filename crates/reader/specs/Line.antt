@@ -2,7 +2,7 @@
 -- those of the definition of a request (crate request, Read.antt).
 use mathlib.Core.List.{List, [], _∷_}
 use mathlib.Core.Option.{Option, none, some}
-use Prim.Native.Nat.{ℕ, _≤_}
+use Prim.Native.Nat.{ℕ, zero, suc, _≤_}
 use lib.Dec.{eqb}
 use lib.ListN.{length, drop}
 use Rattle.logic.specs.declared.Interval.{Interval}
@@ -84,3 +84,15 @@ pub record TwoAsked (s : List ℕ) (m n : ℕ) : Type 0 where
   pub short : length s ≤ maxBytes
   pub first : (9 ≤ m) × (m ≤ 99999999)
   pub second : (9 ≤ n) × (n ≤ 99999999)
+
+-- Several lines
+
+-- what r reads from the first n lines, each, and the bytes after them
+unfoldable pub readLines : {A : Type 0} → ℕ → Reader A → List ℕ → Option (List A × List ℕ)
+readLines zero r b = some ([], b)
+readLines (suc n) r b =
+    andThen (readLine r b) (λ p. andThen (readLines n r (p .1)) (λ q. some (p .0 ∷ q .0, q .1)))
+
+-- n lines, and no byte after them
+unfoldable pub allLines : {A : Type 0} → ℕ → Reader A → List ℕ → Option (List A)
+allLines n r b = andThen (readLines n r b) (λ p. pick (eqb (length (p .1)) 0) (some (p .0)) none)

@@ -9,7 +9,11 @@ ghost use mathlib.Core.Path.{_≡_};
 ghost use Prim.Native.Nat.{_≤_};
 ghost use lib.ListN.{length, drop};
 ghost use Rattle.request.specs.Range.{maxBytes};
+ghost use Rattle.request.specs.Request.{Line, lineIntervals};
 ghost use Rattle.request.specs.Read.{formulaLine};
+ghost use Rattle.logic.specs.Interval.{reversed};
+ghost use Rattle.ledger.specs.Table.{rowOf};
+ghost use Rattle.ledger.specs.Checks.{any};
 ghost use Rattle.reader.specs.Field.{Stop};
 ghost use Rattle.reader.specs.Line.{readLine, intervalTo, oneField, twoFields, atFields, supersetFields, rowed};
 ghost use Rattle.reader.specs.Line.{spanOf, formulaOf, TwoAsked};
@@ -166,4 +170,20 @@ pub fn formula_line(s: &[u8], at: u32) -> FormulaLine
         119 => two_fields(s, j, x, 999, 999),
         _ => FormulaLine::Broken,
     }
+}
+
+// Whether an interval of a formula line is reversed (refusal 3), from its row.
+pub fn reversed_row(x: Row) -> bool
+    ensures { λ r. ⌜ ((l : Line) → rowOf l ≡ x → r ≡ any reversed (lineIntervals l)) ⌝ }
+{
+    if x.letter == 104 {
+        return x.c < x.b;
+    }
+    if x.letter != 103 {
+        return false;
+    }
+    if x.b < x.a {
+        return true;
+    }
+    x.d < x.c
 }

@@ -1,6 +1,7 @@
 // The reader of requests (document 01: sheets): from bytes to fields and rows, in one pass, by positions. This file has
 // the types of its answers; numbers.rt reads fields, lines.rt lines, first.rt a request's first line, parts.rt the
 // lines after a booking's head.
+pub mod bookings;
 pub mod formulas;
 pub mod holds;
 pub mod numbers;
@@ -81,5 +82,18 @@ pub struct StepRow {
 // A step line, and the position after its line end.
 pub enum StepLine {
     Step(StepRow, u32),
+    Broken,
+}
+
+// The hold lines of a booking were read, and the position after them.
+pub enum HoldsRead {
+    Read(u32),
+    Broken,
+}
+
+// The step lines of a booking were read; an interval among them is reversed (refusal 3), or none is.
+pub enum StepsRead {
+    Ordered,
+    Reversed,
     Broken,
 }

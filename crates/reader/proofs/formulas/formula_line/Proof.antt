@@ -1,10 +1,7 @@
 -- `formula_line` meets its contract: a line by its letter. Assumes nothing.
-use mathlib.Core.Path.{_≡_, refl, sym, ap, _∙_}
-use mathlib.Core.List.{[], _∷_}
+use mathlib.Core.Path.{sym, ap, _∙_}
 use native.Mathlib.Omega.{arith}
 use borrow.Author.Needs.{needs}
-use lib.ListN.{getD}
-use denote.Ref.{now}
 use Rattle.request.specs.Text.{bytes, sameBytes, andThen}
 use Rattle.request.specs.Reader.{named, choose}
 use Rattle.request.specs.Request.{Line}

@@ -1,11 +1,9 @@
 -- `label_set` meets its contract: each turn takes a digit. Assumes nothing.
 use Prim.Native.Nat.{_+_, _-_, _*_, _^_, _≤_, _<_}
 use mathlib.Core.Path.{_≡_, _∙_, sym}
-use mathlib.Core.List.{_∷_}
 use native.Mathlib.Omega.{arith}
 use borrow.Author.Needs.{needs}
-use lib.ListN.{length, getD, drop}
-use denote.Ref.{now}
+use lib.ListN.{drop}
 use Rattle.request.specs.Text.{labelSetIn}
 use Rattle.reader.specs.Field.{fieldTo, setIn}
 use Rattle.reader.proofs.Bytes.{here, past}

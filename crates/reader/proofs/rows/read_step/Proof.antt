@@ -1,5 +1,5 @@
 -- `read_step` meets its contract: a line by its word. Assumes nothing.
-use mathlib.Core.Path.{refl, sym, _∙_}
+use mathlib.Core.Path.{sym, _∙_}
 use borrow.Author.Needs.{needs}
 use Rattle.reader.proofs.Ops.{step-short, step-plain, step-plain-on, step-bare, step-fields, step-label}
 use Rattle.reader.proofs.Ops.{step-none}
