@@ -16,7 +16,7 @@ ghost use Rattle.tables.specs.Lines.{stepsFrom};
 ghost use Rattle.checker.specs.Cycle.{Fits, PremiseChecked, StepChecked, Answers};
 
 // Done: the sequent closes; step lines left, next label. Stopped: the refusal's number and its step.
-pub enum Outcome {
+enum Outcome {
     Done(u32, u32),
     Stopped(u32, u32),
 }
@@ -28,7 +28,7 @@ pub enum Checked {
 }
 
 // Judges a sequent by the first of the `left` step lines that are not read yet, of `total`.
-pub fn check_premise(
+fn check_premise(
     store: &[u32; 3964],
     steps: &[u32; 1536],
     table: &mut [u32; 192],

@@ -19,7 +19,8 @@ returns-4 c = sym (unrestricted-full _ _ _ _ (c .before .before .fresh3 .given .
 
 returns-5 : tie.Need-returns-5
 returns-5 c =
-    simp (c .sequent .ensures) (sym (nothing-begins _ _ _ _ (c .before .before .enum-told .given .1) (c .before .if1 .left)))
+    simp (c .sequent .ensures)
+    (sym (nothing-begins _ _ _ _ (c .before .before .enum-told .given .1) (c .before .if1 .left)))
 
 returns-6 : tie.Need-returns-6
 returns-6 c =
