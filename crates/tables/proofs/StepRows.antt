@@ -1,7 +1,7 @@
 -- Step rows: what is put is read there, and nowhere else.
 use mathlib.Core.Path.{_≡_, refl, ap, ap₂, _∙_}
 use mathlib.Core.Logic.{_⊎_, inl, inr}
-use mathlib.Core.List.{List, [], _∷_}
+use mathlib.Core.List.{List, [], _∷_, _++_}
 use Prim.Native.Nat.{ℕ, zero, suc, _+_, _*_, _/_, _%_, _^_, _<_, _≤_}
 use native.Mathlib.Omega.{arith}
 use native.Mathlib.Decide.{decLt}
@@ -115,3 +115,27 @@ pub length-from : (l : List ℕ) (k n : ℕ) → length (stepsFrom l k n) ≡ n
 unfolding stepsFrom
 length-from l k zero = refl
 length-from l k (suc n) = ap suc (length-from l (suc k) n)
+
+-- the steps before stay, and the step that is put comes last
+from-kept : (l : List ℕ) (k : ℕ) (s : Step) (j n : ℕ) → j + n ≤ k → stepsFrom (putStep l k s) j n ≡ stepsFrom l j n
+unfolding stepsFrom
+from-kept l k s j zero h = refl
+from-kept l k s j (suc n) h =
+    ap₂ _∷_ (step-kept l k j s (λ e. omega arith)) (from-kept l k s (suc j) n (omega arith))
+
+from-more : (l : List ℕ) (j n : ℕ) → stepsFrom l j (suc n) ≡ stepsFrom l j n ++ (stepAt l (j + n) ∷ [])
+unfolding stepsFrom
+from-more l j zero =
+    let e : j ≡ j + 0 = omega arith in
+    ap (λ (k : ℕ). stepAt l k ∷ []) e
+from-more l j (suc n) =
+    let e : suc j + n ≡ j + suc n = omega arith in
+    ap (stepAt l j ∷_) (from-more l (suc j) n ∙ ap (λ (k : ℕ). stepsFrom l (suc j) n ++ (stepAt l k ∷ [])) e)
+
+pub steps-put : (l : List ℕ) (k : ℕ) (s : Step) → length l ≡ 1536 → k < 256 → StepInRange s
+    → stepsFrom (putStep l k s) 0 (suc k) ≡ stepsFrom l 0 k ++ (s ∷ [])
+steps-put l k s e h f =
+    let z : 0 + k ≡ k = omega arith in
+    from-more (putStep l k s) 0 k
+    ∙ ap₂ (λ (xs : List Step) (x : Step). xs ++ (x ∷ [])) (from-kept l k s 0 k (omega arith))
+    (ap (stepAt (putStep l k s)) z ∙ step-put l k s e h f)
