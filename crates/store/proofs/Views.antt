@@ -13,6 +13,7 @@ use Rattle.ledger.specs.declared.Credential.{Credential}
 use Rattle.ledger.specs.Table.{rowOf}
 use Rattle.ledger.specs.Ledger.{row}
 use Rattle.ledger.specs.Checks.{any, sameRow}
+use Rattle.ledger.proofs.Credentials.{take-out}
 use Rattle.store.specs.declared.Found.the-variants.{At, Nothing}
 use Rattle.store.specs.Layout.{lineCount, liveCount, rowAt, credentialAt}
 use Rattle.store.specs.Store.{lineOf, ledgerOf, Good, Finds}
@@ -46,6 +47,9 @@ module _ (l : List ℕ) where
           ap rowOf (getD-past (lineCount l) (λ i. lineOf (rowAt l i)) n Line.one (omega arith))
           ∙ sym (row-past l n (omega arith))
 
+  pub rows-are : Good l → row (ledgerOf l) ≡ rowAt l
+  rows-are g j n = row-is g n j
+
   -- what a search through the rows has found
   module _ (g : Good l) (r : Row) where
     pub has-at : (i : ℕ) → i < lineCount l → sameRow r (rowAt l i) ≡ true
@@ -72,3 +76,8 @@ module _ (l : List ℕ) where
     pub found-nothing : NoneBefore (credentialAt l) s (liveCount l) → Finds l s Nothing
     unfolding ledgerOf
     found-nothing h = record { found = sym (find-none (liveCount l) (credentialAt l) s h); placed = tt }
+
+    -- so it is the credential of that serial that stands at the place found
+    pub found-serial : {i : ℕ} {c : Credential} → Finds l s (At i c) → credentialAt l i .serial ≡ s
+    found-serial h =
+        ap (λ (d : Credential). d .serial) (h .placed .1) ∙ take-out (ledgerOf l .live) s (sym (h .found)) .0

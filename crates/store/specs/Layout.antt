@@ -5,9 +5,10 @@
 --   1           the count of live credentials
 --   2           the next serial
 --   3           unused: the tables start at a multiple of four numbers
---   4 ..        200 rows of 7: a formula line's letter, a, b, c, d; then its formula's size and whether it is plain
---               (1 or 0), kept so that no later request goes through the formula's parts again
---   1404 ..     512 rows of 5: a credential's serial, kind (0 linear, 1 unrestricted), formula number, from, to
+--   4 ..        200 rows of 7: a formula line's (document 01: a wording's) letter, a, b, c, d; then its formula's size
+--               and whether it is plain (1 or 0), kept so that no later request goes through the formula's parts again
+--   1404 ..     512 rows of 5: a credential's (a coupon's) serial, kind (0 linear: single-use, 1 unrestricted:
+--               standing), formula number (wording), and its interval (window), from and to
 use mathlib.Core.List.{List, [], _∷_}
 use mathlib.Core.Bool.{Bool}
 use Prim.Native.Nat.{ℕ, _+_, _*_}

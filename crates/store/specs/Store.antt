@@ -1,4 +1,5 @@
--- The ledger that a store's numbers stand for, and what holds of every store that the functions leave.
+-- The ledger (document 01: the till) that a store's numbers stand for, and what holds of every store that the functions
+-- leave.
 use mathlib.Core.Path.{_≡_}
 use mathlib.Core.List.{List}
 use mathlib.Core.Bool.{Bool}
@@ -10,6 +11,7 @@ use lib.ListN.{length}
 use Rattle.logic.specs.Interval.{span}
 use Rattle.logic.specs.Formula.{size, plain, bit}
 use Rattle.logic.specs.Multiset.{Every}
+use Rattle.request.specs.Range.{serial}
 use Rattle.request.specs.Request.{Line}
 use Rattle.steps.specs.declared.Row.{Row}
 use Rattle.ledger.specs.declared.Credential.{Credential}
@@ -18,7 +20,6 @@ use Rattle.ledger.specs.Ledger.{Ledger, formula, find}
 use Rattle.ledger.specs.Checks.{maxSize, maxFormulas, maxLive}
 use Rattle.ledger.proofs.Tables.{There}
 use Rattle.ledger.proofs.Bounds.{Bounded}
-use Rattle.request.specs.Range.{serial}
 use Rattle.store.specs.declared.Found.{Found}
 use Rattle.store.specs.declared.Found.the-variants.{At, Nothing}
 use Rattle.store.specs.Tab.{tab, pick}

@@ -8,7 +8,6 @@ use steps::Row;
 mod row;
 
 ghost use mathlib.Core.Path.{_≡_};
-ghost use mathlib.Core.List.{List};
 ghost use Prim.Native.Nat.{_<_};
 ghost use lib.ListN.{length};
 ghost use Rattle.logic.specs.Formula.{size, plain};
@@ -24,7 +23,7 @@ pub type Store = [u32; 3964];
 // the letter of 1
 const ONE: u32 = b'o' as u32;
 
-// Where a live credential stands, and the credential.
+// What `find` answers: where a live credential (document 01: a coupon) stands, and the credential.
 pub enum Found {
     At(u32, Credential),
     Nothing,
@@ -38,6 +37,7 @@ pub fn start(store: &mut Store)
     row::put_next(store, 1);
 }
 
+// How many formula lines and how many live credentials there are, and the serial that the next one gets.
 pub fn formula_count(store: &Store) -> u32
     ensures { λ r. ⌜ r ≡ length (ledgerOf (now (store .entry)) .lines) ⌝ }
 {
@@ -74,6 +74,7 @@ pub fn row_at(store: &Store, n: u32) -> Row
     }
 }
 
+// The size of a formula of the ledger, and whether it is plain, as kept with its row.
 pub fn size_at(store: &Store, n: u32) -> u32
     requires { ⌜ Good (now store) × (n < length (ledgerOf (now store) .lines)) ⌝ }
     ensures { λ r. ⌜ r ≡ size (formula (ledgerOf (now (store .entry))) n) ⌝ }
@@ -88,6 +89,7 @@ pub fn plain_at(store: &Store, n: u32) -> bool
     row::plain(store, n) == 1
 }
 
+// Equal letters and equal fields.
 fn same_row(x: Row, y: Row) -> bool
     ensures { λ r. ⌜ r ≡ sameRow x y ⌝ }
 {
@@ -111,7 +113,7 @@ pub fn has_row(store: &Store, row: Row) -> bool
     false
 }
 
-// One formula line more, with its formula's size and whether it is plain.
+// One formula line (document 01: a wording) more, with its formula's size and whether it is plain.
 pub fn add_row(store: &mut Store, row: Row, size: u32, plain: bool)
     requires { ⌜ Addable (now store) row size plain ⌝ }
     ensures { λ _. ⌜ StandsFor (now (store .exit)) (withLine (ledgerOf (now (store .entry))) (lineOf row)) ⌝ }
