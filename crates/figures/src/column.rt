@@ -13,7 +13,7 @@ ghost use Rattle.figures.specs.Rows.{isAtom, countRow};
 
 pub type Column = [u32; 200];
 
-// A formula's number; 0 for a number that names no formula.
+// The entry of formula n. A number that names none has that of 1, which is 0 in every column.
 pub fn at(column: &Column, n: u32) -> u32
     requires { ⌜ length (now column) ≡ maxFormulas ⌝ }
     ensures { λ r. ⌜ r ≡ getD (now (column .entry)) n 0 ⌝ }

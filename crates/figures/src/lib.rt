@@ -112,14 +112,15 @@ fn count_rows(store: &Store, session: u32, seats: &mut Column, places: &mut Colu
     let mut i = 0;
     while i < n {
         let row = store::row_at(store, i);
-        let s = column::count_row(row, 1, session, seats);
-        let p = column::count_row(row, 2, session, places);
+        let s = column::count_row(row, parts::SEAT, session, seats);
+        let p = column::count_row(row, parts::PLACE, session, places);
         seats[i as usize] = s;
         places[i as usize] = p;
         i += 1;
     }
 }
 
+// "over live singles"
 fn when_linear(kind: Kind, n: u32) -> u32
     ensures { λ r. ⌜ r ≡ byKind kind n 0 ⌝ }
 {
@@ -129,6 +130,7 @@ fn when_linear(kind: Kind, n: u32) -> u32
     }
 }
 
+// "whose window has the minute"
 fn when_has(interval: Interval, minute: u32, n: u32) -> u32
     ensures { λ r. ⌜ r ≡ only (has interval minute) n ⌝ }
 {

@@ -4,7 +4,7 @@ ghost use mathlib.Core.Path.{_≡_};
 ghost use Rattle.figures.specs.Rows.{among, plains, partsOf};
 ghost use Rattle.figures.specs.Parts.{numbers};
 
-// The letters of formula lines.
+// The letters of formula lines (document 01: wordings).
 pub const ATOM: u32 = b'a' as u32;
 
 pub const TENSOR: u32 = b't' as u32;
@@ -23,7 +23,12 @@ pub const AT: u32 = b'h' as u32;
 
 pub const SAYS: u32 = b's' as u32;
 
-// The numbers of a formula's parts.
+// "Predicate 1 is seat, 2 place"
+pub const SEAT: u32 = 1;
+
+pub const PLACE: u32 = 2;
+
+// The formulas that a row names: the parts of its own.
 pub enum Parts {
     Nothing,
     One(u32),
@@ -47,6 +52,7 @@ pub fn parts_of(row: Row) -> Parts
     }
 }
 
+// "Plain: only `a`, `t`, `s`."
 pub fn plain_letter(letter: u32) -> bool
     ensures { λ r. ⌜ r ≡ among letter plains ⌝ }
 {

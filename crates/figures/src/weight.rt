@@ -20,7 +20,7 @@ ghost use Rattle.figures.specs.Rows.{sideRow, alikeAt, levelAt, levelRow
 
 type Flags = [bool; 200];
 
-// A formula's flag; true for a number that names no formula.
+// The flag of formula n. A number that names none has that of 1, which is well weighed.
 fn flag_at(flags: &Flags, n: u32) -> bool
     requires { ⌜ length (now flags) ≡ maxFormulas ⌝ }
     ensures { λ r. ⌜ r ≡ getD (now (flags .entry)) n true ⌝ }
@@ -33,10 +33,10 @@ fn atom_weight(predicate: u32, of: u32, session: u32) -> u32
     ensures { λ r. ⌜ r ≡ counted session predicate of ⌝ }
 {
     if of == session {
-        if predicate == 1 {
+        if predicate == parts::SEAT {
             return 1;
         }
-        if predicate == 2 {
+        if predicate == parts::PLACE {
             return 1;
         }
     }

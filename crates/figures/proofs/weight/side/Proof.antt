@@ -1,24 +1,32 @@
 -- `side` meets its contract.
 use mathlib.Core.Path.{ap₂}
-use Prim.Native.Nat.{_+_}
+use Prim.Native.Nat.{ℕ, _+_, _≤_}
 use native.Mathlib.Omega.{arith}
 use borrow.Author.Needs.{needs}
 use borrow.Author.Tests.{ne-eqb}
+use denote.Ref.{now}
+use Rattle.ledger.specs.Checks.{maxSize}
 use Rattle.figures.specs.Rows.{sideRow}
+use Rattle.figures.specs.Column.{entry}
 use Rattle.figures.proofs.weight.side.Statement.{statement}
 use Rattle.figures.proofs.weight.side.Tie as tie
+
+-- entries are small
+small : (c : tie.Start) (n : ℕ)
+    → (entry (now (c .args .own)) n ≤ maxSize) × (entry (now (c .args .other)) n ≤ maxSize)
+small c n = (c .pre .0 .small n, c .pre .1 .small n)
 
 add-result : tie.Need-add-result
 add-result c =
     let s = c .before .before .before in
     let r = s .args .row in
-    omega (arith, c .at2 .ensures, c .before .at .ensures, s .pre .0 .small (r .a), s .pre .0 .small (r .b))
+    omega (arith, c .at2 .ensures, c .before .at .ensures, small s (r .a), small s (r .b))
 
 add-result-2 : tie.Need-add-result-2
 add-result-2 c =
     let s = c .before .before .before in
     let r = s .args .row in
-    omega (arith, c .at4 .ensures, c .before .at3 .ensures, s .pre .0 .small (r .b), s .pre .1 .small (r .a))
+    omega (arith, c .at4 .ensures, c .before .at3 .ensures, small s (r .a), small s (r .b))
 
 rest : tie.Need-returns-10
 unfolding sideRow
