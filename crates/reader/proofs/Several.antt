@@ -15,11 +15,12 @@ use Rattle.request.specs.Reader.{Reader, return, _>>=_, many, whole, ended, lin
 use Rattle.request.specs.Request.{Step, Request, book}
 use Rattle.request.specs.Read.{rest, holdLine, stepLine, booking}
 use Rattle.reader.specs.declared.Head.{Head}
-use Rattle.reader.specs.Field.{pick}
-use Rattle.reader.specs.Line.{readLine, readLines, allLines}
+use Rattle.numbers.specs.Field.{pick}
+use Rattle.forms.specs.Line.{readLine}
 use Rattle.reader.specs.First.{bookingFrom}
-use Rattle.reader.proofs.Then.{then-then, then-same, then-pair}
+use Rattle.numbers.proofs.Then.{then-then, then-same, then-pair}
 use Rattle.reader.proofs.Split.{lines-then, lines-several}
+use Rattle.reader.specs.Booking.{readLines, allLines}
 
 -- lines before others
 unfoldable pub prefixed : {A : Type 0} → List A → Option (List A × List ℕ) → Option (List A × List ℕ)
