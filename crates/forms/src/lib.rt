@@ -1,5 +1,5 @@
-// Lines of a request (document 01: a sheet), read by positions: formula lines, hold lines, step lines. This file has the
-// types of the answers.
+// Lines of a request (document 01: a sheet), read by positions: formula lines, hold lines, step lines. This file has
+// the types of the answers.
 pub mod formulas;
 pub mod holds;
 pub mod rows;

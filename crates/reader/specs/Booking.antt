@@ -10,12 +10,15 @@ use Rattle.logic.specs.Interval.{reversed}
 use Rattle.request.specs.Range.{maxBytes}
 use Rattle.request.specs.Text.{andThen}
 use Rattle.request.specs.Reader.{Reader}
-use Rattle.request.specs.Request.{Step, stepsIntervals}
+use Rattle.request.specs.Request.{Step, Request, book, stepsIntervals}
+use Rattle.request.specs.Read.{holdLine, stepLine}
 use Rattle.ledger.specs.Checks.{any}
 use Rattle.numbers.specs.Field.{pick}
 use Rattle.forms.specs.declared.StepRow.{StepRow}
 use Rattle.forms.specs.Line.{readLine}
 use Rattle.forms.specs.Step.{stepRow, stepOf}
+use Rattle.reader.specs.First.{bookingFrom}
+use Rattle.reader.specs.declared.Head.{Head}
 use Rattle.reader.specs.declared.HoldsRead.{HoldsRead}
 use Rattle.reader.specs.declared.HoldsRead.the-variants.{Read, Broken as NoHolds}
 use Rattle.reader.specs.declared.StepsRead.{StepsRead}
@@ -67,6 +70,18 @@ abbrev pub StepsIs : Option (List Step) → ℕ → List ℕ → StepsRead → T
 StepsIs q count rows Ordered = StepsAre q (stepsAt count rows) false
 StepsIs q count rows Reversed = StepsAre q (stepsAt count rows) true
 StepsIs q count rows NoSteps = q ≡ none
+
+-- the booking of a head, its holds and its steps
+abbrev pub booked : Head → List ℕ → List Step → Request
+booked h hs ss =
+    book (record { now = h .now; formula = h .formula; interval = h .interval; holds = hs; steps = ss })
+
+-- What the contracts say together (proved in proofs/Several.antt): the request of a booking's head is the one of the
+-- holds and steps that are read after it, or none.
+abbrev pub BookingLines : Type 0
+BookingLines =
+    (h : Head) (b : List ℕ) → bookingFrom h b ≡ andThen (readLines (h .holds) holdLine b) (λ p.
+    andThen (allLines (h .steps) stepLine (p .1)) (λ ss. some (booked h (p .0) ss)))
 
 -- what the readers of several lines ask: the length of a request, a count in range, and the length of the array lent
 pub record LinesAsked (s : List ℕ) (count most : ℕ) (t : List ℕ) (size : ℕ) : Type 0 where
