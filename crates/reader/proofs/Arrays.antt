@@ -14,10 +14,11 @@ use Rattle.logic.specs.Interval.{span, reversed}
 use Rattle.logic.specs.Multiset.{Every}
 use Rattle.request.specs.Request.{Step, stepIntervals, stepsIntervals}
 use Rattle.ledger.specs.Checks.{any}
-use Rattle.reader.specs.declared.StepRow.{StepRow}
-use Rattle.reader.specs.Field.{pick}
-use Rattle.reader.specs.Step.{stepRow, makers, implies, stepOf, rowAt, putRow, stepsAt, turned}
-use Rattle.reader.proofs.Then.{by-test, or-false, or-true}
+use Rattle.forms.specs.declared.StepRow.{StepRow}
+use Rattle.numbers.specs.Field.{pick}
+use Rattle.forms.specs.Step.{stepRow, makers, implies, stepOf}
+use Rattle.numbers.proofs.Then.{by-test, or-false, or-true}
+use Rattle.reader.specs.Booking.{rowAt, putRow, stepsAt, turned}
 
 -- A row that was written
 

@@ -22,16 +22,16 @@ use Rattle.request.proofs.Gives.{Gives, nothing, just, given, gives-then}
 use Rattle.request.proofs.Digits.{number-only}
 use Rattle.steps.specs.declared.Row.{Row}
 use Rattle.ledger.specs.Table.{rowOf}
-use Rattle.reader.specs.Field.{fieldTo, strip}
-use Rattle.reader.specs.Line.{readLine, requestFrom, intervalTo, rowed}
-use Rattle.reader.specs.First.{after, issueFields, WordIs, FirstIs}
+use Rattle.numbers.specs.Field.{fieldTo, strip}
+use Rattle.forms.specs.Line.{readLine, intervalTo, rowed}
+use Rattle.reader.specs.First.{after, issueFields, WordIs, FirstIs, requestFrom}
 use Rattle.reader.specs.declared.First.{First}
-use Rattle.reader.proofs.Then.{then-same, then-some, then-no, by-test}
-use Rattle.reader.proofs.Bytes.{here, past}
+use Rattle.numbers.proofs.Then.{then-same, then-some, then-no, by-test}
+use Rattle.numbers.proofs.Bytes.{here, past}
 use Rattle.reader.proofs.Split.{lines-several, request-first}
-use Rattle.reader.proofs.Cut.{line-same, line-map, gives-pick, cut-stop}
-use Rattle.reader.proofs.Shapes.{number-shape, interval-shape, both-last, both-more}
-use Rattle.reader.proofs.Tables.{Table, inside, word-found, no-word, then-comma}
+use Rattle.forms.proofs.Cut.{line-same, line-map, gives-pick, cut-stop}
+use Rattle.forms.proofs.Shapes.{number-shape, interval-shape, both-last, both-more}
+use Rattle.forms.proofs.Tables.{Table, inside, word-found, no-word, then-comma}
 
 -- A line that is the whole request
 

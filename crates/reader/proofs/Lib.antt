@@ -1,16 +1,5 @@
-pub mod Then
-pub mod Bytes
-pub mod Fields
-pub mod Decimals
-pub mod Sets
-pub mod Words
 pub mod Split
-pub mod Cut
-pub mod Shapes
-pub mod Tables
-pub mod Letters
 pub mod Heads
-pub mod Ops
 pub mod Several
 pub mod Arrays
 pub mod Reading

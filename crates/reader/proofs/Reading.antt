@@ -12,13 +12,14 @@ use Rattle.logic.specs.Interval.{reversed}
 use Rattle.request.specs.Request.{stepsIntervals}
 use Rattle.request.specs.Read.{stepLine}
 use Rattle.ledger.specs.Checks.{any}
-use Rattle.reader.specs.declared.StepRow.{StepRow}
-use Rattle.reader.specs.Field.{pick}
-use Rattle.reader.specs.Line.{readLine, readLines, allLines}
-use Rattle.reader.specs.Step.{stepOf, putRow, stepsAt, turned, StepsAre}
-use Rattle.reader.proofs.Then.{then-some, then-no}
+use Rattle.forms.specs.declared.StepRow.{StepRow}
+use Rattle.numbers.specs.Field.{pick}
+use Rattle.forms.specs.Line.{readLine}
+use Rattle.forms.specs.Step.{stepOf}
+use Rattle.numbers.proofs.Then.{then-some, then-no}
 use Rattle.reader.proofs.Several.{prefixed, lines-begin, lines-end, lines-turn, lines-broken}
 use Rattle.reader.proofs.Arrays.{put-length, steps-next, reversals-next}
+use Rattle.reader.specs.Booking.{readLines, allLines, putRow, stepsAt, turned, StepsAre}
 
 -- k of the lines are read, n of them with a reversed interval; the next begins at a position
 pub record Reading (s : List ℕ) (count : ℕ) (t : List ℕ) (at k n : ℕ) : Type 0 where

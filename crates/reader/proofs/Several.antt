@@ -15,11 +15,12 @@ use Rattle.request.specs.Reader.{Reader, return, _>>=_, many, whole, ended, lin
 use Rattle.request.specs.Request.{Step, Request, book}
 use Rattle.request.specs.Read.{rest, holdLine, stepLine, booking}
 use Rattle.reader.specs.declared.Head.{Head}
-use Rattle.reader.specs.Field.{pick}
-use Rattle.reader.specs.Line.{readLine, readLines, allLines}
+use Rattle.numbers.specs.Field.{pick}
+use Rattle.forms.specs.Line.{readLine}
 use Rattle.reader.specs.First.{bookingFrom}
-use Rattle.reader.proofs.Then.{then-then, then-same, then-pair}
+use Rattle.numbers.proofs.Then.{then-then, then-same, then-some, then-no, then-pair}
 use Rattle.reader.proofs.Split.{lines-then, lines-several}
+use Rattle.reader.specs.Booking.{readLines, allLines, booked, BookingLines}
 
 -- lines before others
 unfoldable pub prefixed : {A : Type 0} → List A → Option (List A × List ℕ) → Option (List A × List ℕ)
@@ -90,11 +91,6 @@ unfolding lines whole return ended andThen
 last-lines a [] = refl
 last-lines a (x ∷ xs) = lines-several a x xs ∙ rw (ne-eqb (length (x ∷ xs)) 0 (λ e. omega arith))
 
--- the booking of a head, its holds and its steps
-abbrev pub booked : Head → List ℕ → List Step → Request
-booked h hs ss =
-    book (record { now = h .now; formula = h .formula; interval = h .interval; holds = hs; steps = ss })
-
 -- `n` lines, and no byte after them
 all-lines : {A B : Type 0} (r : Reader A) (n : ℕ) (make : List A → B) (b : List ℕ)
     → andThen (lines b) (whole (many n (line r) >>= (λ xs. return (make xs))))
@@ -110,11 +106,20 @@ all-lines {A} {B} r n make b =
     go xs true = refl
     go xs false = refl
 
--- what a booking's lines say after its head: its holds, and its steps to the end
-pub booking-lines : (h : Head) (b : List ℕ)
-    → bookingFrom h b ≡ andThen (readLines (h .holds) holdLine b) (λ p.
-    andThen (allLines (h .steps) stepLine (p .1)) (λ ss. some (booked h (p .0) ss)))
+pub booking-lines : BookingLines
 unfolding bookingFrom rest
 booking-lines h b =
     many-lines holdLine (h .holds) _ b
     ∙ then-same (readLines (h .holds) holdLine b) (λ p. all-lines stepLine (h .steps) (booked h (p .0)) (p .1))
+
+-- the same, for what `read_holds` and `read_steps` answer
+module _ {q : Option Request} (h : Head) (b : List ℕ) (e : q ≡ bookingFrom h b) where
+  pub no-holds : readLines (h .holds) holdLine b ≡ none → q ≡ none
+  no-holds n = e ∙ booking-lines h b ∙ then-no _ n
+
+  module _ {hs : List ℕ} {c : List ℕ} (f : readLines (h .holds) holdLine b ≡ some (hs, c)) where
+    pub no-steps : allLines (h .steps) stepLine c ≡ none → q ≡ none
+    no-steps n = e ∙ booking-lines h b ∙ then-some _ f ∙ then-no _ n
+
+    pub booking-read : {ss : List Step} → allLines (h .steps) stepLine c ≡ some ss → q ≡ some (booked h hs ss)
+    booking-read g = e ∙ booking-lines h b ∙ then-some _ f ∙ then-some _ g

@@ -7,8 +7,9 @@ use lib.Dec.{eqb}
 use Rattle.request.specs.Text.{andThen, fields, lines, pushLine}
 use Rattle.request.specs.Reader.{Reader, return, _>>=_, next, ended, whole, line}
 use Rattle.request.specs.Read.{firstLine, rest, requestLines, requestOf}
-use Rattle.reader.specs.Line.{split, readLine, requestFrom}
-use Rattle.reader.proofs.Then.{then-then, then-same, then-none, then-swap, by-test}
+use Rattle.forms.specs.Line.{split, readLine}
+use Rattle.numbers.proofs.Then.{then-then, then-same, then-none, then-swap, by-test}
+use Rattle.reader.specs.First.{requestFrom}
 
 -- the first of the lines
 abbrev firstOf : List ℕ × List ℕ → Option (List (List ℕ))

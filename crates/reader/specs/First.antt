@@ -17,7 +17,11 @@ use Rattle.ledger.specs.Table.{rowOf}
 use Rattle.reader.specs.declared.Head.{Head}
 use Rattle.reader.specs.declared.First.{First}
 use Rattle.reader.specs.declared.First.the-variants.{Word, Issue, Withdraw, Tally, Book, Broken}
-use Rattle.reader.specs.Line.{readLine, requestFrom}
+use Rattle.forms.specs.Line.{readLine}
+
+-- the request that a first line and the bytes after it make
+unfoldable pub requestFrom : Option (FirstLine × List ℕ) → Option Request
+requestFrom o = andThen o (λ p. andThen (lines (p .1)) (whole (rest (p .0))))
 
 -- the fields of a first line after its word
 unfoldable pub after : String → Reader FirstLine

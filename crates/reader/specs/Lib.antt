@@ -1,4 +1,2 @@
-pub mod Field
-pub mod Line
 pub mod First
-pub mod Step
+pub mod Booking

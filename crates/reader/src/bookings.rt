@@ -1,15 +1,38 @@
-// The step lines of a booking, in rows of six numbers.
-use crate::StepLine;
-use crate::StepRow;
+// The lines after a booking's head: hold lines, and step lines in rows of six numbers.
+use crate::HoldsRead;
 use crate::StepsRead;
-use crate::rows::read_step;
+use forms::HoldLine;
+use forms::StepLine;
+use forms::StepRow;
+use forms::holds::read_hold;
+use forms::rows::read_step;
 ghost use mathlib.Core.Path.{_≡_};
 ghost use Prim.Native.Nat.{_≤_, _<_};
-ghost use lib.ListN.{length};
-ghost use Rattle.request.specs.Read.{stepLine};
-ghost use Rattle.reader.specs.Field.{pick};
-ghost use Rattle.reader.specs.Line.{allLines};
-ghost use Rattle.reader.specs.Step.{putRow, rowAt, turned, StepsIs, LinesAsked};
+ghost use lib.ListN.{length, drop};
+ghost use Rattle.request.specs.Read.{holdLine, stepLine};
+ghost use Rattle.numbers.specs.Field.{pick};
+ghost use Rattle.reader.specs.Booking.{LinesAsked, readLines, holdsOf, rowAt, putRow, turned, allLines, StepsIs};
+
+// `count` hold lines from `at` on, and their serials in order.
+pub fn read_holds(s: &[u8], at: u32, count: u32, serials: &mut [u32; 32]) -> HoldsRead
+    requires { ⌜ LinesAsked (now s) count 32 (now serials) 32 ⌝ }
+    ensures { λ r. ⌜ holdsOf (now (s .entry)) count (now (serials .exit)) r
+        ≡ readLines count holdLine (drop at (now (s .entry))) ⌝ }
+    ensures { λ _. ⌜ length (now (serials .exit)) ≡ 32 ⌝ }
+{
+    let mut i = at;
+    let mut k: u32 = 0;
+    while k < count {
+        let h = read_hold(s, i);
+        let HoldLine::Serial(n, j) = h else {
+            return HoldsRead::Broken;
+        };
+        serials[k as usize] = n;
+        i = j;
+        k += 1;
+    }
+    HoldsRead::Read(i)
+}
 
 // Row k of the rows.
 pub fn row_at(rows: &[u32; 1536], k: u32) -> StepRow

@@ -1,21 +1,21 @@
 // The first line of a request (document 01: a sheet).
-use crate::Decimal;
 use crate::First;
-use crate::FormulaLine;
 use crate::Head;
-use crate::Prefix;
-use crate::Span;
-use crate::formulas::formula_line;
-use crate::formulas::interval;
-use crate::numbers::number;
-use crate::numbers::past;
+use forms::FormulaLine;
+use forms::Span;
+use forms::formulas::formula_line;
+use forms::formulas::interval;
+use numbers::Decimal;
+use numbers::Prefix;
+use numbers::number;
+use numbers::past;
 use request::Kind;
 ghost use Prim.Native.Nat.{_≤_};
 ghost use lib.ListN.{length, drop};
 ghost use Rattle.request.specs.Range.{maxBytes};
 ghost use Rattle.request.specs.Read.{requestOf};
-ghost use Rattle.reader.specs.Line.{readLine, requestFrom};
-ghost use Rattle.reader.specs.First.{issueFields, FirstIs, FirstAfter};
+ghost use Rattle.forms.specs.Line.{readLine};
+ghost use Rattle.reader.specs.First.{requestFrom, issueFields, FirstIs, FirstAfter};
 
 // `word,` and a formula line
 fn word(s: &[u8], at: u32) -> First

@@ -1,6 +1,6 @@
 -- `put_row` meets its contract. Assumes nothing.
 use borrow.Author.Needs.{needs}
-use Rattle.reader.specs.Step.{putRow}
+use Rattle.reader.specs.Booking.{putRow}
 use Rattle.reader.proofs.bookings.put_row.Statement.{statement}
 use Rattle.reader.proofs.bookings.put_row.Tie as tie
 

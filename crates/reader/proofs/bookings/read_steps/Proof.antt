@@ -1,8 +1,8 @@
 -- `read_steps` meets its contract: each turn reads a line. Assumes nothing.
 use Prim.Native.Nat.{_-_}
 use borrow.Author.Needs.{needs}
-use Rattle.reader.specs.Step.{stepLineOf}
-use Rattle.reader.proofs.Then.{told}
+use Rattle.forms.specs.Step.{stepLineOf}
+use Rattle.numbers.proofs.Then.{told}
 use Rattle.reader.proofs.Reading.{Reading, first-reading, no-step, next-reading, more-bytes, in-order}
 use Rattle.reader.proofs.Reading.{some-reversed}
 use Rattle.reader.proofs.bookings.read_steps.Statement.{statement}

@@ -1,6 +1,6 @@
 -- `row_at` meets its contract. Assumes nothing.
 use borrow.Author.Needs.{needs}
-use Rattle.reader.specs.Step.{rowAt}
+use Rattle.reader.specs.Booking.{rowAt}
 use Rattle.reader.proofs.bookings.row_at.Statement.{statement}
 use Rattle.reader.proofs.bookings.row_at.Tie as tie
 

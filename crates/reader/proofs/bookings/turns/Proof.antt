@@ -1,7 +1,7 @@
 -- `turns` meets its contract. Assumes nothing.
 use borrow.Author.Needs.{needs}
 use borrow.Author.Tests.{lt-ltb, le-ltb}
-use Rattle.reader.specs.Step.{turned}
+use Rattle.reader.specs.Booking.{turned}
 use Rattle.reader.proofs.bookings.turns.Statement.{statement}
 use Rattle.reader.proofs.bookings.turns.Tie as tie
 

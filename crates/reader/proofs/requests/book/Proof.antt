@@ -1,10 +1,10 @@
 -- `book` meets its contract. Assumes nothing.
 use mathlib.Core.Path.{_∙_}
 use borrow.Author.Needs.{needs}
-use Rattle.reader.specs.Field.{decimalOf}
-use Rattle.reader.specs.Line.{requestFrom, spanOf}
-use Rattle.reader.specs.First.{bookingFrom}
-use Rattle.reader.proofs.Then.{told, then-some, then-no}
+use Rattle.numbers.specs.Field.{decimalOf}
+use Rattle.forms.specs.Line.{spanOf}
+use Rattle.reader.specs.First.{bookingFrom, requestFrom}
+use Rattle.numbers.proofs.Then.{told, then-some, then-no}
 use Rattle.reader.proofs.Heads.{no-line, book-line, field-range, interval-range}
 use Rattle.reader.proofs.requests.book.Statement.{statement}
 use Rattle.reader.proofs.requests.book.Tie as tie

@@ -2,10 +2,10 @@
 use mathlib.Core.Path.{ap}
 use borrow.Author.Needs.{needs}
 use Rattle.request.specs.Text.{bytes}
-use Rattle.reader.specs.Field.{pastOf}
-use Rattle.reader.specs.Line.{requestFrom}
-use Rattle.reader.proofs.Then.{told}
+use Rattle.numbers.specs.Field.{pastOf}
+use Rattle.numbers.proofs.Then.{told}
 use Rattle.reader.proofs.Heads.{first-by, no-line, issue-single, issue-standing, no-kind}
+use Rattle.reader.specs.First.{requestFrom}
 use Rattle.reader.proofs.requests.issue.Statement.{statement}
 use Rattle.reader.proofs.requests.issue.Tie as tie
 

@@ -1,9 +1,9 @@
 -- `issued` meets its contract. Assumes nothing.
 use mathlib.Core.Path.{_∙_}
 use borrow.Author.Needs.{needs}
-use Rattle.reader.specs.Field.{decimalOf}
-use Rattle.reader.specs.Line.{spanOf}
-use Rattle.reader.proofs.Then.{told, then-some, then-no}
+use Rattle.numbers.specs.Field.{decimalOf}
+use Rattle.forms.specs.Line.{spanOf}
+use Rattle.numbers.proofs.Then.{told, then-some, then-no}
 use Rattle.reader.proofs.Heads.{no-line, lines-follow, whole-request, issue-line}
 use Rattle.reader.proofs.requests.issued.Statement.{statement}
 use Rattle.reader.proofs.requests.issued.Tie as tie

@@ -2,10 +2,10 @@
 use mathlib.Core.Path.{refl}
 use borrow.Author.Needs.{needs}
 use Rattle.request.specs.Text.{bytes}
-use Rattle.reader.specs.Field.{pastOf}
-use Rattle.reader.proofs.Then.{told}
+use Rattle.numbers.specs.Field.{pastOf}
+use Rattle.numbers.proofs.Then.{told}
 use Rattle.reader.proofs.Heads.{first-by, first-found, first-none}
-use Rattle.reader.proofs.Tables.{inside}
+use Rattle.forms.proofs.Tables.{inside}
 use Rattle.reader.proofs.requests.read_first.Statement.{statement}
 use Rattle.reader.proofs.requests.read_first.Tie as tie
 

@@ -1,8 +1,8 @@
 -- `withdraw` meets its contract. Assumes nothing.
 use mathlib.Core.Path.{_∙_}
 use borrow.Author.Needs.{needs}
-use Rattle.reader.specs.Field.{decimalOf}
-use Rattle.reader.proofs.Then.{told, then-some, then-no}
+use Rattle.numbers.specs.Field.{decimalOf}
+use Rattle.numbers.proofs.Then.{told, then-some, then-no}
 use Rattle.reader.proofs.Heads.{no-line, lines-follow, whole-request, withdraw-line}
 use Rattle.reader.proofs.requests.withdraw.Statement.{statement}
 use Rattle.reader.proofs.requests.withdraw.Tie as tie

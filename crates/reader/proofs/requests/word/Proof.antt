@@ -1,7 +1,7 @@
 -- `word` meets its contract. Assumes nothing.
 use borrow.Author.Needs.{needs}
-use Rattle.reader.specs.Line.{formulaOf}
-use Rattle.reader.proofs.Then.{told}
+use Rattle.forms.specs.Line.{formulaOf}
+use Rattle.numbers.proofs.Then.{told}
 use Rattle.reader.proofs.Heads.{no-formula, word-follow, word-whole}
 use Rattle.reader.proofs.requests.word.Statement.{statement}
 use Rattle.reader.proofs.requests.word.Tie as tie

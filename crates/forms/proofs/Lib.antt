@@ -1,0 +1,5 @@
+pub mod Cut
+pub mod Shapes
+pub mod Tables
+pub mod Letters
+pub mod Ops

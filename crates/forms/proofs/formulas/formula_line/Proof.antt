@@ -1,0 +1,95 @@
+-- `formula_line` meets its contract: a line by its letter. Assumes nothing.
+use mathlib.Core.Path.{sym, ap, _∙_}
+use native.Mathlib.Omega.{arith}
+use borrow.Author.Needs.{needs}
+use Rattle.request.specs.Text.{bytes, sameBytes, andThen}
+use Rattle.request.specs.Reader.{named, choose}
+use Rattle.request.specs.Request.{Line}
+use Rattle.request.specs.Read.{part, parts, formulaLine}
+use Rattle.forms.specs.Line.{row, rowed}
+use Rattle.forms.proofs.Letters.{one-row, numbers-row, at-row, superset-row}
+use Rattle.forms.proofs.Letters.{letter-short, letter-fields, letter-one, letter-one-bare, letter-bare}
+use Rattle.forms.proofs.Letters.{letter-other}
+use Rattle.forms.proofs.formulas.formula_line.Statement.{statement}
+use Rattle.forms.proofs.formulas.formula_line.Tie as tie
+
+pub formula-line-spec : {M : Type 1} → statement M
+unfolding rowed formulaLine choose named sameBytes bytes part parts andThen
+formula-line-spec =
+    tie.close
+    (tie.spec
+    (λ c. search needs)
+    (λ c. sym (ap rowed (letter-short _ _ (c .if1 .taken))))
+    (λ c. search needs)
+    (λ c. search needs)
+    (λ c. search needs)
+    (λ c. omega (arith, c .before .shared-slice-known2 .given (c .before .before .before .before .args .at)))
+    (λ c. search needs)
+    (λ c. let d = c .before .before .before .before in
+    sym (ap rowed (letter-one _ _ (d .if1 .left) (c .before .if2 .taken) (c .if3 .taken))))
+    (λ c. let d = c .before .before .before .before in
+    sym (ap rowed (letter-one-bare _ _ (d .if1 .left) (c .before .if2 .taken) (c .if3 .left))))
+    (λ c. let d = c .before .before .before .before in
+    sym (ap rowed (letter-bare _ _ (d .if1 .left) (c .before .if2 .left) (c .if4 .taken))))
+    (λ c κs. search needs)
+    (λ c κs. search needs)
+    (λ c κs. search needs)
+    (λ c κs. search needs)
+    (λ c κs. search needs)
+    (λ c κs. search needs)
+    (λ c κs. search needs)
+    (λ c κs. search needs)
+    (λ c κs. search needs)
+    (λ c κs. search needs)
+    (λ c. let d = c .before .before .before .before in
+    c .two-fields .ensures
+    ∙ sym (ap rowed (letter-fields _ _ (d .before .before .if1 .left) 97 (c .before .match .keys1)
+    (c .before .before .if4 .left))
+    ∙ numbers-row _ 255 255 Line.atom (λ i j. ap (λ l. row l i j 0 0) (sym (c .before .match .keys1))) _))
+    (λ c. let d = c .before .before .before .before in
+    c .one-field .ensures
+    ∙ sym (ap rowed (letter-fields _ _ (d .before .before .if1 .left) 98 (c .before .match .keys2)
+    (c .before .before .if4 .left))
+    ∙ one-row _ Line.bang (λ i. ap (λ l. row l i 0 0 0) (sym (c .before .match .keys2))) _))
+    (λ c. let d = c .before .before .before .before in
+    c .superset-fields .ensures
+    ∙ sym (ap rowed (letter-fields _ _ (d .before .before .if1 .left) 103 (c .before .match .keys3)
+    (c .before .before .if4 .left))
+    ∙ superset-row _ (c .before .match .keys3) _))
+    (λ c. let d = c .before .before .before .before in
+    c .at-fields .ensures
+    ∙ sym (ap rowed (letter-fields _ _ (d .before .before .if1 .left) 104 (c .before .match .keys4)
+    (c .before .before .if4 .left))
+    ∙ at-row _ (c .before .match .keys4) _))
+    (λ c. let d = c .before .before .before .before in
+    c .two-fields2 .ensures
+    ∙ sym (ap rowed (letter-fields _ _ (d .before .before .if1 .left) 115 (c .before .match .keys5)
+    (c .before .before .if4 .left))
+    ∙ numbers-row _ 255 999 Line.says (λ i j. ap (λ l. row l i j 0 0) (sym (c .before .match .keys5))) _))
+    (λ c. let d = c .before .before .before .before in
+    c .two-fields3 .ensures
+    ∙ sym (ap rowed (letter-fields _ _ (d .before .before .if1 .left) 108 (c .before .match .keys6)
+    (c .before .before .if4 .left))
+    ∙ numbers-row _ 999 999 Line.lolli (λ i j. ap (λ l. row l i j 0 0) (sym (c .before .match .keys6))) _))
+    (λ c. let d = c .before .before .before .before in
+    c .two-fields4 .ensures
+    ∙ sym (ap rowed (letter-fields _ _ (d .before .before .if1 .left) 112 (c .before .match .keys7)
+    (c .before .before .if4 .left))
+    ∙ numbers-row _ 999 999 Line.plus (λ i j. ap (λ l. row l i j 0 0) (sym (c .before .match .keys7))) _))
+    (λ c. let d = c .before .before .before .before in
+    c .two-fields5 .ensures
+    ∙ sym (ap rowed (letter-fields _ _ (d .before .before .if1 .left) 116 (c .before .match .keys8)
+    (c .before .before .if4 .left))
+    ∙ numbers-row _ 999 999 Line.tensor (λ i j. ap (λ l. row l i j 0 0) (sym (c .before .match .keys8))) _))
+    (λ c. let d = c .before .before .before .before in
+    c .two-fields6 .ensures
+    ∙ sym (ap rowed (letter-fields _ _ (d .before .before .if1 .left) 117 (c .before .match .keys9)
+    (c .before .before .if4 .left))
+    ∙ numbers-row _ 999 999 Line.implies (λ i j. ap (λ l. row l i j 0 0) (sym (c .before .match .keys9))) _))
+    (λ c. let d = c .before .before .before .before in
+    c .two-fields7 .ensures
+    ∙ sym (ap rowed (letter-fields _ _ (d .before .before .if1 .left) 119 (c .before .match .keys10)
+    (c .before .before .if4 .left))
+    ∙ numbers-row _ 999 999 Line.with (λ i j. ap (λ l. row l i j 0 0) (sym (c .before .match .keys10))) _))
+    (λ c. let d = c .before .before .before .before in
+    sym (ap rowed (letter-other _ _ (d .before .if1 .left) (c .match .rest, c .before .before .if2 .left)))))

@@ -1,0 +1,19 @@
+-- `one_field` meets its contract: each field is what its reader says. Assumes nothing.
+use borrow.Author.Needs.{needs}
+use Rattle.request.specs.Text.{andThen}
+use Rattle.numbers.specs.Field.{decimalOf}
+use Rattle.forms.specs.Line.{oneField}
+use Rattle.numbers.proofs.Then.{told}
+use Rattle.forms.proofs.formulas.one_field.Statement.{statement}
+use Rattle.forms.proofs.formulas.one_field.Tie as tie
+
+pub one-field-spec : {M : Type 1} → statement M
+unfolding oneField andThen
+one-field-spec =
+    tie.close
+    (tie.spec
+    (λ c κs. search needs)
+    (λ c. search needs)
+    (λ c. search needs)
+    (λ c. simp (told (decimalOf _) (c .before .before .number .ensures) (c .enum-told .given .1)))
+    (λ c. simp (told (decimalOf _) (c .before .before .before .number .ensures) (c .before .f .given .1))))

@@ -1,0 +1,189 @@
+// Intervals and formula lines (document 01: windows and wording lines).
+use crate::FormulaLine;
+use crate::Span;
+use logic::Interval;
+use numbers::Decimal;
+use numbers::number;
+use steps::Row;
+ghost use mathlib.Core.Path.{_≡_};
+ghost use Prim.Native.Nat.{_≤_};
+ghost use lib.ListN.{length, drop};
+ghost use Rattle.request.specs.Range.{maxBytes};
+ghost use Rattle.request.specs.Request.{Line, lineIntervals};
+ghost use Rattle.request.specs.Read.{formulaLine};
+ghost use Rattle.logic.specs.Interval.{reversed};
+ghost use Rattle.ledger.specs.Table.{rowOf};
+ghost use Rattle.ledger.specs.Checks.{any};
+ghost use Rattle.numbers.specs.Field.{Stop};
+ghost use Rattle.forms.specs.Line.{readLine, intervalTo, oneField, twoFields, atFields, supersetFields, rowed};
+ghost use Rattle.forms.specs.Line.{spanOf, formulaOf, TwoAsked};
+
+// `from,to`, which the byte `stop` ends.
+pub fn interval(s: &[u8], at: u32, stop: u8) -> Span
+    requires { ⌜ (length (now s) ≤ maxBytes) × Stop stop ⌝ }
+    ensures { λ r. ⌜ spanOf (now (s .entry)) r ≡ intervalTo stop (drop at (now (s .entry))) ⌝ }
+{
+    let f = number(s, at, 0, 9999999, 44);
+    let Decimal::Number(from, i) = f else {
+        return Span::Broken;
+    };
+    let g = number(s, i, 0, 9999999, stop);
+    let Decimal::Number(to, j) = g else {
+        return Span::Broken;
+    };
+    Span::Minutes(Interval { from, to }, j)
+}
+
+fn one_field(s: &[u8], at: u32, letter: u32) -> FormulaLine
+    requires { ⌜ length (now s) ≤ maxBytes ⌝ }
+    ensures { λ r. ⌜ formulaOf (now (s .entry)) r ≡ oneField letter (drop at (now (s .entry))) ⌝ }
+{
+    let f = number(s, at, 0, 999, 10);
+    let Decimal::Number(a, i) = f else {
+        return FormulaLine::Broken;
+    };
+    FormulaLine::Formula(
+        Row {
+            letter,
+            a,
+            b: 0,
+            c: 0,
+            d: 0,
+        },
+        i,
+    )
+}
+
+fn two_fields(s: &[u8], at: u32, letter: u32, m: u32, n: u32) -> FormulaLine
+    requires { ⌜ TwoAsked (now s) m n ⌝ }
+    ensures { λ r. ⌜ formulaOf (now (s .entry)) r ≡ twoFields letter m n (drop at (now (s .entry))) ⌝ }
+{
+    let f = number(s, at, 0, m, 44);
+    let Decimal::Number(a, i) = f else {
+        return FormulaLine::Broken;
+    };
+    let g = number(s, i, 0, n, 10);
+    let Decimal::Number(b, j) = g else {
+        return FormulaLine::Broken;
+    };
+    FormulaLine::Formula(
+        Row {
+            letter,
+            a,
+            b,
+            c: 0,
+            d: 0,
+        },
+        j,
+    )
+}
+
+fn at_fields(s: &[u8], at: u32, letter: u32) -> FormulaLine
+    requires { ⌜ length (now s) ≤ maxBytes ⌝ }
+    ensures { λ r. ⌜ formulaOf (now (s .entry)) r ≡ atFields letter (drop at (now (s .entry))) ⌝ }
+{
+    let f = number(s, at, 0, 999, 44);
+    let Decimal::Number(a, i) = f else {
+        return FormulaLine::Broken;
+    };
+    let g = interval(s, i, 10);
+    let Span::Minutes(w, j) = g else {
+        return FormulaLine::Broken;
+    };
+    FormulaLine::Formula(
+        Row {
+            letter,
+            a,
+            b: w.from,
+            c: w.to,
+            d: 0,
+        },
+        j,
+    )
+}
+
+fn superset_fields(s: &[u8], at: u32, letter: u32) -> FormulaLine
+    requires { ⌜ length (now s) ≤ maxBytes ⌝ }
+    ensures { λ r. ⌜ formulaOf (now (s .entry)) r ≡ supersetFields letter (drop at (now (s .entry))) ⌝ }
+{
+    let f = interval(s, at, 44);
+    let Span::Minutes(v, i) = f else {
+        return FormulaLine::Broken;
+    };
+    let g = interval(s, i, 10);
+    let Span::Minutes(w, j) = g else {
+        return FormulaLine::Broken;
+    };
+    FormulaLine::Formula(
+        Row {
+            letter,
+            a: v.from,
+            b: v.to,
+            c: w.from,
+            d: w.to,
+        },
+        j,
+    )
+}
+
+// One of the eleven formula lines.
+pub fn formula_line(s: &[u8], at: u32) -> FormulaLine
+    requires { ⌜ length (now s) ≤ maxBytes ⌝ }
+    ensures { λ r. ⌜ formulaOf (now (s .entry)) r ≡ rowed (readLine formulaLine (drop at (now (s .entry)))) ⌝ }
+{
+    let i = at as usize;
+    if s.len() <= i + 1 {
+        return FormulaLine::Broken;
+    }
+    let letter = s[i];
+    let stop = s[i + 1];
+    let x = letter as u32;
+    let j = at + 2;
+    if letter == 111 {
+        if stop == 10 {
+            return FormulaLine::Formula(
+                Row {
+                    letter: 111,
+                    a: 0,
+                    b: 0,
+                    c: 0,
+                    d: 0,
+                },
+                j,
+            );
+        }
+        return FormulaLine::Broken;
+    }
+    if stop != 44 {
+        return FormulaLine::Broken;
+    }
+    match letter {
+        97 => two_fields(s, j, x, 255, 255),
+        98 => one_field(s, j, x),
+        103 => superset_fields(s, j, x),
+        104 => at_fields(s, j, x),
+        115 => two_fields(s, j, x, 255, 999),
+        108 => two_fields(s, j, x, 999, 999),
+        112 => two_fields(s, j, x, 999, 999),
+        116 => two_fields(s, j, x, 999, 999),
+        117 => two_fields(s, j, x, 999, 999),
+        119 => two_fields(s, j, x, 999, 999),
+        _ => FormulaLine::Broken,
+    }
+}
+
+// Whether an interval of a formula line is reversed (refusal 3), from its row.
+pub fn reversed_row(x: Row) -> bool
+    ensures { λ r. ⌜ ((l : Line) → rowOf l ≡ x → r ≡ any reversed (lineIntervals l)) ⌝ }
+{
+    if x.letter == 104 {
+        return x.c < x.b;
+    }
+    if x.letter != 103 {
+        return false;
+    }
+    if x.b < x.a {
+        return true;
+    }
+    x.d < x.c
+}
