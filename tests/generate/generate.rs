@@ -14,6 +14,7 @@ pub mod grow;
 pub mod late;
 pub mod life;
 pub mod long;
+pub mod matrix;
 pub mod model;
 pub mod pairs;
 pub mod papers;
@@ -53,13 +54,14 @@ impl Wish {
 fn fixed(seed: u64, seen: &mut Seen) -> Vec<Session> {
     let mut all = papers::sessions();
     all.extend(slips::sessions());
+    all.extend(matrix::sessions());
     all.extend(balance::sessions());
     all.extend(capacity::sessions(seed));
     all.extend(ranges::sessions(seed));
     all.extend(pairs::sessions(seed));
     all.push(full::session(seed));
-    all.extend([life::fixed(), balance::random(seed)]);
-    all.extend((0..2).map(|half| spans::session(seed, half)));
+    all.extend([life::fixed(), life::many(seed), balance::random(seed)]);
+    all.extend((0..3).map(|third| spans::session(seed, third)));
     all.extend([damage::fixed(seed), damage::calls(seed), damage::random(seed)]);
     all.extend(drills::DRILLS.iter().map(|letters| drills::session(letters, seed, seen)));
     all

@@ -11,12 +11,12 @@ pub enum Heard {
     Refusal,
 }
 
-/// The history: wording n is the line that was answered n; a serial's coupon (the paper's credential)
+/// The history: wording n is the line that was answered n; a serial's coupon (η-logic's credential)
 /// is the one issued, or the goal booked, by the sheet that answered that serial.
 #[derive(Default)]
 pub struct Recount {
     lines: BTreeMap<u32, String>,
-    /// Serial to wording, for single-use coupons (the paper's linear).
+    /// Serial to wording, for single-use coupons (η-logic's linear).
     singles: BTreeMap<u32, u32>,
     issued: Vec<u32>,
     withdrawn: Vec<u32>,

@@ -40,7 +40,7 @@ pub struct Sequent {
 
 impl Sequent {
     /// The same sequent with another linear context.
-    fn from_linear(self, linear: Labels) -> Sequent {
+    fn with_linear(self, linear: Labels) -> Sequent {
         Sequent { linear, ..self }
     }
 
@@ -173,8 +173,8 @@ impl<'a> Checker<'a> {
                 (same && hypothesis.interval.covers(sequent.interval)).then_some(Closed)
             }
             (Step::TensorR(share), Formula::Tensor(left, right)) if share & !linear == 0 => {
-                let second = sequent.proving(right).from_linear(linear & !share);
-                Some(Two((sequent.proving(left).from_linear(share), Nothing), (second, Nothing)))
+                let second = sequent.proving(right).with_linear(linear & !share);
+                Some(Two((sequent.proving(left).with_linear(share), Nothing), (second, Nothing)))
             }
             (Step::OneR, Formula::One) if linear == 0 => Some(Closed),
             (Step::WithR, Formula::With(left, right)) => {
@@ -236,8 +236,8 @@ impl<'a> Checker<'a> {
         if !hypothesis.interval.covers(on) || share & !sequent.linear != 0 {
             return None;
         }
-        let first = sequent.proving(a).on(on).from_linear(share);
-        let second = sequent.from_linear(sequent.linear & !share);
+        let first = sequent.proving(a).on(on).with_linear(share);
+        let second = sequent.with_linear(sequent.linear & !share);
         Some(Two((first, Nothing), (second, Linear(Hypothesis { formula: b, interval: on }))))
     }
 
@@ -248,7 +248,7 @@ impl<'a> Checker<'a> {
         if !hypothesis.interval.covers(on) {
             return None;
         }
-        let first = sequent.proving(a).on(on).from_linear(0);
+        let first = sequent.proving(a).on(on).with_linear(0);
         Some(Two((first, Nothing), (sequent, Linear(Hypothesis { formula: b, interval: on }))))
     }
 
@@ -261,7 +261,7 @@ impl<'a> Checker<'a> {
     /// Takes L, which must be in the linear context, out of it.
     fn use_up(&self, label: Label, sequent: Sequent) -> Option<(Hypothesis, Sequent)> {
         let there = sequent.linear & just(label) != 0;
-        let rest = sequent.from_linear(sequent.linear & !just(label));
+        let rest = sequent.with_linear(sequent.linear & !just(label));
         there.then(|| (self.hypotheses[usize::from(label)], rest))
     }
 }

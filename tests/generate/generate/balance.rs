@@ -44,6 +44,8 @@ fn light(desk: &mut Desk) {
     d(lolli(&covers(window(0, 9), window(3, 4)), &p7), false, "weight: g");
     d(tensor(&lolli(&s7, &o), &p7), true, "weight: t");
     d(tensor(&s7, &o), false, "weight: t");
+    d(tensor(&s7, &s7), false, "weight: t");
+    d(tensor(&tensor(&s7, &s7), &tensor(&p7, &p7)), false, "weight: t");
     d(lolli(&tensor(&s7, &p7), &tensor(&s7, &s7)), true, "weight: t");
     d(lolli(&tensor(&s7, &p7), &s7), false, "weight: t");
     for (arms, name) in [(with(&s7, &p7), "weight: w"), (plus(&s7, &p7), "weight: p")] {
@@ -64,6 +66,7 @@ fn arrows(desk: &mut Desk) {
     d(lolli(&lolli(&s7, &o), &o), false, "weight: l");
     d(lolli(&lolli(&s7, &o), &lolli(&p7, &f)), true, "weight: l");
     d(lolli(&s7, &tensor(&s7, &s7)), false, "weight: l");
+    d(lolli(&tensor(&s7, &p7), &o), false, "weight: l");
     d(implies(&o, &s7), false, "weight: u");
     d(tensor(&implies(&o, &s7), &lolli(&s7, &o)), true, "weight: u");
     d(implies(&lolli(&s7, &p7), &f), true, "weight: u");
@@ -98,14 +101,17 @@ fn clauses() -> Session {
     for (join, name) in [(with as fn(&Part, &Part) -> Part, "arms of & differ"), (plus, "arms of ⊕ differ")] {
         d(join(&o, &s7), false, name);
         d(join(&f, &lolli(&s7, &o)), false, name);
+        d(lolli(&o, &join(&o, &tensor(&s7, &s7))), false, name);
         d(lolli(&join(&s7, &o), &s7), false, name);
         d(lolli(&join(&s7, &tensor(&s7, &p7)), &s7), false, name);
         d(join(&join(&o, &f), &lolli(&s8, &p8)), true, name);
     }
     d(lolli(&bang(&s7), &s7), false, "weight under !");
+    d(lolli(&bang(&tensor(&s7, &s7)), &tensor(&s7, &s7)), false, "weight under !");
     d(tensor(&bang(&s7), &lolli(&s7, &o)), false, "weight under !");
     d(bang(&bang(&f)), true, "weight under !");
     d(implies(&s7, &o), false, "weight left of ⊃");
+    d(implies(&tensor(&s7, &p7), &o), false, "weight left of ⊃");
     d(implies(&s7, &lolli(&s7, &s7)), false, "weight left of ⊃");
     d(implies(&f, &lolli(&s7, &s7)), true, "weight left of ⊃");
     desk.session("balance: clauses", 0)
@@ -158,7 +164,7 @@ pub fn random(seed: u64) -> Session {
     while desk.model.lines.len() < 150 {
         let fuel = rng.between(2, 14);
         let part = world.wording(&mut rng, &[], fuel);
-        let small = part.size() <= 64 && desk.missing(&[part.clone()]) <= 40;
+        let small = part.size() <= 64 && desk.missing(std::slice::from_ref(&part)) <= 40;
         if small {
             offer(&mut desk, &part, true, "offer at random");
             let other = changed(&mut rng, &world, &part);

@@ -46,7 +46,7 @@ pub fn holds_for(deriv: &Deriv, rng: &mut Rng) -> Vec<Hold> {
 }
 
 /// The derivation as a booking, unless it passes a limit of sheets, wordings or the till.
-pub fn place(desk: &mut Desk, deriv: Deriv, holds: Vec<Hold>, now: u32, reuse: bool) -> Option<Booking> {
+pub fn place(desk: &mut Desk, deriv: Deriv, holds: Vec<Hold>, now: u32) -> Option<Booking> {
     let script = Script::of(&deriv, &holds);
     let mut parts: Vec<Part> = holds.iter().map(|h| h.wording.clone()).collect();
     parts.push(deriv.goal().wording.clone());
@@ -60,7 +60,7 @@ pub fn place(desk: &mut Desk, deriv: Deriv, holds: Vec<Hold>, now: u32, reuse: b
         let alike = desk.model.live.iter().find(|c| {
             c.kind == kind && c.wording == h.wording && c.window == h.window && !serials.contains(&c.serial)
         });
-        let old = alike.map(|c| c.serial).filter(|_| reuse);
+        let old = alike.map(|c| c.serial);
         serials.push(old.unwrap_or_else(|| desk.issue(kind, &h.wording, h.window)));
     }
     let goal = desk.enter(&deriv.goal().wording);
@@ -170,5 +170,5 @@ pub fn random(desk: &mut Desk, g: &mut Grower, fuel: u32) -> Option<Booking> {
     if script.overflow.is_some() || script.lines.len() > 256 {
         return None;
     }
-    place(desk, deriv, holds, g.world.now, true)
+    place(desk, deriv, holds, g.world.now)
 }

@@ -35,6 +35,7 @@ fn required(long: bool) -> Vec<(&'static str, Vec<String>)> {
         &breaks::OF_R[..], &breaks::SPENT, &breaks::NEVER, &breaks::OTHER, &breaks::GOAL_OTHER,
         &breaks::GOAL_AFFIRMS, &breaks::REST,
     ];
+    let later = [&late::LATE[..], &slips::ARMS, &slips::JOINED, &slips::NAMES, &slips::ARROWS];
     let at_once = [&pairs::BOOK_PAIRS[..], &pairs::STEP_ORDER, &pairs::CALL_PAIRS];
     let mut groups = vec![
         ("refusal numbers", refusals),
@@ -42,7 +43,8 @@ fn required(long: bool) -> Vec<(&'static str, Vec<String>)> {
         ("connectives in standing coupons held", all(&booking::STANDING)),
         ("accepted bookings", all(&BOOKED)),
         ("ways to break a rule", all(&rules.concat())),
-        ("faults found later", all(&[&late::LATE[..], &slips::ARMS, &slips::JOINED, &slips::NAMES].concat())),
+        ("faults found later", all(&later.concat())),
+        ("every step on every connective", all(&matrix::MATRIX)),
         ("label 64", all(&late::WANTS_64)),
         ("windows", all(&spans::SPANS)),
         ("balance", all(&balance::BALANCE)),

@@ -1,15 +1,16 @@
 //! Good sheets with their bytes damaged; the till must stay as before, so the good sheet is played last.
 
+use super::form::read;
 use super::model::{Answer, Steps};
 use super::rng::Rng;
 use super::session::{sheet_of, Desk, Session};
 
-pub const DAMAGE: [&str; 23] = [
+pub const DAMAGE: [&str; 25] = [
     "CR before a line end", "CR for a line end", "leading zero", "sign", "space", "empty field",
     "missing comma", "extra comma", "letter in a number", "field left out", "field too many",
     "upper-case hexadecimal", "no last line end", "empty line at the end", "empty line at the start",
     "line too many", "line left out", "unknown word", "upper-case word", "byte outside ASCII",
-    "truncated", "16,384 bytes", "over 16,384 bytes",
+    "truncated", "16,384 bytes", "over 16,384 bytes", "byte exchanged", "byte put in",
 ];
 const RANDOM: &str = "damaged at random";
 
@@ -44,8 +45,11 @@ fn with_coupons() -> Desk {
     desk
 }
 
+/// What becomes of a field; None where the change does not apply.
+type Change = dyn Fn(&str) -> Option<String>;
+
 /// The sheet's fields, each changed by the given means, the rest kept.
-fn by_field(sheet: &[u8], change: &dyn Fn(&str) -> Option<String>) -> Vec<Vec<u8>> {
+fn by_field(sheet: &[u8], change: &Change) -> Vec<Vec<u8>> {
     let text = String::from_utf8(sheet.to_vec()).expect("good sheets are ASCII");
     let lines: Vec<&str> = text.trim_end().split('\n').collect();
     let mut out = vec![];
@@ -71,7 +75,7 @@ fn is_number(field: &str) -> bool {
 fn field_damage(sheet: &[u8]) -> Vec<(&'static str, Vec<u8>)> {
     let number = |of: fn(&str) -> String| move |f: &str| is_number(f).then(|| of(f));
     let word = |of: fn(&str) -> String| move |f: &str| (!is_number(f)).then(|| of(f));
-    let all: Vec<(&str, Box<dyn Fn(&str) -> Option<String>>)> = vec![
+    let all: Vec<(&str, Box<Change>)> = vec![
         ("leading zero", Box::new(number(|f| format!("0{f}")))),
         ("sign", Box::new(number(|f| format!("+{f}")))),
         ("sign", Box::new(number(|f| format!("-{f}")))),
@@ -109,7 +113,6 @@ fn line_damage(sheet: &[u8]) -> Vec<(&'static str, Vec<u8>)> {
         ("CR for a line end", text.replace('\n', "\r")),
         ("missing comma", cut(first_comma)),
         ("missing comma", cut(last_comma)),
-        ("field left out", format!("{}\n", &text[..last_comma])),
         ("no last line end", text.trim_end().to_string()),
         ("empty line at the end", format!("{text}\n")),
         ("empty line at the start", format!("\n{text}")),
@@ -153,16 +156,47 @@ fn byte_damage(sheet: &[u8]) -> Vec<(&'static str, Vec<u8>)> {
     out
 }
 
-/// The damage to one sheet, all of it or a share of it.
+/// The sheet without one of its fields, for each of them.
+fn fields_left_out(sheet: &[u8]) -> Vec<(&'static str, Vec<u8>)> {
+    let mut out = vec![];
+    let mut start = 0;
+    while start < sheet.len() {
+        let length = sheet[start..].iter().position(|b| b",\n".contains(b));
+        let end = start + length.expect("good sheets end their lines");
+        let from = if start > 0 && sheet[start - 1] == b',' { start - 1 } else { start };
+        let to = if from == start && sheet[end] == b',' { end + 1 } else { end };
+        out.push(("field left out", [&sheet[..from], &sheet[to..]].concat()));
+        start = end + 1;
+    }
+    out
+}
+
+/// Every byte exchanged for, and preceded by, each of some others, where that breaks the form.
+fn byte_edits(sheet: &[u8]) -> Vec<(&'static str, Vec<u8>)> {
+    let mut out = vec![];
+    for at in 0..sheet.len() {
+        for byte in *b",\n0:/ \tA" {
+            let (mut other, mut more) = (sheet.to_vec(), sheet.to_vec());
+            other[at] = byte;
+            more.insert(at, byte);
+            out.extend([("byte exchanged", other), ("byte put in", more)]);
+        }
+    }
+    out.retain(|(_, bad)| read(bad) == Err(2));
+    out
+}
+
+/// The damage to one sheet: single bytes and fields everywhere, and all of the rest or a share of it.
 fn play(desk: &mut Desk, sheet: &[u8], rng: &mut Rng, share: u32) {
     let mut all = field_damage(sheet);
     all.extend(line_damage(sheet));
     all.extend(byte_damage(sheet));
+    all.retain(|_| rng.chance(share, 8));
+    all.extend(fields_left_out(sheet));
+    all.extend(byte_edits(sheet));
     for (name, bad) in all {
-        if rng.chance(share, 8) {
-            let number = if bad.len() > 16_384 { 1 } else { 2 };
-            desk.refuse(&bad, number, name);
-        }
+        let number = if bad.len() > 16_384 { 1 } else { 2 };
+        desk.refuse(&bad, number, name);
     }
 }
 

@@ -13,7 +13,7 @@ pub struct Hyp {
     pub window: Window,
 }
 
-/// A goal (the paper's consequent): "A at I", or "K affirms A at I".
+/// A goal (η-logic's consequent): "A at I", or "K affirms A at I".
 #[derive(Clone, PartialEq, Debug)]
 pub struct Goal {
     pub by: Option<u32>,
@@ -41,8 +41,8 @@ pub struct Premise {
     pub node: Node,
 }
 
-/// A derivation of a judged line (the paper's sequent); r is what it needs of R
-/// (standing labels, the paper's unrestricted context), node.d is D (the linear context).
+/// A derivation of a judged line (η-logic's sequent); r is what it needs of R
+/// (standing labels, η-logic's unrestricted context), node.d is D (the linear context).
 #[derive(Clone, Debug)]
 pub struct Deriv {
     pub r: Vec<Hyp>,

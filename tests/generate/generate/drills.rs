@@ -149,7 +149,7 @@ pub fn session(letters: &'static str, seed: u64, seen: &mut Seen) -> Session {
     let goal = window(from, g.rng.between(540, 900));
     let deriv = drill(&mut g, letters, goal);
     let holds = holds_for(&deriv, g.rng);
-    let b = place(&mut desk, deriv, holds, 540, true).expect("a drill fits");
+    let b = place(&mut desk, deriv, holds, 540).expect("a drill fits");
     exercise(&b, &mut desk, &mut g, seen, 32);
     desk.tallies(&mut rng, 4);
     desk.session(&format!("drill {letters}"), seed)

@@ -1,12 +1,12 @@
-//! The form of a sheet (the paper's request): lines, fields and ranges, and nothing else.
+//! The form of a sheet (η-logic's request): lines, fields and ranges, and nothing else.
 
 use super::wording::{window, Window, LAST_MINUTE};
 
 #[derive(Clone, Copy, PartialEq, Eq, Debug)]
 pub enum Kind {
-    /// Single-use (the paper's linear).
+    /// Single-use (η-logic's linear).
     Single,
-    /// Standing (the paper's unrestricted).
+    /// Standing (η-logic's unrestricted).
     Standing,
 }
 
@@ -30,7 +30,7 @@ pub struct BookHead {
     pub step_windows: Vec<Window>,
 }
 
-/// A sheet (the paper's request) of good form.
+/// A sheet (η-logic's request) of good form.
 #[derive(Clone, PartialEq, Eq, Debug)]
 pub enum Sheet {
     Word(WordingLine),

@@ -22,7 +22,7 @@ fn filler(steps: usize, w: Window) -> Deriv {
 /// An atom booked in exactly so many steps and labels. Each round of `cp`, `ul`, filler, `ol` has a
 /// coupon and takes two labels; the burnt labels have one coupon more.
 fn sized(g: &mut Grower, steps: usize, labels: usize, w: Window) -> Deriv {
-    let rounds = if labels % 2 == 0 { 4 } else { 3 };
+    let rounds = if labels.is_multiple_of(2) { 4 } else { 3 };
     let burnt = labels - (2 + 3 * rounds);
     let filling = steps - (1 + 3 * rounds + burnt);
     let h = g.hyp(atom(2, 7), w);
@@ -72,13 +72,13 @@ pub fn session(seed: u64) -> Session {
     for (steps, labels) in [(256, 40), (255, 64), (256, 64), (257, 30), (200, 65), (200, 66), (180, 63)] {
         let deriv = sized(&mut g, steps, labels, w);
         let holds = holds_for(&deriv, g.rng);
-        let Some(b) = place(&mut desk, deriv, holds, 5, true) else { continue };
+        let Some(b) = place(&mut desk, deriv, holds, 5) else { continue };
         assert!(b.script.lines.len() == steps && b.script.labels() == labels, "sized as said");
         play(&mut desk, &b);
     }
     let joined = many_singles(&mut g, 32, w);
     let holds = holds_for(&joined, g.rng);
-    if let Some(b) = place(&mut desk, joined, holds, 5, true) {
+    if let Some(b) = place(&mut desk, joined, holds, 5) {
         play(&mut desk, &b);
     }
     desk.tally(7, 3);

@@ -68,7 +68,7 @@ pub fn unused_single(b: &Booking, desk: &mut Desk, rng: &mut Rng) {
         return;
     }
     let extra = Hold { ids: vec![], standing: false, wording: atom(1, 7), window: b.window };
-    if desk.missing(&[extra.wording.clone()]) + desk.model.lines.len() > 200 {
+    if desk.missing(std::slice::from_ref(&extra.wording)) + desk.model.lines.len() > 200 {
         return;
     }
     let serial = desk.issue(Kind::Single, &extra.wording, extra.window);
@@ -235,7 +235,7 @@ fn play_label_64(
 ) {
     let (step, lines) = script.overflow.expect("a script that wants label 64");
     let texts = in_range(&script);
-    let Some(new) = super::booking::place(desk, deriv, holds, b.now, true) else { return };
+    let Some(new) = super::booking::place(desk, deriv, holds, b.now) else { return };
     let kept = if cut { &texts[..lines] } else { &texts[..] };
     desk.expect(&new.sheet(&new.serials, kept), Answer::Refused(41, step), &[name]);
     let here = step as usize - 1;

@@ -11,9 +11,10 @@ use super::wording::*;
 use super::world::World;
 use super::write::Hold;
 
-pub const LIFE: [&str; 9] = [
+pub const LIFE: [&str; 11] = [
     "withdraw single", "withdraw standing", "withdraw booked", "withdraw dead", "booked coupon booked again",
     "spent single held", "spent single withdrawn", "withdrawn single held", "withdrawn standing held",
+    "live after many came and went", "dead after many came and went",
 ];
 
 /// A plain wording over the stock.
@@ -36,7 +37,7 @@ fn again(desk: &mut Desk, g: &mut Grower, c: &Coupon) -> Option<Booking> {
     let deriv = g.identity(h, inner);
     let hold = Hold { ids: vec![id], standing: false, wording: c.wording.clone(), window: c.window };
     let now = g.rng.pick(&[inner.from, inner.to]);
-    let mut b = place(desk, deriv, vec![hold], now, true)?;
+    let mut b = place(desk, deriv, vec![hold], now)?;
     b.serials = vec![c.serial];
     b.fits_limits().then_some(b)
 }
@@ -96,7 +97,8 @@ pub fn session(seed: u64, calls: usize) -> Session {
         match rng.below(7) {
             0 | 1 => {
                 let part = plain(&mut rng, &world, 3);
-                if desk.missing(&[part.clone()]) + desk.model.lines.len() <= 190 && part.size() <= 64 {
+                let missing = desk.missing(std::slice::from_ref(&part));
+                if missing + desk.model.lines.len() <= 190 && part.size() <= 64 {
                     let w = world.any(&mut rng);
                     desk.issue(Kind::Single, &part, w);
                 }
@@ -159,7 +161,46 @@ pub fn fixed() -> Session {
     desk.script("tally,7,8", "ok,1,1,0", "tally");
     desk.script("tally,7,10", "ok,0,2,0", "tally");
     desk.script("tally,8,9", "ok,0,0,0", "tally");
+    desk.words(&["a,2,7", "t,2,2", "s,1,3", "a,1,255", "a,2,0", "t,5,6", "t,0,0"]);
+    for (serial, wording) in [(8, 4), (9, 7), (10, 8)] {
+        desk.script(&format!("issue,s,{wording},0,9"), &format!("ok,{serial}"), "");
+    }
+    desk.script("tally,7,9", "ok,4,0,2", "tally");
+    desk.script("tally,255,9", "ok,1,0,0", "tally");
+    desk.script("tally,0,10", "ok,0,0,1", "tally");
     desk.session("life: one of each", 0)
+}
+
+/// A full till in which coupons go and others come, many times; then every serial ever given is asked for.
+pub fn many(seed: u64) -> Session {
+    let mut rng = Rng::new(seed);
+    let mut desk = Desk::new();
+    let (seat, w) = (atom(1, 7), window(0, 9));
+    while desk.model.live.len() < 512 {
+        desk.issue(Kind::Single, &seat, w);
+    }
+    for _ in 0..8_000 {
+        let (serial, next) = (rng.pick(&desk.model.live).serial, desk.model.given + 1);
+        if rng.chance(1, 2) {
+            desk.script(&format!("withdraw,{serial}"), &format!("ok,{serial}"), "");
+            desk.issue(Kind::Single, &seat, w);
+        } else {
+            desk.script(&format!("book,5,0,0,9,1,1|hold,{serial}|ax,0"), &format!("ok,{next}"), "");
+        }
+    }
+    desk.tally(7, 9);
+    let mut all: Vec<u32> = (1..=desk.model.given).collect();
+    rng.shuffle(&mut all);
+    for serial in all {
+        let sheet = format!("withdraw,{serial}");
+        if desk.model.coupon(serial).is_some() {
+            desk.script(&sheet, &format!("ok,{serial}"), "live after many came and went");
+        } else {
+            desk.script(&sheet, "no,24,0", "dead after many came and went");
+        }
+    }
+    desk.tally(7, 9);
+    desk.session("life: many come and go", seed)
 }
 
 /// Random derivations booked, broken first; then their goals booked on and withdrawn.

@@ -42,7 +42,7 @@ pub enum Steps {
     Unknown,
 }
 
-/// A coupon (the paper's credential).
+/// A coupon (η-logic's credential).
 #[derive(Clone, Debug)]
 pub struct Coupon {
     pub serial: u32,

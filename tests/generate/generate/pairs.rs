@@ -139,7 +139,8 @@ fn bookings(seed: u64, full: bool) -> Session {
     desk.session(if full { "pairs: bookings, full till" } else { "pairs: bookings" }, seed)
 }
 
-/// 40 to 42 are found step by step; 24 before 31; 3 in any line before the others.
+/// 40 to 42 are found step by step; 24 before 31; 3 in any line before the others, 2 before it. The last
+/// serial given is a live single.
 fn step_order(desk: &mut Desk, standing: u32) {
     let cps = |n: usize| vec!["cp,0"; n].join("|");
     let hold = format!("hold,{standing}");
@@ -155,6 +156,7 @@ fn step_order(desk: &mut Desk, standing: u32) {
         (format!("3|{hold}|cp,0|ax,1|ax,64"), "no,2,0", "pair: 2 after the close"),
         (format!("3|{hold}|cp,0|ax,0|ax,1"), "no,40,2", "pair: 40 before 42"),
         (format!("1|{hold}|cp,0"), "no,42,2", "pair: 42 alone"),
+        (format!("2|{hold}|cp,0|ul,0,9,8|ax,1"), "no,2,0", "pair: 2 and 3, a line too many"),
     ];
     for (tail, answer, name) in tries {
         desk.script(&format!("book,5,0,0,9,1,{tail}"), answer, name);
@@ -163,17 +165,23 @@ fn step_order(desk: &mut Desk, standing: u32) {
         let holds = holds.replace('S', &standing.to_string());
         desk.script(&format!("book,5,0,0,9,3,1|hold,{holds}|af"), "no,24,0", "pair: 24 before 31");
     }
-    for (holds, n) in [("S|hold,S", 2), ("S|hold,S|hold,S", 3)] {
-        let holds = holds.replace('S', &standing.to_string());
-        desk.script(&format!("book,5,0,0,9,{n},1|hold,{holds}|af"), "no,31,0", "standing held twice");
+    let last = desk.model.given.to_string();
+    for (holds, name) in [
+        ("S|hold,S", "standing held twice"), ("S|hold,S|hold,S", "standing held twice"),
+        ("L|hold,L", "single held twice"), ("S|hold,L|hold,S", "held twice, another between"),
+        ("L|hold,S|hold,L", "held twice, another between"),
+    ] {
+        let n = holds.split('|').count();
+        let holds = holds.replace('S', &standing.to_string()).replace('L', &last);
+        desk.script(&format!("book,5,0,0,9,{n},1|hold,{holds}|af"), "no,31,0", name);
     }
 }
 
-pub const STEP_ORDER: [&str; 11] = [
+pub const STEP_ORDER: [&str; 14] = [
     "pair: 41 on the last line", "pair: 41 before 40", "pair: 40 where no label is left",
     "pair: 42 where no label is left", "pair: 42 before 40", "pair: 3 after the close",
     "pair: 2 after the close", "pair: 40 before 42", "pair: 42 alone", "pair: 24 before 31",
-    "standing held twice",
+    "standing held twice", "single held twice", "held twice, another between", "pair: 2 and 3, a line too many",
 ];
 pub const CALL_PAIRS: [&str; 14] = [
     "pair: word 2 and 3", "pair: word 2 and 10", "pair: word 2 and 13", "pair: word 3 and 10",
@@ -188,6 +196,7 @@ fn words(desk: &mut Desk) {
     desk.words(&["a,1,7", "o", "l,8,9"]);
     desk.script("word,h,0,9,8,", "no,2,0", "pair: word 2 and 3");
     desk.script("word,h,0,09,8", "no,2,0", "pair: word 2 and 3");
+    desk.script("word,h,0,9,8|o", "no,2,0", "pair: word 2 and 3");
     desk.script("word,t,999,0,", "no,2,0", "pair: word 2 and 10");
     desk.script("word,t,999,1000", "no,2,0", "pair: word 2 and 10");
     desk.script("word,a,9,07", "no,2,0", "pair: word 2 and 13");
@@ -214,13 +223,14 @@ fn words(desk: &mut Desk) {
 }
 
 /// Wording 0 is plain and balanced, 7 is not plain, 8 not balanced, 10 neither.
-const ISSUES: [(&str, &str); 18] = [
+const ISSUES: [(&str, &str); 19] = [
     ("issue,s,999,9,8", "no,3,0"), ("issue,r,999,9,8", "no,3,0"), ("issue,s,7,9,8", "no,3,0"),
     ("issue,s,999,09,8", "no,2,0"), ("issue,x,999,0,8", "no,2,0"), ("issue,s,7,9,8,", "no,2,0"),
     ("issue,s,0,9,8", "no,3,0"), ("issue,r,0,9,8", "no,3,0"), ("issue,s,0,0,9,", "no,2,0"),
     ("issue,s,999,0,9", "no,10,0"), ("issue,r,999,0,9", "no,10,0"), ("issue,s,7,0,9", "no,20,0"),
     ("issue,r,8,0,9", "no,21,0"), ("issue,r,10,0,9", "no,21,0"), ("issue,r,10,9,0", "no,3,0"),
     ("issue,r,8,0,09", "no,2,0"), ("issue,s,10,0,9", "no,20,0"), ("issue,s,10,9,0", "no,3,0"),
+    ("issue,s,0,9,8|o", "no,2,0"),
 ];
 
 fn other_calls(desk: &mut Desk) {

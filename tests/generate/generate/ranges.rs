@@ -12,14 +12,24 @@ pub const BACKWARD: [&str; 7] = [
     "3: issue", "3: book head", "3: ll", "3: ul", "3: h", "3: g, first window", "3: g, second window",
 ];
 
+/// Numbers above the high end: the next one, and ones that a machine word might cut to the high end.
+fn beyond(hi: u32) -> Vec<String> {
+    let mut all = vec!["99999999999999999999999".to_string(), format!("{hi}0")];
+    all.extend([0, 8, 16, 32, 64].map(|bits| (u128::from(hi) + (1 << bits)).to_string()));
+    all
+}
+
 /// The sheet with a field at both ends (answered as the model says, steps as told) and beyond (2).
 fn field(desk: &mut Desk, text: &str, lo: u32, hi: u32, steps: Steps) {
     desk.play(&sheet_of(&text.replace("{}", &lo.to_string())), steps);
     desk.mark(&["range: low end"]);
     desk.play(&sheet_of(&text.replace("{}", &hi.to_string())), steps);
     desk.mark(&["range: high end"]);
-    for beyond in [(hi + 1).to_string(), "99999999999999999999999".to_string(), format!("{hi}0")] {
+    for beyond in beyond(hi) {
         desk.refuse(&sheet_of(&text.replace("{}", &beyond)), 2, "range: beyond the high end");
+    }
+    for end in [lo, hi] {
+        desk.refuse(&sheet_of(&text.replace("{}", &format!("0{end}"))), 2, "leading zero");
     }
     if lo > 0 {
         desk.refuse(&sheet_of(&text.replace("{}", &(lo - 1).to_string())), 2, "range: below the low end");
@@ -90,6 +100,15 @@ fn book_fields(desk: &mut Desk) {
     let many = |n: usize| format!("book,5,0,0,9,1,{n}|hold,{r}{}", "|af".repeat(n));
     desk.script(&many(256), "no,40,1", "range: high end");
     desk.script(&many(257), "no,2,0", "range: beyond the high end");
+    for number in beyond(1) {
+        if number.len() > 2 {
+            let (holds, steps) = (format!("{number},2"), format!("1,{number}"));
+            for counts in [holds, steps] {
+                let sheet = format!("book,5,0,0,9,{counts}|hold,{r}|cp,0|ax,1");
+                desk.script(&sheet, "no,2,0", "range: beyond the high end");
+            }
+        }
+    }
 }
 
 /// The fields of step lines, as a booking's first step.
@@ -148,10 +167,13 @@ fn backward(desk: &mut Desk) {
     }
 }
 
+/// Plays one group of fields.
+type Fill = fn(&mut Desk);
+
 pub fn sessions(seed: u64) -> Vec<Session> {
     let mut rng = Rng::new(seed);
     let mut out = vec![];
-    let parts: [(fn(&mut Desk), &str); 5] = [
+    let parts: [(Fill, &str); 5] = [
         (wording_fields, "wordings"), (call_fields, "calls"), (book_fields, "bookings"),
         (step_fields, "steps"), (backward, "windows"),
     ];

@@ -5,7 +5,7 @@ use super::model::{Answer, Model, Steps};
 use super::rng::Rng;
 use super::wording::*;
 
-/// One sheet (the paper's request), the answer due (None: not known) and what it stands for.
+/// One sheet (η-logic's request), the answer due (None: not known) and what it stands for.
 pub struct Case {
     pub sheet: Vec<u8>,
     pub expected: Option<Answer>,

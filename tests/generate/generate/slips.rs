@@ -139,6 +139,58 @@ fn names() -> Session {
     desk.session("slips: names", 0)
 }
 
+pub const ARROWS: [&str; 8] = [
+    "ll, ul: A does not affirm", "ll, ul: the goal still affirms", "ll, ul: both under an affirming goal",
+    "ll, ul: A at the goal's window", "ll, ul: A at a window not its own", "ll, ul: J beside the goal's window",
+    "ll, ul: label 64 only after the first premise", "pl: the rest of D in both premises",
+];
+
+/// Coupons by serial: 1 1⊃a, 2 1⊸a, 3 1⊃⟨1⟩a, 4 b⊃1, 5 b⊸1, 6 b, 7 a⊕a; singles 8 and 9 b, 10 and 11 a.
+fn arrows() -> Session {
+    let words = ["a,9,7", "a,8,7", "o", "s,1,0", "u,2,0", "l,2,0", "u,2,3", "u,1,2", "l,1,2", "p,0,0", "t,0,1"];
+    let offers = ["r,4,0,99", "r,5,0,99", "r,6,0,99", "r,7,0,99", "r,8,0,99", "r,1,20,30", "r,9,0,99"];
+    let singles = ["s,1,20,30", "s,1,0,99", "s,0,5,6", "s,0,5,6"];
+    let mut desk = desk(&words, &[&offers[..], &singles].concat());
+    let name = |n: usize| ARROWS[n];
+    play(&mut desk, &[
+        ("3,5,6", &[1], "sr|cp,0|ul,1,5,6|af|or|ax,2", "no,40,4", name(0)),
+        ("3,5,6", &[1], "sr|cp,0|ul,1,5,6|or|ax,2", "no,40,5", name(1)),
+        ("3,5,6", &[1], "sr|cp,0|ul,1,5,6|or|af|ax,2", "ok", name(2)),
+        ("3,5,6", &[3], "sr|cp,0|ul,1,5,6|or|sl,2|af|ax,3", "ok", name(2)),
+        ("3,5,6", &[2], "sr|cp,0|ll,1,0000000000000000,5,6|af|or|ax,2", "no,40,4", name(0)),
+        ("3,5,6", &[2], "sr|cp,0|ll,1,0000000000000000,5,6|or|ax,2", "no,40,5", name(1)),
+        ("3,5,6", &[2], "sr|cp,0|ll,1,0000000000000000,5,6|or|af|ax,2", "ok", name(2)),
+        ("0,5,6", &[4, 6, 10], "cp,0|ul,3,5,6|cp,1|ax,4|ol,5|ax,2", "no,40,4", name(3)),
+        ("0,5,6", &[4, 6, 10], "cp,0|ul,3,19,30|cp,1|ax,4|ol,5|ax,2", "no,40,4", name(4)),
+        ("0,5,6", &[4, 6, 10], "cp,0|ul,3,20,30|cp,1|ax,4|ol,5|ax,2", "ok", name(5)),
+        ("0,5,6", &[5, 8, 11], "cp,0|ll,3,0000000000000002,5,6|ax,1|ol,4|ax,2", "no,40,3", name(3)),
+        ("0,5,6", &[5, 8, 11], "cp,0|ll,3,0000000000000002,20,31|ax,1|ol,4|ax,2", "no,40,3", name(4)),
+        ("0,5,6", &[5, 8, 11], "cp,0|ll,3,0000000000000002,20,30|ax,1|ol,4|ax,2", "ok", name(5)),
+        (
+            "10,5,6",
+            &[7, 9],
+            "cp,0|pl,2|tr,0000000000000008|ax,3|ax,1|tr,0000000000000010|ax,4|ax,1",
+            "ok",
+            name(7),
+        ),
+    ]);
+    label_64(&mut desk);
+    desk.session("slips: arrows", 0)
+}
+
+/// All labels taken by copies: the second premise wants label 64, but the first comes before it.
+fn label_64(desk: &mut Desk) {
+    let copies = "|cp,0".repeat(63);
+    let ends = [("", "no,42,65"), ("|af", "no,40,65"), ("|or", "no,41,64"), ("|or|af", "no,41,64")];
+    for (serial, line) in [(1, "ul,1,5,6"), (2, "ll,1,0000000000000000,5,6")] {
+        for (end, answer) in ends {
+            let n = 64 + end.matches('|').count();
+            let sheet = format!("book,5,0,5,6,1,{n}|hold,{serial}{copies}|{line}{end}");
+            desk.script(&sheet, answer, ARROWS[6]);
+        }
+    }
+}
+
 pub fn sessions() -> Vec<Session> {
-    vec![arms(), joined(), names()]
+    vec![arms(), joined(), names(), arrows()]
 }

@@ -5,7 +5,7 @@ use std::rc::Rc;
 
 pub const LAST_MINUTE: u32 = 9_999_999;
 
-/// A window (the paper's interval).
+/// A window (η-logic's interval).
 #[derive(Clone, Copy, PartialEq, Eq, PartialOrd, Ord, Debug)]
 pub struct Window {
     pub from: u32,
@@ -29,7 +29,7 @@ impl Window {
 
 pub type Part = Rc<Wording>;
 
-/// A wording (the paper's formula), its parts written out.
+/// A wording (η-logic's formula), its parts written out.
 #[derive(Clone, PartialEq, Eq, Debug)]
 pub enum Wording {
     Atom(u32, u32),
