@@ -66,6 +66,9 @@ module _ (letter : ℕ) where
   unfolding supersetFields
   superset-row h b = rw h (two-row interval-shape interval-shape Line.superset (λ v w. refl) b)
 
+pub row-told : {x y : Row} (b : List ℕ) → x ≡ y → _≡_ {A = Option (Row × List ℕ)} (some (x, b)) (some (y, b))
+row-told b e = ap (λ z. some (z, b)) e
+
 -- The letter
 
 -- those of formula lines

@@ -13,6 +13,7 @@ use Rattle.request.specs.Text.{bytes, sameBytes, andThen, numberIn, labelSetIn}
 use Rattle.request.specs.Reader.{Reader, return, _>>=_, next, named, choose}
 use Rattle.request.specs.Request.{Step}
 use Rattle.request.specs.Read.{number, labelSet, interval, labelled, stepLine, holdLine}
+use Rattle.forms.specs.declared.StepRow.{StepRow}
 use Rattle.numbers.specs.Field.{fieldTo, strip}
 use Rattle.forms.specs.Line.{readLine, intervalTo}
 use Rattle.forms.specs.Step.{stepRow, stepOf, ops, opOf, labelReader, stepReader}
@@ -112,6 +113,10 @@ pub lolli-halves : (l v : ℕ) (j : Interval) (b : List ℕ)
     → _≡_ {A = Option (Step × List ℕ)} (some (Step.ll l (v / 4294967296 * 4294967296 + v % 4294967296) j, b))
     (some (Step.ll l v j, b))
 lolli-halves l v j b = ap (λ x. some (Step.ll l x j, b)) (halves v)
+
+pub step-told : {x y : StepRow} (b : List ℕ) → x ≡ y
+    → _≡_ {A = Option (Step × List ℕ)} (some (stepOf x, b)) (some (stepOf y, b))
+step-told b e = ap (λ z. some (stepOf z, b)) e
 
 -- The word of a step
 

@@ -16,7 +16,7 @@ ghost use Rattle.ledger.specs.Table.{rowOf};
 ghost use Rattle.ledger.specs.Checks.{any};
 ghost use Rattle.numbers.specs.Field.{Stop};
 ghost use Rattle.forms.specs.Line.{readLine, intervalTo, oneField, twoFields, atFields, supersetFields, rowed};
-ghost use Rattle.forms.specs.Line.{spanOf, formulaOf, TwoAsked};
+ghost use Rattle.forms.specs.Line.{row, spanOf, formulaOf, TwoAsked};
 
 // `from,to`, which the byte `stop` ends.
 pub fn interval(s: &[u8], at: u32, stop: u8) -> Span
@@ -126,6 +126,19 @@ fn superset_fields(s: &[u8], at: u32, letter: u32) -> FormulaLine
     )
 }
 
+// A letter without fields.
+fn bare(letter: u32) -> Row
+    ensures { λ r. ⌜ r ≡ row letter 0 0 0 0 ⌝ }
+{
+    Row {
+        letter,
+        a: 0,
+        b: 0,
+        c: 0,
+        d: 0,
+    }
+}
+
 // One of the eleven formula lines.
 pub fn formula_line(s: &[u8], at: u32) -> FormulaLine
     requires { ⌜ length (now s) ≤ maxBytes ⌝ }
@@ -141,16 +154,7 @@ pub fn formula_line(s: &[u8], at: u32) -> FormulaLine
     let j = at + 2;
     if letter == 111 {
         if stop == 10 {
-            return FormulaLine::Formula(
-                Row {
-                    letter: 111,
-                    a: 0,
-                    b: 0,
-                    c: 0,
-                    d: 0,
-                },
-                j,
-            );
+            return FormulaLine::Formula(bare(111), j);
         }
         return FormulaLine::Broken;
     }

@@ -14,7 +14,7 @@ ghost use lib.ListN.{length, drop};
 ghost use Rattle.request.specs.Range.{maxBytes};
 ghost use Rattle.request.specs.Read.{stepLine};
 ghost use Rattle.forms.specs.Line.{readLine};
-ghost use Rattle.forms.specs.Step.{opOf, stepReader, labelReader, stepLineOf};
+ghost use Rattle.forms.specs.Step.{stepRow, opOf, stepReader, labelReader, stepLineOf};
 
 // The number of the step whose word is the two letters; 22 for no step.
 fn op_of(a: u8, b: u8) -> u32
@@ -152,6 +152,20 @@ fn implies_fields(s: &[u8], at: u32) -> StepLine
     )
 }
 
+// A step without fields.
+fn bare(op: u32) -> StepRow
+    ensures { λ r. ⌜ r ≡ stepRow op 0 0 0 0 0 ⌝ }
+{
+    StepRow {
+        op,
+        label: 0,
+        high: 0,
+        low: 0,
+        from: 0,
+        to: 0,
+    }
+}
+
 // One of the 22 step lines.
 pub fn read_step(s: &[u8], at: u32) -> StepLine
     requires { ⌜ length (now s) ≤ maxBytes ⌝ }
@@ -168,17 +182,7 @@ pub fn read_step(s: &[u8], at: u32) -> StepLine
         if stop != 10 {
             return StepLine::Broken;
         }
-        return StepLine::Step(
-            StepRow {
-                op,
-                label: 0,
-                high: 0,
-                low: 0,
-                from: 0,
-                to: 0,
-            },
-            j,
-        );
+        return StepLine::Step(bare(op), j);
     }
     if stop != 44 {
         return StepLine::Broken;

@@ -9,7 +9,7 @@ use Rattle.request.specs.Read.{part, parts, formulaLine}
 use Rattle.forms.specs.Line.{row, rowed}
 use Rattle.forms.proofs.Letters.{one-row, numbers-row, at-row, superset-row}
 use Rattle.forms.proofs.Letters.{letter-short, letter-fields, letter-one, letter-one-bare, letter-bare}
-use Rattle.forms.proofs.Letters.{letter-other}
+use Rattle.forms.proofs.Letters.{letter-other, row-told}
 use Rattle.forms.proofs.formulas.formula_line.Statement.{statement}
 use Rattle.forms.proofs.formulas.formula_line.Tie as tie
 
@@ -25,8 +25,10 @@ formula-line-spec =
     (λ c. search needs)
     (λ c. omega (arith, c .before .shared-slice-known2 .given (c .before .before .before .before .args .at)))
     (λ c. search needs)
+    (λ c κs. search needs)
     (λ c. let d = c .before .before .before .before in
-    sym (ap rowed (letter-one _ _ (d .if1 .left) (c .before .if2 .taken) (c .if3 .taken))))
+    row-told _ (c .bare .ensures)
+    ∙ sym (ap rowed (letter-one _ _ (d .before .if1 .left) (c .before .before .if2 .taken) (c .before .if3 .taken))))
     (λ c. let d = c .before .before .before .before in
     sym (ap rowed (letter-one-bare _ _ (d .if1 .left) (c .before .if2 .taken) (c .if3 .left))))
     (λ c. let d = c .before .before .before .before in

@@ -2,7 +2,7 @@
 use mathlib.Core.Path.{sym, _∙_}
 use borrow.Author.Needs.{needs}
 use Rattle.forms.proofs.Ops.{step-short, step-plain, step-plain-on, step-bare, step-fields, step-label}
-use Rattle.forms.proofs.Ops.{step-none}
+use Rattle.forms.proofs.Ops.{step-none, step-told}
 use Rattle.forms.proofs.rows.read_step.Statement.{statement}
 use Rattle.forms.proofs.rows.read_step.Tie as tie
 
@@ -22,9 +22,11 @@ read-step-spec =
     (λ c. let d = c .before .before .before .before in
     sym (step-plain-on _ _ (d .before .before .if1 .left) (c .before .before .before .op-of .ensures)
     (c .before .if2 .taken) (c .if3 .taken)))
+    (λ c κs. search needs)
     (λ c. let d = c .before .before .before .before in
-    sym (step-plain _ _ (d .before .before .if1 .left) (c .before .before .before .op-of .ensures)
-    (c .before .if2 .taken) (c .if3 .left)))
+    step-told _ (c .bare .ensures)
+    ∙ sym (step-plain _ _ (d .before .before .before .if1 .left) (d .op-of .ensures) (c .before .before .if2 .taken)
+    (c .before .if3 .left)))
     (λ c. let d = c .before .before .before .before in
     sym (step-bare _ _ (d .before .before .if1 .left) (c .before .before .before .op-of .ensures)
     (c .before .if2 .left) (c .if4 .taken)))
