@@ -4,9 +4,9 @@ use steps::Fresh;
 use steps::Goal;
 use steps::Plan;
 use steps::Sequent;
+use store::Store;
 use tables::StepRow;
 use tables::held;
-use tables::rows;
 
 mod left;
 mod make;
@@ -15,14 +15,14 @@ mod right;
 ghost use mathlib.Core.Path.{_≡_};
 ghost use Rattle.labels.specs.Labels.{member};
 ghost use Rattle.steps.specs.Plans.{when, planOf};
-ghost use Rattle.tables.specs.Rows.{rowAt};
+ghost use Rattle.store.specs.Layout.{rowAt};
 ghost use Rattle.tables.specs.Held.{heldAt};
 ghost use Rattle.tables.specs.Lines.{stepOf};
 ghost use Rattle.rules.specs.Among.{Among};
 
 // The right steps and `ax`, at the goal of formula n at i.
 fn at_right(
-    store: &[u32; 3964],
+    store: &Store,
     table: &[u32; 192],
     q: Sequent,
     n: u32,
@@ -33,7 +33,7 @@ fn at_right(
     ensures { λ r. ⌜ r ≡ planOf (rowAt (now (store .entry))) (heldAt (now (table .entry))) (q .unrestricted)
         (q .linear) (Goal.Holds n i) (stepOf s) ⌝ }
 {
-    let x = rows::row_at(store, n);
+    let x = store::row_at(store, n);
     let d = q.linear;
     let op = s.op;
     match op {
@@ -48,19 +48,19 @@ fn at_right(
         9 => right::tr(d, x, i, s.share),
         _ => {
             let h = held::held_at(table, s.label);
-            right::ax(d, x, i, s.label, h, rows::row_at(store, h.formula))
+            right::ax(d, x, i, s.label, h, store::row_at(store, h.formula))
         }
     }
 }
 
 // The left steps, but for the test that the label is in D.
-fn at_left(store: &[u32; 3964], table: &[u32; 192], q: Sequent, s: StepRow) -> Plan
+fn at_left(store: &Store, table: &[u32; 192], q: Sequent, s: StepRow) -> Plan
     requires { ⌜ Among 12 21 s ⌝ }
     ensures { λ r. ⌜ when (member (q .linear) (s .label)) r ≡ planOf (rowAt (now (store .entry)))
         (heldAt (now (table .entry))) (q .unrestricted) (q .linear) (q .goal) (stepOf s) ⌝ }
 {
     let h = held::held_at(table, s.label);
-    let x = rows::row_at(store, h.formula);
+    let x = store::row_at(store, h.formula);
     let d = labels::remove(q.linear, s.label);
     let g = q.goal;
     let i = h.interval;
@@ -84,7 +84,7 @@ fn at_left(store: &[u32; 3964], table: &[u32; 192], q: Sequent, s: StepRow) -> P
 }
 
 // What a step does at a sequent (document 01: the table of steps).
-pub fn rule(store: &[u32; 3964], table: &[u32; 192], q: Sequent, s: StepRow) -> Plan
+pub fn rule(store: &Store, table: &[u32; 192], q: Sequent, s: StepRow) -> Plan
     ensures { λ r. ⌜ r ≡ planOf (rowAt (now (store .entry))) (heldAt (now (table .entry))) (q .unrestricted)
         (q .linear) (q .goal) (stepOf s) ⌝ }
 {

@@ -1,9 +1,8 @@
-// The rows of numbers that the step checker works on: formulas, labels, step lines. specs/ says how each is read.
+// The rows of numbers that the step checker works on: labels, step lines. specs/ says how each is read.
 use logic::Interval;
 
 pub mod held;
 pub mod lines;
-pub mod rows;
 
 // A step line as a row: its number, and its label, share and interval, 0 where it has none.
 pub struct StepRow {
