@@ -4,29 +4,28 @@ use super::make;
 use logic::Interval;
 use steps::Fresh;
 use steps::Goal;
-use steps::Hypothesis;
 use steps::Plan;
 use steps::Row;
 use steps::Sequent;
+use tables::held;
 ghost use mathlib.Core.Path.{_≡_};
 ghost use mathlib.Core.Bool.{_&&_};
-ghost use Prim.Native.Nat.{_<_};
 ghost use lib.Dec.{eqb};
 ghost use Rattle.logic.specs.Interval.{span, contains};
 ghost use Rattle.labels.specs.Labels.{member, subset, without};
 ghost use Rattle.steps.specs.Plans.{when, is, premise, _at_};
+ghost use Rattle.tables.specs.Held.{heldAt};
 
 // "L in R; a new single label of the same wording and window."
-pub fn cp(q: Sequent, k: u32, h: Hypothesis) -> Plan
-    requires { ⌜ k < 64 ⌝ }
+pub fn cp(table: &[u32; 192], q: Sequent, k: u32) -> Plan
     ensures { λ r. ⌜ r ≡ when (member (q .unrestricted) k)
-        (Plan.One (premise (q .linear) (q .goal) (Fresh.Linear h))) ⌝ }
+        (Plan.One (premise (q .linear) (q .goal) (Fresh.Linear (heldAt (now (table .entry)) k)))) ⌝ }
 {
+    if !make::has(q.unrestricted, k) {
+        return Plan::Refused;
+    }
     let g = q.goal;
-    make::when(
-        labels::member(q.unrestricted, k),
-        Plan::One(make::premise(q.linear, g, Fresh::Linear(h))),
-    )
+    Plan::One(make::premise(q.linear, g, Fresh::Linear(held::held_at(table, k))))
 }
 
 // "drops L, a 1."

@@ -7,29 +7,22 @@ use steps::Sequent;
 use store::Store;
 use tables::StepRow;
 use tables::held;
+use tables::lines;
 
 mod left;
 mod make;
 mod right;
 
 ghost use mathlib.Core.Path.{_≡_};
-ghost use Rattle.labels.specs.Labels.{member};
-ghost use Rattle.steps.specs.Plans.{when, planOf};
+ghost use Prim.Native.Nat.{_≤_};
+ghost use Rattle.steps.specs.Plans.{planOf};
 ghost use Rattle.store.specs.Layout.{rowAt};
 ghost use Rattle.tables.specs.Held.{heldAt};
 ghost use Rattle.tables.specs.Lines.{stepOf};
-ghost use Rattle.rules.specs.Among.{Among};
 
 // The right steps and `ax`, at the goal of formula n at i.
-fn at_right(
-    store: &Store,
-    table: &[u32; 192],
-    q: Sequent,
-    n: u32,
-    i: Interval,
-    s: StepRow,
-) -> Plan
-    requires { ⌜ Among 1 10 s ⌝ }
+fn at_right(store: &Store, table: &[u32; 192], q: Sequent, n: u32, i: Interval, s: StepRow) -> Plan
+    requires { ⌜ (1 ≤ s .op) × (s .op ≤ 10) ⌝ }
     ensures { λ r. ⌜ r ≡ planOf (rowAt (now (store .entry))) (heldAt (now (table .entry))) (q .unrestricted)
         (q .linear) (Goal.Holds n i) (stepOf s) ⌝ }
 {
@@ -45,26 +38,35 @@ fn at_right(
         6 => right::hr(d, x),
         7 => right::sr(d, x, i),
         8 => right::wr(d, x, i),
-        9 => right::tr(d, x, i, s.share),
+        9 => right::tr(d, x, i, lines::share(s)),
         _ => {
+            if 64 <= s.label {
+                return Plan::Refused;
+            }
             let h = held::held_at(table, s.label);
             right::ax(d, x, i, s.label, h, store::row_at(store, h.formula))
         }
     }
 }
 
-// The left steps, but for the test that the label is in D.
+// The left steps: the label is in D.
 fn at_left(store: &Store, table: &[u32; 192], q: Sequent, s: StepRow) -> Plan
-    requires { ⌜ Among 12 21 s ⌝ }
-    ensures { λ r. ⌜ when (member (q .linear) (s .label)) r ≡ planOf (rowAt (now (store .entry)))
-        (heldAt (now (table .entry))) (q .unrestricted) (q .linear) (q .goal) (stepOf s) ⌝ }
+    requires { ⌜ 12 ≤ s .op ⌝ }
+    ensures { λ r. ⌜ r ≡ planOf (rowAt (now (store .entry))) (heldAt (now (table .entry))) (q .unrestricted)
+        (q .linear) (q .goal) (stepOf s) ⌝ }
 {
+    if !make::has(q.linear, s.label) {
+        return Plan::Refused;
+    }
     let h = held::held_at(table, s.label);
     let x = store::row_at(store, h.formula);
     let d = labels::remove(q.linear, s.label);
     let g = q.goal;
     let i = h.interval;
-    let j = s.interval;
+    let j = Interval {
+        from: s.from,
+        to: s.to,
+    };
     let op = s.op;
     match op {
         12 => left::ol(d, g, x),
@@ -78,7 +80,7 @@ fn at_left(store: &Store, table: &[u32; 192], q: Sequent, s: StepRow) -> Plan
         },
         18 => left::tl(d, g, x, i),
         19 => left::pl(d, g, x, i),
-        20 => left::ll(d, g, x, i, s.share, j),
+        20 => left::ll(d, g, x, i, lines::share(s), j),
         _ => left::ul(d, g, x, i, j),
     }
 }
@@ -88,9 +90,6 @@ pub fn rule(store: &Store, table: &[u32; 192], q: Sequent, s: StepRow) -> Plan
     ensures { λ r. ⌜ r ≡ planOf (rowAt (now (store .entry))) (heldAt (now (table .entry))) (q .unrestricted)
         (q .linear) (q .goal) (stepOf s) ⌝ }
 {
-    if 64 <= s.label {
-        return Plan::Refused;
-    }
     let g = q.goal;
     let op = s.op;
     match op {
@@ -106,11 +105,7 @@ pub fn rule(store: &Store, table: &[u32; 192], q: Sequent, s: StepRow) -> Plan
             Goal::Holds(n, i) => at_right(store, table, q, n, i, s),
             Goal::Affirms(_, _, _) => Plan::Refused,
         },
-        11 => left::cp(q, s.label, held::held_at(table, s.label)),
-        12..=21 => make::when(
-            labels::member(q.linear, s.label),
-            at_left(store, table, q, s),
-        ),
-        _ => Plan::Refused,
+        11 => left::cp(table, q, s.label),
+        _ => at_left(store, table, q, s),
     }
 }

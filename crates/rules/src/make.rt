@@ -7,6 +7,7 @@ use steps::Plan;
 use steps::Premise;
 ghost use mathlib.Core.Path.{_≡_};
 ghost use Rattle.logic.specs.Interval.{contains as containsOf};
+ghost use Rattle.labels.specs.Labels.{member};
 ghost use Rattle.steps.specs.Plans.{when as whenOf, premise as premiseOf, _at_};
 
 // The plan where the test holds.
@@ -14,6 +15,16 @@ pub fn when(b: bool, p: Plan) -> Plan
     ensures { λ r. ⌜ r ≡ whenOf b p ⌝ }
 {
     if b { p } else { Plan::Refused }
+}
+
+// Label k is in d; no number from 64 on is.
+pub fn has(d: u64, k: u32) -> bool
+    ensures { λ r. ⌜ r ≡ member d k ⌝ }
+{
+    if 64 <= k {
+        return false;
+    }
+    labels::member(d, k)
 }
 
 // I ⊇ J.
