@@ -1,11 +1,11 @@
 -- Laws of plans and of steps' numbers.
-use mathlib.Core.Path.{_≡_, refl, ap}
-use mathlib.Core.Bool.{Bool, true, false, _&&_}
+use mathlib.Core.Path.{_≡_, refl, sym, ap, _∙_}
+use mathlib.Core.Bool.{Bool, true, false, not, _&&_}
 use Prim.Native.Nat.{ℕ, zero, suc, _+_, _-_, _^_, _≤_, _<_}
 use Prim.Native.Char.{Char}
 use native.Mathlib.Omega.{arith}
 use native.Mathlib.Decide.{decLe}
-use borrow.Author.Tests.{ne-eqb}
+use borrow.Author.Tests.{ne-eqb, not-true, not-false}
 use lib.ListN.{getD, List·getD-eq-default}
 use lib.Pow.{pow-mono}
 use Rattle.logic.specs.declared.Interval.{Interval}
@@ -34,6 +34,13 @@ when-refused : (b : Bool) → when b Refused ≡ Refused
 unfolding when
 when-refused true = refl
 when-refused false = refl
+
+-- a test that a function makes, where the code goes on if it holds
+pub holds : {a b : Bool} → a ≡ b → not a ≡ false → b ≡ true
+holds {a} e n = sym e ∙ not-false a n
+
+pub fails : {a b : Bool} → a ≡ b → not a ≡ true → b ≡ false
+fails {a} e n = sym e ∙ not-true a n
 
 -- no set has a label from 64 on
 pub no-member : (d k : ℕ) → d < 2 ^ 64 → 64 ≤ k → member d k ≡ false

@@ -1,4 +1,4 @@
-use mathlib.Core.Path.{sym, _∙_}
+use mathlib.Core.Path.{sym}
 use native.Mathlib.Omega.{arith}
 use Rattle.steps.specs.Plans.{planOf, affirmed}
 use Rattle.rules.proofs.Plans.{numbered, right-refused}

@@ -1,25 +1,24 @@
-use mathlib.Core.Path.{sym, _∙_}
 use native.Mathlib.Omega.{arith}
-use borrow.Author.Tests.{not-true, not-false}
 use Rattle.labels.proofs.Sets.{member-below}
 use Rattle.steps.specs.Plans.{when}
+use Rattle.rules.proofs.Plans.{holds, fails}
 use borrow.Author.Needs.{needs}
 use Rattle.rules.proofs.left.cp.Statement.{statement}
 use Rattle.rules.proofs.left.cp.Tie as tie
 
 returns : tie.Need-returns
 unfolding when
-returns c = rw (sym (c .before .has .ensures) ∙ not-true _ (c .if1 .taken))
+returns c = rw (fails (c .before .has .ensures) (c .if1 .taken))
 
 held-at-requires : tie.Need-held-at-requires
 held-at-requires c κs =
-    member-below _ 64 _ (omega arith) (sym (c .before .has .ensures) ∙ not-false _ (c .if1 .left))
+    member-below _ 64 _ (omega arith) (holds (c .before .has .ensures) (c .if1 .left))
 
 returns-2 : tie.Need-returns-2
 unfolding when
 returns-2 c =
     let a = c .before .before in
-    rw (sym (a .before .has .ensures) ∙ not-false _ (a .if1 .left))
+    rw (holds (a .before .has .ensures) (a .if1 .left))
     (simp (c .premise .ensures, c .before .held-at .ensures))
 
 pub cp-spec : {M : Type 1} → statement M
