@@ -79,13 +79,7 @@ module _ {s : List ℕ} {count : ℕ} {t : List ℕ} {at k n : ℕ} (h : Reading
   unfolding allLines
   steps-are l b = then-some _ (all-read l) ∙ rw (eq-eqb (length (drop at s)) 0 (omega (arith, length-drop at s)))
 
-  pub in-order : count ≤ k → length s ≤ at → n ≡ 0 → StepsAre (allLines count stepLine s) (stepsFrom t 0 count) false
-  in-order l b e =
+  pub all-lines-read : count ≤ k → length s ≤ at → StepsAre (allLines count stepLine s) (stepsFrom t 0 count) (ltb 0 n)
+  all-lines-read l b =
       let q : count ≡ k = omega (arith, h .among) in
-      record { steps = steps-are l b; reversals = rw q (h .turns ∙ rw e) }
-
-  pub some-reversed : count ≤ k → length s ≤ at → (n ≡ 0 → ⊥)
-      → StepsAre (allLines count stepLine s) (stepsFrom t 0 count) true
-  some-reversed l b e =
-      let q : count ≡ k = omega (arith, h .among) in
-      record { steps = steps-are l b; reversals = rw q (h .turns ∙ lt-ltb 0 n (omega arith)) }
+      record { steps = steps-are l b; reversals = rw q (h .turns) }

@@ -22,7 +22,7 @@ use Rattle.reader.specs.declared.Head.{Head}
 use Rattle.reader.specs.declared.HoldsRead.{HoldsRead}
 use Rattle.reader.specs.declared.HoldsRead.the-variants.{Read, Broken as NoHolds}
 use Rattle.reader.specs.declared.StepsRead.{StepsRead}
-use Rattle.reader.specs.declared.StepsRead.the-variants.{Ordered, Reversed, Broken as NoSteps}
+use Rattle.reader.specs.declared.StepsRead.the-variants.{Read as AllRead, Broken as NoSteps}
 
 -- what r reads from the first n lines, each, and the bytes after them
 unfoldable pub readLines : {A : Type 0} → ℕ → Reader A → List ℕ → Option (List A × List ℕ)
@@ -50,8 +50,7 @@ pub record StepsAre (q : Option (List Step)) (ss : List Step) (b : Bool) : Type 
 
 -- the answer for bytes whose step lines are q, the first `count` rows
 abbrev pub StepsIs : Option (List Step) → ℕ → List ℕ → StepsRead → Type 0
-StepsIs q count rows Ordered = StepsAre q (stepsFrom rows 0 count) false
-StepsIs q count rows Reversed = StepsAre q (stepsFrom rows 0 count) true
+StepsIs q count rows (AllRead b) = StepsAre q (stepsFrom rows 0 count) b
 StepsIs q count rows NoSteps = q ≡ none
 
 -- the booking of a head, its holds and its steps

@@ -71,8 +71,5 @@ pub fn read_steps(s: &[u8], count: u32, rows: &mut [u32; 1536]) -> StepsRead
     if (at as usize) < s.len() {
         return StepsRead::Broken;
     }
-    if reversed == 0 {
-        return StepsRead::Ordered;
-    }
-    StepsRead::Reversed
+    StepsRead::Read(0 < reversed)
 }

@@ -1,0 +1,4 @@
+pub mod Same
+pub mod Judged
+pub mod Laws
+pub mod Lines
