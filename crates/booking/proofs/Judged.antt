@@ -1,6 +1,6 @@
 -- The steps of a booking, judged on the array of labels, are judged as the definition judges them.
-use mathlib.Core.Path.{_≡_, refl, sym, ap, ap₂, subst, _∙_}
-use mathlib.Core.List.{List, [], _∷_, map}
+use mathlib.Core.Path.{_≡_, refl, sym, ap, subst, _∙_}
+use mathlib.Core.List.{List, map}
 use mathlib.Core.Option.{none, some}
 use mathlib.Core.Bool.{Bool, true, false}
 use Prim.Native.Nat.{ℕ, _+_, _*_, _≤_, _<_}
@@ -12,14 +12,12 @@ use lib.ListN.{length, take, getD, replicate, length-map, length-replicate, getD
 use borrow.Author.Tests.{eqb-true, eqb-false}
 use Rattle.logic.specs.declared.Interval.{Interval}
 use Rattle.request.specs.Request.{Step}
-use Rattle.steps.specs.declared.Row.{Row}
 use Rattle.steps.specs.declared.Hypothesis.{Hypothesis}
 use Rattle.steps.specs.declared.Sequent.{Sequent}
 use Rattle.steps.specs.declared.Goal.the-variants.{Holds}
 use Rattle.steps.specs.Check.{maxLabels, puts, Outcome, done, stopped, checkOf}
-use Rattle.steps.proofs.Tables.{Table}
 use Rattle.ledger.specs.declared.Credential.{Credential}
-use Rattle.ledger.specs.Ledger.{Ledger, row, held}
+use Rattle.ledger.specs.Ledger.{row, held}
 use Rattle.ledger.specs.Checks.{Check, LabelTable, noLabels, readLabel, writeLabel, hypothesis, bookingSequent}
 use Rattle.ledger.specs.Checks.{verdict, steps}
 use Rattle.store.specs.Layout.{rowAt}

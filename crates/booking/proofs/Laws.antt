@@ -1,9 +1,9 @@
 -- One law for each way out of a booking.
-use mathlib.Core.Path.{_≡_, refl, sym, ap, subst, _∙_}
+use mathlib.Core.Path.{_≡_, ap, subst, _∙_}
 use mathlib.Core.List.{List, [], _∷_}
 use mathlib.Core.Option.{none, some}
 use mathlib.Core.Bool.{Bool, true, false, not, _&&_, _||_}
-use Prim.Native.Nat.{ℕ, _+_, _-_, _≤_, _<_}
+use Prim.Native.Nat.{ℕ, _-_, _<_}
 use native.Mathlib.Omega.{arith}
 use lib.ListN.{length, take}
 use lib.Dec.{leb, ltb}
@@ -14,18 +14,18 @@ use Rattle.logic.specs.Formula.{plain}
 use Rattle.logic.specs.Interval.{has}
 use Rattle.logic.specs.Multiset.{Every}
 use Rattle.request.specs.Range.{serial}
-use Rattle.request.specs.Request.{Step, Request, book}
+use Rattle.request.specs.Request.{Step}
 use Rattle.request.specs.declared.Kind.the-variants.{Linear}
 use Rattle.ledger.specs.declared.Credential.{Credential}
 use Rattle.ledger.specs.declared.Answer.{Answer}
 use Rattle.ledger.specs.declared.Answer.the-variants.{Accepted, Refused}
 use Rattle.ledger.specs.Ledger.{Ledger, formula, held, linearCount, spend}
-use Rattle.ledger.specs.Checks.{Refusal, Check, _if_, any, maxLive, missing, dead, twice, noRoom, usedUp, steps, checks, readChecks}
+use Rattle.ledger.specs.Checks.{Check, _if_, any, maxLive, missing, dead, twice, noRoom, usedUp, steps, checks}
 use Rattle.ledger.specs.Calls.{withLive, withCredential, accept}
-use Rattle.ledger.specs.Statements.{Pass, FirstFails}
+use Rattle.ledger.specs.Statements.{FirstFails}
 use Rattle.ledger.proofs.Credentials.{splits}
 use Rattle.ledger.proofs.Firsts.{if-false, if-true, skip, hit}
-use Rattle.store.specs.Store.{ledgerOf, Good, StandsFor, Givable}
+use Rattle.store.specs.Store.{ledgerOf, StandsFor, Givable}
 use Rattle.tables.specs.Lines.{stepsFrom}
 use Rattle.reader.specs.declared.Head.{Head}
 use Rattle.holds.specs.declared.Sides.{Sides}

@@ -1,24 +1,24 @@
 -- What becomes of the bytes of a booking, by what is read after its head.
 use mathlib.Core.Path.{_≡_, refl, sym, ap, subst, _∙_}
 use mathlib.Core.List.{List, []}
-use mathlib.Core.Option.{Option, none, some}
-use mathlib.Core.Bool.{Bool, true, false, _||_}
-use Prim.Native.Nat.{ℕ, zero, suc, _-_, _≤_, _<_}
+use mathlib.Core.Option.{none, some}
+use mathlib.Core.Bool.{Bool, true, _||_}
+use Prim.Native.Nat.{ℕ, zero, suc, _-_, _≤_}
 use native.Mathlib.Omega.{arith}
 use lib.ListN.{length, take, drop, length-drop, drop-of-length-le}
 use lib.Seq.{take-length}
 use Rattle.logic.specs.Interval.{reversed}
 use Rattle.request.specs.Text.{andThen}
-use Rattle.request.specs.Request.{Step, Request, intervals, stepsIntervals}
+use Rattle.request.specs.Request.{intervals}
 use Rattle.request.specs.Read.{requestOf, holdLine, stepLine}
 use Rattle.ledger.specs.declared.Answer.{Answer}
 use Rattle.ledger.specs.declared.Answer.the-variants.{Refused}
-use Rattle.ledger.specs.Checks.{any, checks, readChecks}
+use Rattle.ledger.specs.Checks.{any}
 use Rattle.ledger.proofs.Firsts.{if-true, hit}
 use Rattle.forms.specs.Line.{split, readLine}
 use Rattle.tables.specs.Lines.{stepsFrom}
 use Rattle.reader.specs.declared.Head.{Head}
-use Rattle.reader.specs.Booking.{readLines, allLines, booked, StepsAre, LinesAsked}
+use Rattle.reader.specs.Booking.{readLines, allLines, StepsAre, LinesAsked}
 use Rattle.reader.proofs.Several.{no-holds, no-steps, booking-read}
 use Rattle.store.specs.Store.{Good}
 use Rattle.till.specs.Handled.{Handled, Called, Pending}

@@ -1,20 +1,18 @@
 -- Holding: what holds before each hold is looked up, and after the last.
-use mathlib.Core.Path.{_≡_, refl, sym, ap, _∙_}
+use mathlib.Core.Path.{_≡_, refl, _∙_}
 use mathlib.Core.List.{List, [], _∷_, map}
 use mathlib.Core.Option.{none, some}
-use mathlib.Core.Bool.{Bool, true, false}
-use Prim.Native.Nat.{ℕ, suc, _+_, _≤_}
+use mathlib.Core.Bool.{true}
+use Prim.Native.Nat.{ℕ, _+_, _≤_}
 use native.Mathlib.Omega.{arith}
 use native.Mathlib.Numerals.{add-one}
 use lib.ListN.{drop}
-use Rattle.request.specs.declared.Kind.{Kind}
 use Rattle.request.specs.declared.Kind.the-variants.{Linear, Unrestricted}
 use Rattle.steps.specs.Check.{puts}
 use Rattle.ledger.specs.declared.Credential.{Credential}
 use Rattle.ledger.specs.Ledger.{Ledger, byKind, find, held, linearCount}
 use Rattle.ledger.specs.Checks.{any, dead, hypothesis, labelsOf}
 use Rattle.tables.specs.Held.{putHeld}
-use Rattle.holds.specs.declared.Sides.{Sides}
 use Rattle.holds.specs.Holds.{joined, AllHeld}
 
 module _ (t : Ledger) (ns table₀ : List ℕ) where

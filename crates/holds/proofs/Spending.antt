@@ -1,17 +1,13 @@
 -- Spending: what holds before each hold is spent, and after the last.
 use mathlib.Core.Path.{_≡_, refl, sym, ap, subst, _∙_}
 use mathlib.Core.List.{List, [], _∷_}
-use mathlib.Core.Option.{Option, none, some}
-use mathlib.Core.Bool.{Bool, true, false}
-use Prim.Native.Nat.{ℕ, suc, _+_}
-use native.Mathlib.Numerals.{add-one}
-use lib.ListN.{take, drop}
+use mathlib.Core.Bool.{false}
+use Prim.Native.Nat.{ℕ, _+_}
+use lib.ListN.{drop}
 use Rattle.logic.specs.Multiset.{Every}
-use Rattle.logic.proofs.Tests.{no-truth}
-use Rattle.request.specs.declared.Kind.{Kind}
 use Rattle.request.specs.declared.Kind.the-variants.{Linear, Unrestricted}
 use Rattle.ledger.specs.declared.Credential.{Credential}
-use Rattle.ledger.specs.Ledger.{Ledger, byKind, find, withoutSerial, isNone, held, spend}
+use Rattle.ledger.specs.Ledger.{Ledger, withoutSerial, held, spend}
 use Rattle.ledger.specs.Checks.{any, dead, twice}
 use Rattle.ledger.specs.Calls.{withLive}
 use Rattle.ledger.proofs.Credentials.{Alive, Apart, any-none, twice-apart, spend-first, alive-after}
@@ -19,7 +15,7 @@ use Rattle.store.specs.declared.Found.{Found}
 use Rattle.store.specs.declared.Found.the-variants.{At, Nothing}
 use Rattle.store.specs.Layout.{credentialAt}
 use Rattle.store.specs.Store.{ledgerOf, Good, StandsFor, Finds}
-use Rattle.holds.specs.Holds.{spent, Spendable}
+use Rattle.holds.specs.Holds.{spent}
 
 -- One hold
 

@@ -3,7 +3,6 @@ use Prim.Native.Nat.{_-_, _≤_}
 use mathlib.Core.Path.{sym, ap, _∙_}
 use native.Mathlib.Omega.{arith}
 use lib.ListN.{take}
-use denote.Ref.{now}
 use borrow.Author.Needs.{needs}
 use Rattle.store.specs.Store.{ledgerOf}
 use Rattle.tables.specs.Held.{putHeld}

@@ -2,7 +2,6 @@
 use Prim.Native.Nat.{_-_}
 use mathlib.Core.Path.{refl}
 use lib.ListN.{take}
-use denote.Ref.{now}
 use borrow.Author.Needs.{needs}
 use Rattle.store.specs.Store.{ledgerOf}
 use Rattle.holds.proofs.Serials.{next-serial, no-serial}
