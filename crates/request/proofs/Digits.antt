@@ -154,11 +154,11 @@ written-enough (suc j) (suc k) n h i =
     ∙ sym (written-high k n l))
 
 -- the two laws of decimal digits
-digits-one : (d : ℕ) → d < 10 → digits d ≡ (48 + d) ∷ []
+pub digits-one : (d : ℕ) → d < 10 → digits d ≡ (48 + d) ∷ []
 unfolding digits
 digits-one d h = written-low d d h
 
-digits-more : (v d : ℕ) → 1 ≤ v → d < 10 → digits (v * 10 + d) ≡ digits v ++ ((48 + d) ∷ [])
+pub digits-more : (v d : ℕ) → 1 ≤ v → d < 10 → digits (v * 10 + d) ≡ digits v ++ ((48 + d) ∷ [])
 unfolding digits
 digits-more v d h l =
     written-enough (v * 10 + d) (suc (v * 10 + d)) (v * 10 + d) (omega arith) (omega arith)

@@ -1,0 +1,35 @@
+// The entry for C (include/oysterbrim.h): the till is a block of 3,964 numbers that the caller keeps, a sheet is bytes
+// with a length, and the answer goes to four numbers that the caller lends.
+use ledger::Answer;
+use store::Store;
+ghost use Rattle.ledger.specs.Ledger.{empty};
+ghost use Rattle.store.specs.Store.{Good, StandsFor};
+ghost use Rattle.entry.specs.Entered.{Entered};
+
+// Makes the block an empty till.
+#[no_mangle]
+pub extern "C" fn till_start(till: &mut Store)
+    ensures { λ _. ⌜ StandsFor (now (till .exit)) empty ⌝ }
+{
+    store::start(till);
+}
+
+// Answers a sheet: {1, n, 0, 0} accepted with a value, {3, open, shut, placed} a tally, {0, refusal, step, 0} refused.
+#[no_mangle]
+pub extern "C" fn till_call(till: &mut Store, sheet: &[u8], answer: &mut [u32; 4])
+    requires { ⌜ Good (now till) ⌝ }
+    ensures { λ _. ⌜ Entered (now (till .entry)) (now (sheet .entry)) (now (answer .exit)) (now (till .exit)) ⌝ }
+{
+    let a = booking::call(till, sheet);
+    match a {
+        Answer::Accepted(n) => {
+            *answer = [1, n, 0, 0];
+        }
+        Answer::Counted(open, shut, placed) => {
+            *answer = [3, open, shut, placed];
+        }
+        Answer::Refused(n, k) => {
+            *answer = [0, n, k, 0];
+        }
+    }
+}

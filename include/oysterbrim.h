@@ -1,0 +1,43 @@
+/* The booking till: a C program keeps a till and hands it sheets.
+ *
+ * The functions are those of target/staticlib/libentry.a, which `rt staticlib entry` proves and writes (x86-64 Linux).
+ * They keep nothing between calls, allocate nothing and do no input or output; several tills may be used side by side.
+ */
+#ifndef OYSTERBRIM_H
+#define OYSTERBRIM_H
+
+#include <stddef.h>
+#include <stdint.h>
+
+#ifdef __cplusplus
+extern "C" {
+#endif
+
+/* A till: a block of 3,964 numbers of 32 bits (15,856 bytes), aligned as uint32_t. It holds no pointer. */
+#define TILL_NUMBERS 3964
+
+/* No sheet has more bytes; a longer one is refused with 1. */
+#define TILL_SHEET_BYTES 16384
+
+/* Makes the block an empty till, whatever it held before. */
+void till_start(uint32_t till[TILL_NUMBERS]);
+
+/* Answers a sheet, given as `length` bytes from `sheet` on. Any bytes of any length may be given; the sheet is only
+ * read. With length 0 the pointer is not followed.
+ *
+ * What must hold: `till` was made by till_start and changed by nothing but till_call since; till, sheet and answer do
+ * not overlap; nothing else uses them during the call. There is no other requirement.
+ *
+ * The answer:
+ *   accepted with a value   { 1, n, 0, 0 }              word: the wording's number; issue, withdraw, book: the serial
+ *   a tally                 { 3, open, shut, placed }
+ *   refused                 { 0, refusal, step, 0 }     step counts from 1 for refusals 40 to 42 and is 0 for others
+ *
+ * A refusal leaves the block as it was, every number of it. No call changes the sheet. */
+void till_call(uint32_t till[TILL_NUMBERS], const uint8_t *sheet, size_t length, uint32_t answer[4]);
+
+#ifdef __cplusplus
+}
+#endif
+
+#endif

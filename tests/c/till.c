@@ -1,0 +1,224 @@
+/* A C program keeps a till over many calls (include/oysterbrim.h): every answer, what a refusal leaves, and that nothing
+ * is read or written beside block, sheet and answer. `till [GROUP..]` plays the groups named, or all. */
+#define _DEFAULT_SOURCE
+#include "oysterbrim.h"
+#include <stdio.h>
+#include <stdlib.h>
+#include <string.h>
+#include <sys/mman.h>
+
+enum { PAGE = 4096, GUARD = 16, ROOM = 1 << 21 };
+
+static const uint32_t MARK = 0xA5C3965Au;
+static unsigned passed, failed;
+
+static void check(int good, const char *what, const char *sheet) {
+    if (good) {
+        passed++;
+        return;
+    }
+    failed++;
+    printf("FAILED: %s, at sheet \"%.60s\"\n", what, sheet);
+}
+
+/* A till between guard words. */
+struct Block {
+    uint32_t before[GUARD], till[TILL_NUMBERS], after[GUARD];
+};
+
+/* An answer between guard words. */
+struct Answered {
+    uint32_t before[GUARD], answer[4], after[GUARD];
+};
+
+static void mark(uint32_t guard[GUARD]) {
+    for (int i = 0; i < GUARD; i++) guard[i] = MARK;
+}
+
+static int marked(const uint32_t guard[GUARD]) {
+    for (int i = 0; i < GUARD; i++)
+        if (guard[i] != MARK) return 0;
+    return 1;
+}
+
+/* Room for sheets, with a page before and after that must not be touched. */
+static uint8_t *pages;
+
+static void open_pages(void) {
+    uint8_t *all = mmap(NULL, ROOM + 2 * PAGE, PROT_READ | PROT_WRITE, MAP_PRIVATE | MAP_ANONYMOUS, -1, 0);
+    if (all == MAP_FAILED) exit(2);
+    if (mprotect(all, PAGE, PROT_NONE) || mprotect(all + PAGE + ROOM, PAGE, PROT_NONE)) exit(2);
+    pages = all + PAGE;
+}
+
+static void begin(struct Block *block) {
+    memset(block, 0x5A, sizeof *block);
+    mark(block->before);
+    mark(block->after);
+    till_start(block->till);
+    check(marked(block->before) && marked(block->after), "till_start wrote beside the block", "");
+}
+
+/* One call with the sheet at `at` (read-only while it runs), and everything that must hold of it. */
+static void call_at(struct Block *block, uint8_t *at, size_t length, const uint32_t expected[4], const char *name) {
+    static uint32_t before[TILL_NUMBERS];
+    struct Answered a;
+    memset(&a, 0x77, sizeof a);
+    mark(a.before);
+    mark(a.after);
+    memcpy(before, block->till, sizeof before);
+    if (mprotect(pages, ROOM, PROT_READ)) exit(2);
+    till_call(block->till, at, length, a.answer);
+    if (mprotect(pages, ROOM, PROT_READ | PROT_WRITE)) exit(2);
+    int same = memcmp(a.answer, expected, sizeof a.answer) == 0;
+    check(same, "the answer", name);
+    if (!same) printf("  got %u,%u,%u,%u\n", a.answer[0], a.answer[1], a.answer[2], a.answer[3]);
+    check(marked(a.before) && marked(a.after), "a number beside the answer", name);
+    check(marked(block->before) && marked(block->after), "a number beside the block", name);
+    if (expected[0] != 1) check(memcmp(before, block->till, sizeof before) == 0, "the block, which had to stay", name);
+}
+
+/* The sheet once so that it ends where the readable memory ends, and once so that it begins where that begins. */
+static void ask(struct Block *block, const char *sheet, uint32_t a, uint32_t b, uint32_t c, uint32_t d) {
+    const uint32_t expected[4] = {a, b, c, d};
+    size_t length = strlen(sheet);
+    static int low;
+    uint8_t *at = (low ^= 1) ? pages : pages + ROOM - length;
+    memcpy(at, sheet, length);
+    call_at(block, at, length, expected, sheet);
+    check(memcmp(at, sheet, length) == 0, "the sheet, which had to stay", sheet);
+}
+
+/* Bytes `x` of a length, with a last byte 10. */
+static void ask_long(struct Block *block, size_t length, uint32_t refusal) {
+    const uint32_t expected[4] = {0, refusal, 0, 0};
+    char name[40];
+    snprintf(name, sizeof name, "%zu bytes", length);
+    uint8_t *at = pages + ROOM - length;
+    memset(at, 'x', length);
+    if (length > 0) at[length - 1] = '\n';
+    call_at(block, at, length, expected, name);
+}
+
+static const char *const WORDS[] = {"word,a,1,7\n", "word,a,2,7\n", "word,a,9,7\n", "word,s,1,0\n",
+                                    "word,s,2,2\n", "word,s,1,1\n", "word,t,3,4\n", "word,l,6,5\n"};
+
+static void words(struct Block *block) {
+    begin(block);
+    for (uint32_t i = 0; i < 8; i++) ask(block, WORDS[i], 1, i, 0, 0);
+}
+
+/* M1 up to its first tally. */
+static void opening(struct Block *block) {
+    words(block);
+    ask(block, "issue,r,7,0,9999\n", 1, 1, 0, 0);
+    ask(block, "issue,s,3,0,600\n", 1, 2, 0, 0);
+    ask(block, "issue,s,4,0,600\n", 1, 3, 0, 0);
+    ask(block, "tally,7,540\n", 3, 1, 0, 0);
+}
+
+static void calls(void) {
+    static struct Block block;
+    begin(&block);
+    ask(&block, "tally,0,0\n", 3, 0, 0, 0);
+    opening(&block);
+    ask(&block, "tally,7,601\n", 3, 0, 1, 0);
+    ask(&block, "tally,8,540\n", 3, 0, 0, 0);
+    ask(&block, "withdraw,2\n", 1, 2, 0, 0);
+    ask(&block, "tally,7,540\n", 3, 0, 0, 0);
+    ask(&block, "issue,s,5,5,5\n", 1, 4, 0, 0);
+    ask(&block, "tally,7,540\n", 3, 0, 0, 1);
+}
+
+static void refusals(void) {
+    static struct Block block;
+    opening(&block);
+    static const char *const BROKEN[] = {
+        "word,a,1,7", "word,a,1\n", "word,a,1,7,\n", "word,a,01,7\n", "word,a,256,7\n", "word,A,1,7\n", " word,o\n",
+        "issue,s,1000,0,9\n", "issue,x,0,0,9\n", "issue,s,0,0,10000000\n", "withdraw,0\n", "withdraw,1000000\n",
+        "tally,7,540\n\n", "tally,7,540\r\n", "book\n", "\n", "\xff\xfe\n", "hold,1\n"};
+    for (size_t i = 0; i < sizeof BROKEN / sizeof *BROKEN; i++) ask(&block, BROKEN[i], 0, 2, 0, 0);
+    ask(&block, "issue,s,3,9,8\n", 0, 3, 0, 0);
+    ask(&block, "word,h,999,9,8\n", 0, 3, 0, 0);
+    ask(&block, "word,t,7,8\n", 0, 10, 0, 0);
+    ask(&block, "issue,s,8,0,9\n", 0, 10, 0, 0);
+    ask(&block, "word,a,9,7\n", 0, 13, 0, 0);
+    ask(&block, "issue,s,7,0,9\n", 0, 20, 0, 0);
+    ask(&block, "issue,r,3,0,9\n", 0, 21, 0, 0);
+    ask(&block, "withdraw,4\n", 0, 24, 0, 0);
+    ask(&block, "tally,7,540\n", 3, 1, 0, 0);
+}
+
+static void lengths(void) {
+    static struct Block block;
+    static const uint32_t NONE[4] = {0, 2, 0, 0};
+    words(&block);
+    ask_long(&block, 0, 2);
+    call_at(&block, pages - PAGE, 0, NONE, "no bytes, at memory that cannot be read");
+    ask_long(&block, 1, 2);
+    ask_long(&block, 16384, 2);
+    ask_long(&block, 16385, 1);
+    ask_long(&block, 1 << 20, 1);
+    ask(&block, "issue,s,3,0,600\n", 1, 1, 0, 0);
+}
+
+/* 512 live credentials, and the place that a withdrawn one makes. */
+static void full(void) {
+    static struct Block block;
+    words(&block);
+    for (uint32_t i = 1; i <= 512; i++) ask(&block, "issue,s,0,0,9\n", 1, i, 0, 0);
+    ask(&block, "issue,s,0,0,9\n", 0, 22, 0, 0);
+    ask(&block, "tally,7,9\n", 3, 512, 0, 0);
+    ask(&block, "withdraw,100\n", 1, 100, 0, 0);
+    ask(&block, "issue,s,0,0,9\n", 1, 513, 0, 0);
+    ask(&block, "issue,s,0,0,9\n", 0, 22, 0, 0);
+}
+
+/* Two tills, call by call. */
+static void two(void) {
+    static struct Block one, other;
+    words(&one);
+    begin(&other);
+    ask(&other, "word,a,1,7\n", 1, 0, 0, 0);
+    ask(&one, "issue,s,0,0,9\n", 1, 1, 0, 0);
+    ask(&other, "tally,7,0\n", 3, 0, 0, 0);
+    ask(&one, "tally,7,0\n", 3, 1, 0, 0);
+    ask(&other, "withdraw,1\n", 0, 24, 0, 0);
+    ask(&one, "withdraw,1\n", 1, 1, 0, 0);
+}
+
+#define STEPS(share) \
+    "cp,0\nll,3,0000000000000006,540,600\ntr," share "\nsr\nsl,1\naf\nax,4\nsr\nsl,2\naf\nax,5\nsr\nsl,6\naf\nax,7\n"
+
+/* M1's booking, and bookings that are refused. */
+static void bookings(void) {
+    static struct Block block;
+    opening(&block);
+    ask(&block, "book,539,5,540,600,3,15\nhold,1\nhold,2\nhold,3\n" STEPS("0000000000000002"), 0, 30, 0, 0);
+    ask(&block, "book,540,5,540,600,3,15\nhold,1\nhold,2\nhold,2\n" STEPS("0000000000000002"), 0, 31, 0, 0);
+    ask(&block, "book,540,5,540,600,3,15\nhold,1\nhold,2\nhold,3\n" STEPS("0000000000000006"), 0, 40, 7, 0);
+    ask(&block, "book,540,5,540,600,3,1\nhold,1\nhold,2\nhold,3\ncp,0\n", 0, 42, 2, 0);
+    ask(&block, "book,540,5,540,600,3,15\nhold,1\nhold,2\nhold,3\n" STEPS("0000000000000002"), 1, 4, 0, 0);
+    ask(&block, "tally,7,540\n", 3, 0, 0, 1);
+    ask(&block, "book,540,5,540,600,3,15\nhold,1\nhold,2\nhold,3\n" STEPS("0000000000000002"), 0, 24, 0, 0);
+    ask(&block, "withdraw,2\n", 0, 24, 0, 0);
+    ask(&block, "withdraw,1\n", 1, 1, 0, 0);
+    ask(&block, "withdraw,4\n", 1, 4, 0, 0);
+}
+
+static const struct Group {
+    const char *name;
+    void (*play)(void);
+} GROUPS[] = {{"calls", calls}, {"refusals", refusals}, {"lengths", lengths},
+              {"full", full},   {"two", two},           {"bookings", bookings}};
+
+int main(int count, char **names) {
+    open_pages();
+    for (size_t i = 0; i < sizeof GROUPS / sizeof *GROUPS; i++) {
+        int wanted = count == 1;
+        for (int k = 1; k < count; k++) wanted |= strcmp(names[k], GROUPS[i].name) == 0;
+        if (wanted) GROUPS[i].play();
+    }
+    printf("%u passed, %u failed\n", passed, failed);
+    return failed > 0 || passed == 0;
+}
