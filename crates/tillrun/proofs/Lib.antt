@@ -1,0 +1,3 @@
+mod Writing
+mod Streams
+mod Pieces

@@ -1,0 +1,125 @@
+-- A stream in pieces, calls after calls, and what the program's state stands for after a byte.
+use mathlib.Core.Path.{_≡_, refl, sym, ap, subst, _∙_}
+use mathlib.Core.List.{List, [], _∷_, _++_, append-assoc, append-nil}
+use mathlib.Core.Bool.{Bool, true, false, _&&_}
+use Prim.Native.Nat.{ℕ, suc, _+_, _*_, _≤_, _<_}
+use native.Mathlib.Omega.{arith}
+use lib.Dec.{eqb, leb}
+use lib.ListN.{length, take, length-take, length-append}
+use lib.Seq.{take-all, take-take, take-append-le, length-take-le}
+use borrow.Author.Tests.{leb-true, leb-false}
+use Rattle.request.specs.Range.{maxBytes}
+use Rattle.ledger.specs.declared.Answer.{Answer}
+use Rattle.ledger.specs.Ledger.{Ledger, empty}
+use Rattle.ledger.specs.Calls.{Reply, told}
+use Rattle.numbers.proofs.Then.{by-test}
+use Rattle.store.specs.Store.{ledgerOf}
+use Rattle.ledger.specs.Calls.{call, after, answers}
+use Rattle.ledger.proofs.Firsts.{call-long}
+use Rattle.tillrun.specs.declared.kiosk.Place.{Place}
+use Rattle.tillrun.specs.Sheets.{Split, next, splitFrom, split, oneMore, sheetsOf}
+use Rattle.tillrun.specs.Printed.{line, printed}
+use Rattle.tillrun.specs.Kiosk.{most, Kept, Said, Stands}
+
+-- Feeding b and then c is feeding b ++ c.
+pub split-append : (s : Split) (b c : List ℕ) → splitFrom s (b ++ c) ≡ splitFrom (splitFrom s b) c
+unfolding splitFrom
+split-append s [] c = refl
+split-append s (x ∷ b) c = split-append (next s x) b c
+
+split-snoc : (b : List ℕ) (x : ℕ) → split (b ++ (x ∷ [])) ≡ next (split b) x
+unfolding splitFrom
+split-snoc b x = split-append _ b (x ∷ [])
+
+after-snoc : (t : Ledger) (bs : List (List ℕ)) (b : List ℕ) → after t (bs ++ (b ∷ [])) ≡ call (after t bs) b .ledger
+unfolding after
+after-snoc t [] b = refl
+after-snoc t (x ∷ bs) b = after-snoc (call t x .ledger) bs b
+
+answers-snoc : (t : Ledger) (bs : List (List ℕ)) (b : List ℕ)
+    → answers t (bs ++ (b ∷ [])) ≡ answers t bs ++ (call (after t bs) b .answer ∷ [])
+unfolding answers after
+answers-snoc t [] b = refl
+answers-snoc t (x ∷ bs) b =
+    ap (λ (more : List Answer). call t x .answer ∷ more) (answers-snoc (call t x .ledger) bs b)
+
+printed-snoc : (done : List Answer) (a : Answer) → printed (done ++ (a ∷ [])) ≡ printed done ++ line (told a)
+unfolding printed
+printed-snoc [] a = append-nil (line (told a))
+printed-snoc (x ∷ done) a =
+    ap (λ (t : List ℕ). line (told x) ++ t) (printed-snoc done a) ∙ sym (append-assoc (line (told x)) (printed done) _)
+
+-- of an overlong sheet the first bytes are refused as the whole
+cut : (t : Ledger) (b : List ℕ) → call t (take most b) ≡ call t b
+cut t b = by-test (leb (length b) most) (λ e. ap (call t) (take-all most b (leb-true _ _ e))) (λ e.
+    let h : most < length b = leb-false _ _ e in
+    call-long t (take most b) (omega (arith, length-take-le most b (omega arith))) ∙ sym (call-long t b (omega arith)))
+
+keep-cut : (b : List ℕ) (x : ℕ) → take most (take most b ++ (x ∷ [])) ≡ take most (b ++ (x ∷ []))
+keep-cut b x = by-test (leb (length b) most)
+    (λ e. ap (λ (z : List ℕ). take most (z ++ (x ∷ []))) (take-all most b (leb-true _ _ e)))
+    (λ e.
+    let h : most < length b = leb-false _ _ e in
+    let n = length-take-le most b (omega arith) in
+    take-append-le most (take most b) (x ∷ []) (omega arith) ∙ take-take most most b (omega arith)
+    ∙ sym (take-append-le most b (x ∷ []) (omega arith)))
+
+-- a byte that ends no sheet
+kept : (s : Split) (x : ℕ) → (s .fresh && eqb x 10) ≡ false
+    → next s x ≡ record { ended = s .ended; begun = s .begun ++ (x ∷ []); fresh = eqb x 10 }
+kept s x e = rw (next, e)
+
+-- an empty line
+ended : (s : Split) (x : ℕ) → (s .fresh && eqb x 10) ≡ true
+    → next s x ≡ record { ended = s .ended ++ (s .begun ∷ []); begun = []; fresh = true }
+ended s x e = rw (next, e)
+
+module _ {w l k o : List ℕ} {p : Place} {b : List ℕ} (s : Stands w l k o p b) (x : ℕ) where
+  pub stands-kept : {k′ : List ℕ} {h : ℕ} → (p .fresh && eqb x 10) ≡ false → Kept k (p .held) x k′ h
+      → Stands w l k′ o (record { held = h; fresh = eqb x 10; text = p .text }) (b ++ (x ∷ []))
+  stands-kept e m =
+      let f : (split b .fresh && eqb x 10) ≡ false = ap (λ (z : Bool). z && eqb x 10) (sym (s .fresh)) ∙ e in
+      let q = split-snoc b x ∙ kept (split b) x f in
+      record {
+        ledger = s .ledger ∙ ap (λ (z : Split). after empty (z .ended)) (sym q);
+        begun =
+            m .bytes ∙ ap (λ (z : List ℕ). take most (z ++ (x ∷ []))) (s .begun) ∙ keep-cut (split b .begun) x
+            ∙ ap (λ (z : Split). take most (z .begun)) (sym q);
+        fresh = ap (λ (z : Split). z .fresh) (sym q);
+        text = s .text ∙ ap (λ (z : Split). printed (answers empty (z .ended))) (sym q);
+      }
+
+-- the answer to what is held is the answer to the sheet that has begun
+module _ {w l k o : List ℕ} {p : Place} {b : List ℕ} (s : Stands w l k o p b) where
+  same-call : call (ledgerOf l) (take (p .held) k) ≡ call (after empty (split b .ended)) (split b .begun)
+  same-call =
+      ap (λ (t : Ledger). call t (take (p .held) k)) (s .ledger)
+      ∙ ap (call (after empty (split b .ended))) (s .begun)
+      ∙ cut (after empty (split b .ended)) (split b .begun)
+
+  module _ {l′ o′ : List ℕ} {r : ℕ} (m : Said l (take (p .held) k) o (p .text) l′ o′ r) where
+    said-ledger : ledgerOf l′ ≡ after empty (split b .ended ++ (split b .begun ∷ []))
+    said-ledger =
+        m .ledger ∙ ap (λ (d : Reply). d .ledger) same-call ∙ sym (after-snoc empty (split b .ended) (split b .begun))
+
+    pub said-text : w ++ take r o′ ≡ printed (answers empty (split b .ended ++ (split b .begun ∷ [])))
+    said-text =
+        let a = call (after empty (split b .ended)) (split b .begun) .answer in
+        ap (λ (z : List ℕ). w ++ z) (m .wrote .text)
+        ∙ sym (append-assoc w (take (p .text) o) _)
+        ∙ ap (λ (z : List ℕ). z ++ line (told (call (ledgerOf l) (take (p .held) k) .answer))) (s .text)
+        ∙ ap (λ (d : Reply). printed (answers empty (split b .ended)) ++ line (told (d .answer))) same-call
+        ∙ sym (printed-snoc (answers empty (split b .ended)) a)
+        ∙ ap printed (sym (answers-snoc empty (split b .ended) (split b .begun)))
+
+    pub stands-ended : (x : ℕ) → (p .fresh && eqb x 10) ≡ true
+        → Stands w l′ k o′ (record { held = 0; fresh = true; text = r }) (b ++ (x ∷ []))
+    stands-ended x e =
+        let f : (split b .fresh && eqb x 10) ≡ true = ap (λ (z : Bool). z && eqb x 10) (sym (s .fresh)) ∙ e in
+        let q = split-snoc b x ∙ ended (split b) x f in
+        record {
+          ledger = said-ledger ∙ ap (λ (z : Split). after empty (z .ended)) (sym q);
+          begun = ap (λ (z : Split). take most (z .begun)) (sym q);
+          fresh = ap (λ (z : Split). z .fresh) (sym q);
+          text = said-text ∙ ap (λ (z : Split). printed (answers empty (z .ended))) (sym q);
+        }

@@ -1,0 +1,32 @@
+use mathlib.Core.Path.{sym, ap}
+use native.Mathlib.Omega.{arith}
+use denote.Ref.{now}
+use lib.Seq.{length-take-le}
+use borrow.Author.Needs.{needs}
+use Rattle.ledger.specs.declared.Answer.{Answer}
+use Rattle.ledger.specs.Calls.{told}
+use Rattle.tillrun.specs.Printed.{line}
+use Rattle.tillrun.proofs.Writing.{wrote-as}
+use Rattle.tillrun.proofs.kiosk.answer.Statement.{statement}
+use Rattle.tillrun.proofs.kiosk.answer.Tie as tie
+
+slice-aggregate-call : tie.Need-slice-aggregate-call
+slice-aggregate-call c =
+    let start = c .before .before .before .before in
+    sym (length-take-le (start .args .held) (now (start .args .begun)) (omega (arith, start .pre .begun, start .pre .held)))
+
+returns : tie.Need-returns
+returns c =
+    let put = c .before .before in
+    let called = put .before .before .call .ensures in
+    record {
+      good = called .good;
+      ledger = called .ledger;
+      wrote = wrote-as (ap (λ (a : Answer). line (told a)) (called .answer)) (put .put-answer .ensures .0);
+      short = put .put-answer .ensures .1;
+    }
+
+pub answer-spec : {M : Type 1} → statement M
+answer-spec =
+    tie.close
+    (tie.spec slice-aggregate-call (λ c κs. search needs) (λ c κs. search needs) (λ c. search needs) returns)

@@ -1,0 +1,46 @@
+use mathlib.Core.Path.{sym, _∙_}
+use native.Mathlib.Omega.{arith}
+use lib.Seq.{length-take-le}
+use borrow.Author.Needs.{needs}
+use Rattle.tillrun.proofs.Pieces.{turned, turned-none}
+use Rattle.tillrun.proofs.next_piece.Statement.{statement}
+use Rattle.tillrun.proofs.next_piece.Tie as tie
+
+returns : tie.Need-returns
+returns c =
+    let read = c .before .before .before .before .before in
+    let start = read .before .before .before .before .before in
+    (turned-none (start .pre .0), read .read .kept .1 .0 ∙ start .pre .1)
+
+slice-aggregate-write-all : tie.Need-slice-aggregate-write-all
+slice-aggregate-write-all c =
+    let fed = c .before .before .before .before .before in
+    sym (length-take-le (fed .feed .result .text) (fed .feed .last .1 .1 .0) (omega (arith, fed .feed .ensures .ready .text)))
+
+returns-2 : tie.Need-returns-2
+returns-2 c =
+    let fed = c .before .before .before .before .before .before in
+    let read = fed .before .before .before .before .before .before .before .before .before .before in
+    let start = read .before .before .before .before .before in (
+      turned _ 4096 (omega (arith, fed .feed .kept .1 .1 .0, start .pre .0 .text)) (fed .feed .ensures),
+      read .read .kept .1 .0 ∙ start .pre .1,
+    )
+
+pub next-piece-spec : {M : Type 1} → statement M
+next-piece-spec =
+    tie.close
+    (tie.spec
+    (λ c κs. search needs)
+    (λ c κs. search needs)
+    (λ c. search needs)
+    returns
+    (λ c. search needs)
+    (λ c. search needs)
+    (λ c κs. search needs)
+    (λ c. search needs)
+    slice-aggregate-write-all
+    (λ c κs. search needs)
+    (λ c. search needs)
+    (λ c. search needs)
+    (λ c. search needs)
+    returns-2)

@@ -1,0 +1,88 @@
+-- What the program's state stands for: a till, the first bytes of the sheet that has begun, and the text that waits to
+-- be written.
+use mathlib.Core.Path.{_≡_}
+use mathlib.Core.List.{List, [], _∷_, _++_}
+use Prim.Native.Nat.{ℕ, _+_, _*_, _≤_}
+use lib.ListN.{length, take}
+use Rattle.ledger.specs.Ledger.{empty}
+use Rattle.ledger.specs.Calls.{told}
+use Rattle.store.specs.Store.{ledgerOf, Good, StandsFor}
+use Rattle.ledger.specs.Calls.{call, after, answers}
+use Rattle.tillrun.specs.declared.kiosk.Place.{Place}
+use Rattle.tillrun.specs.Sheets.{split, sheetsOf}
+use Rattle.tillrun.specs.Printed.{line, printed, longest, Room, Wrote}
+
+-- One byte more than a sheet may have: of an overlong sheet the rest is skipped, and what is kept is refused with 1
+-- just as the whole.
+abbrev pub most : ℕ
+most = 16385
+
+-- the byte x after the first h of k, unless these are `most`
+pub record Kept (k : List ℕ) (h x : ℕ) (k′ : List ℕ) (h′ : ℕ) : Type 0 where
+  pub long : length k′ ≡ most
+  pub few : h′ ≤ most
+  pub bytes : take h′ k′ ≡ take most (take h k ++ (x ∷ []))
+
+-- what an answer asks: a good till, the first h bytes of k, and room after the first `at` of o
+pub record Asked (l k o : List ℕ) (h at : ℕ) : Type 0 where
+  pub good : Good l
+  pub begun : length k ≡ most
+  pub held : h ≤ most
+  pub text : Room o at longest
+
+-- the sheet b answered, and its line put after the first `at` bytes of o
+pub record Said (l b o : List ℕ) (at : ℕ) (l′ o′ : List ℕ) (r : ℕ) : Type 0 where
+  pub good : Good l′
+  pub ledger : ledgerOf l′ ≡ call (ledgerOf l) b .ledger
+  pub wrote : Wrote o at (line (told (call (ledgerOf l) b .answer))) o′ r
+  pub short : r ≤ at + longest
+
+-- what every function asks: a good till, whole buffers, and room for n answers
+pub record Ready (l k o : List ℕ) (p : Place) (n : ℕ) : Type 0 where
+  pub good : Good l
+  pub begun : length k ≡ most
+  pub held : p .held ≤ most
+  pub text : Room o (p .text) (longest * n)
+
+-- the bytes b have been read and the bytes w written
+pub record Stands (w l k o : List ℕ) (p : Place) (b : List ℕ) : Type 0 where
+  pub ledger : ledgerOf l ≡ after empty (split b .ended)
+  pub begun : take (p .held) k ≡ take most (split b .begun)
+  pub fresh : p .fresh ≡ split b .fresh
+  pub text : w ++ take (p .text) o ≡ printed (answers empty (split b .ended))
+
+-- The bytes x were taken, whatever was read before: in which pieces a stream comes makes no difference.
+pub record Took (l k o : List ℕ) (p : Place) (x l′ k′ o′ : List ℕ) (p′ : Place) : Type 0 where
+  pub ready : Ready l′ k′ o′ p′ 0
+  pub short : p′ .text ≤ p .text + longest * length x
+  pub stands : (w b : List ℕ) → Stands w l k o p b → Stands w l′ k′ o′ p′ (b ++ x)
+
+-- The input has ended: what has been written and what waits are the answers to its sheets.
+pub record Ended (l k o : List ℕ) (p : Place) (o′ : List ℕ) (r : ℕ) : Type 0 where
+  pub text : Room o′ r 0
+  pub whole : (w b : List ℕ) → Stands w l k o p b → w ++ take r o′ ≡ printed (answers empty (sheetsOf b))
+
+-- One more piece of the input was read, if any, and what waited was written.
+pub record Turned (l k o : List ℕ) (p : Place) (l′ k′ o′ : List ℕ) (p′ : Place) (n : ℕ) : Type 0 where
+  pub ready : Ready l′ k′ o′ p′ n
+  pub read : List ℕ
+  pub wrote : List ℕ
+  pub stands : (w b : List ℕ) → Stands w l k o p b → Stands (w ++ wrote) l′ k′ o′ p′ (b ++ read)
+
+-- how many bytes are read at once
+abbrev pub piece : ℕ
+piece = 4096
+
+-- an empty till, and the buffers: for the first bytes of a sheet, for the answers to a piece, for a piece
+pub record Opened (l k o x : List ℕ) : Type 0 where
+  pub till : StandsFor l empty
+  pub begun : length k ≡ most
+  pub text : length o ≡ longest * piece
+  pub piece : length x ≡ piece
+
+-- what the loop keeps: the bytes read so far and the bytes written so far
+pub record Going (l k o : List ℕ) (p : Place) (n : ℕ) : Type 0 where
+  pub ready : Ready l k o p n
+  pub read : List ℕ
+  pub written : List ℕ
+  pub stands : Stands written l k o p read

@@ -1,0 +1,80 @@
+// `tillrun` (document 01, "Kiosk"): reads sheets from standard input and prints their answers, starting with an empty
+// till. What is read in one piece is answered and written before more input is waited for.
+use kiosk::Place;
+use store::Store;
+
+mod kiosk;
+mod print;
+
+ghost use mathlib.Core.Path.{_≡_};
+ghost use lib.ListN.{length};
+ghost use Rattle.tillrun.specs.Kiosk.{Ready, Turned, Opened};
+
+// A place, and whether to go on.
+struct Turn {
+    place: Place,
+    more: bool,
+}
+
+// Reads once, answers what came and writes the answers.
+fn next_piece(
+    till: &mut Store,
+    begun: &mut [u8],
+    text: &mut [u8],
+    piece: &mut [u8],
+    place: Place,
+) -> Turn
+    requires { ⌜ Ready (now till) (now begun) (now text) place 4096 ⌝ }
+    requires { ⌜ length (now piece) ≡ 4096 ⌝ }
+    ensures { λ r. ⌜ Turned (now (till .entry)) (now (begun .entry)) (now (text .entry)) place
+        (now (till .exit)) (now (begun .exit)) (now (text .exit)) (r .place) 4096 ⌝ }
+    ensures { λ _. ⌜ length (now (piece .exit)) ≡ 4096 ⌝ }
+{
+    let got = libc::read(0, piece);
+    let n = io::count(got, piece);
+    if n == 0 {
+        return Turn { place, more: false };
+    }
+    let next = kiosk::feed(till, begun, text, place, &piece[..n]);
+    let end = next.text;
+    let more = io::write_all(1, &text[..end]);
+    Turn {
+        place: Place {
+            held: next.held,
+            fresh: next.fresh,
+            text: 0,
+        },
+        more,
+    }
+}
+
+// Plays the input to its end. A proved loop has to end, and nothing says that the input does, so the loop counts its
+// turns down from a number that no run uses up.
+fn play(till: &mut Store, begun: &mut [u8], text: &mut [u8], piece: &mut [u8])
+    requires { ⌜ Opened (now till) (now begun) (now text) (now piece) ⌝ }
+{
+    let mut place = Place {
+        held: 0,
+        fresh: true,
+        text: 0,
+    };
+    let mut more = true;
+    let mut turns = u64::MAX;
+    while turns > 0 && more {
+        let t = next_piece(till, begun, text, piece, place);
+        place = t.place;
+        more = t.more;
+        turns -= 1;
+    }
+    let end = kiosk::finish(till, begun, text, place);
+    io::write_all(1, &text[..end]);
+}
+
+fn main() {
+    let mut till = [0u32; 3964];
+    store::start(&mut till);
+    let mut begun = [0u8; 16385];
+    let mut text = [0u8; 147456];
+    let mut piece = [0u8; 4096];
+    play(&mut till, &mut begun, &mut text, &mut piece);
+}
