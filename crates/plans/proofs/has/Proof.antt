@@ -6,7 +6,7 @@ use Rattle.plans.proofs.has.Statement.{statement}
 use Rattle.plans.proofs.has.Tie as tie
 
 returns : tie.Need-returns
-returns c = sym (no-member _ _ (omega arith) (c .if1 .taken))
+returns c = sym (no-member (c .before .args .d) (c .before .args .k) (omega arith) (omega arith))
 
 pub has-spec : {M : Type 1} → statement M
 has-spec =
