@@ -8,11 +8,6 @@ use store::Store;
 use tables::StepRow;
 use tables::held;
 use tables::lines;
-
-mod left;
-mod make;
-mod right;
-
 ghost use mathlib.Core.Path.{_≡_};
 ghost use Prim.Native.Nat.{_≤_};
 ghost use Rattle.steps.specs.Plans.{planOf};
@@ -30,21 +25,21 @@ fn at_right(store: &Store, table: &[u32; 192], q: Sequent, n: u32, i: Interval, 
     let d = q.linear;
     let op = s.op;
     match op {
-        1 => right::or(d, x),
-        2 => right::gr(d, x),
-        3 => right::p1(d, x, i),
-        4 => right::p2(d, x, i),
-        5 => right::br(d, x, i),
-        6 => right::hr(d, x),
-        7 => right::sr(d, x, i),
-        8 => right::wr(d, x, i),
-        9 => right::tr(d, x, i, lines::share(s)),
+        1 => right_steps::or(d, x),
+        2 => right_steps::gr(d, x),
+        3 => right_steps::p1(d, x, i),
+        4 => right_steps::p2(d, x, i),
+        5 => right_steps::br(d, x, i),
+        6 => right_steps::hr(d, x),
+        7 => right_steps::sr(d, x, i),
+        8 => right_steps::wr(d, x, i),
+        9 => right_steps::tr(d, x, i, lines::share(s)),
         _ => {
             if 64 <= s.label {
                 return Plan::Refused;
             }
             let h = held::held_at(table, s.label);
-            right::ax(d, x, i, s.label, h, store::row_at(store, h.formula))
+            right_steps::ax(d, x, i, s.label, h, store::row_at(store, h.formula))
         }
     }
 }
@@ -55,7 +50,7 @@ fn at_left(store: &Store, table: &[u32; 192], q: Sequent, s: StepRow) -> Plan
     ensures { λ r. ⌜ r ≡ planOf (rowAt (now (store .entry))) (heldAt (now (table .entry))) (q .unrestricted)
         (q .linear) (q .goal) (stepOf s) ⌝ }
 {
-    if !make::has(q.linear, s.label) {
+    if !plans::has(q.linear, s.label) {
         return Plan::Refused;
     }
     let h = held::held_at(table, s.label);
@@ -69,19 +64,19 @@ fn at_left(store: &Store, table: &[u32; 192], q: Sequent, s: StepRow) -> Plan
     };
     let op = s.op;
     match op {
-        12 => left::ol(d, g, x),
-        13 => left::w1(d, g, x, i),
-        14 => left::w2(d, g, x, i),
-        15 => left::bl(d, g, x, i),
-        16 => left::hl(d, g, x),
+        12 => left_steps::ol(d, g, x),
+        13 => left_steps::w1(d, g, x, i),
+        14 => left_steps::w2(d, g, x, i),
+        15 => left_steps::bl(d, g, x, i),
+        16 => left_steps::hl(d, g, x),
         17 => match g {
             Goal::Holds(_, _) => Plan::Refused,
-            Goal::Affirms(k, _, v) => left::sl(d, g, x, i, k, v),
+            Goal::Affirms(k, _, v) => left_steps::sl(d, g, x, i, k, v),
         },
-        18 => left::tl(d, g, x, i),
-        19 => left::pl(d, g, x, i),
-        20 => left::ll(d, g, x, i, lines::share(s), j),
-        _ => left::ul(d, g, x, i, j),
+        18 => left_steps::tl(d, g, x, i),
+        19 => left_steps::pl(d, g, x, i),
+        20 => left_steps::ll(d, g, x, i, lines::share(s), j),
+        _ => left_steps::ul(d, g, x, i, j),
     }
 }
 
@@ -95,7 +90,7 @@ pub fn rule(store: &Store, table: &[u32; 192], q: Sequent, s: StepRow) -> Plan
     match op {
         0 => match g {
             Goal::Holds(_, _) => Plan::Refused,
-            Goal::Affirms(_, n, i) => Plan::One(make::premise(
+            Goal::Affirms(_, n, i) => Plan::One(plans::premise(
                 q.linear,
                 Goal::Holds(n, i),
                 Fresh::Nothing,
@@ -105,7 +100,7 @@ pub fn rule(store: &Store, table: &[u32; 192], q: Sequent, s: StepRow) -> Plan
             Goal::Holds(n, i) => at_right(store, table, q, n, i, s),
             Goal::Affirms(_, _, _) => Plan::Refused,
         },
-        11 => left::cp(table, q, s.label),
+        11 => left_steps::cp(table, q, s.label),
         _ => at_left(store, table, q, s),
     }
 }

@@ -2,7 +2,8 @@ use mathlib.Core.Path.{sym}
 use native.Mathlib.Omega.{arith}
 use Rattle.labels.proofs.Sets.{member-below}
 use Rattle.steps.specs.Plans.{planOf, affirmed, left}
-use Rattle.rules.proofs.Plans.{holds, fails, numbered, last-left, left-refused}
+use Rattle.plans.proofs.Tests.{holds, fails}
+use Rattle.rules.proofs.Numbers.{numbered, last-left, left-refused}
 use borrow.Author.Needs.{needs}
 use Rattle.rules.proofs.at_left.Statement.{statement}
 use Rattle.rules.proofs.at_left.Tie as tie

@@ -1,7 +1,7 @@
 use mathlib.Core.Path.{sym, _∙_}
 use native.Mathlib.Omega.{arith}
 use Rattle.steps.specs.Plans.{planOf, right}
-use Rattle.rules.proofs.Plans.{numbered, last-right, ax-refused}
+use Rattle.rules.proofs.Numbers.{numbered, last-right, ax-refused}
 use borrow.Author.Needs.{needs}
 use Rattle.rules.proofs.at_right.Statement.{statement}
 use Rattle.rules.proofs.at_right.Tie as tie

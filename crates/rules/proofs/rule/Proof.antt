@@ -1,7 +1,7 @@
 use mathlib.Core.Path.{sym}
 use native.Mathlib.Omega.{arith}
 use Rattle.steps.specs.Plans.{planOf, affirmed}
-use Rattle.rules.proofs.Plans.{numbered, right-refused}
+use Rattle.rules.proofs.Numbers.{numbered, right-refused}
 use borrow.Author.Needs.{needs}
 use Rattle.rules.proofs.rule.Statement.{statement}
 use Rattle.rules.proofs.rule.Tie as tie
