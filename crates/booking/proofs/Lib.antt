@@ -1,1 +1,4 @@
-pub mod StandIn
+pub mod Same
+pub mod Judged
+pub mod Laws
+pub mod Lines

@@ -1,1 +1,1 @@
-pub mod StandIn
+pub mod Booking

@@ -1,25 +1,170 @@
-// Stand-in for the whole call: a booking is refused with 2 until its call is here. specs/StandIn.antt says so.
+// Booking (document 01: book): its checks in the paper's order, and what an accepted one does; and the one call, which
+// tells the five requests apart.
+use checker::Checked;
+use holds::Held;
+use holds::Sides;
 use ledger::Answer;
-use reader::First;
+use logic::Interval;
+use reader::Head;
+use reader::HoldsRead;
+use reader::StepsRead;
+use reader::bookings::read_holds;
+use reader::bookings::read_steps;
+use request::Kind;
+use steps::Goal;
+use steps::Sequent;
 use store::Store;
+use till::Reply;
+use till::answer;
+use till::tests;
+use till::tests::Verdict;
+ghost use mathlib.Core.Path.{_≡_};
+ghost use mathlib.Core.Bool.{not, _||_};
+ghost use Rattle.logic.specs.Interval.{has, reversed};
 ghost use Rattle.store.specs.Store.{Good};
-ghost use Rattle.booking.specs.StandIn.{Called};
+ghost use Rattle.checker.specs.Begin.{sequent};
+ghost use Rattle.till.specs.Handled.{Handled, Called, fails};
+ghost use Rattle.booking.specs.Booking.{bookingAt, ReadLines, Bookable, Steppable, Opened};
 
-// The answer to a sheet.
+// 3: the goal's interval is reversed, or a step's is.
+fn lines_ordered(interval: Interval, turned: bool) -> Verdict
+    ensures { λ r. ⌜ fails r ≡ (reversed interval || turned) ⌝ }
+{
+    tests::tested((interval.to < interval.from) | turned)
+}
+
+// 30: `now` is not in the goal's interval.
+fn timely(interval: Interval, now: u32) -> Verdict
+    ensures { λ r. ⌜ fails r ≡ not (has interval now) ⌝ }
+{
+    tests::tested((now < interval.from) | (interval.to < now))
+}
+
+// The sequent of the first step: the goal from the holds.
+fn opening(head: Head, sides: Sides) -> Sequent
+    ensures { λ r. ⌜ r ≡ sequent (sides .unrestricted) (sides .linear)
+        (Goal.Holds (head .formula) (head .interval)) ⌝ }
+{
+    let interval = head.interval;
+    let goal = Goal::Holds(head.formula, interval);
+    Sequent {
+        unrestricted: sides.unrestricted,
+        linear: sides.linear,
+        goal,
+    }
+}
+
+// 40 to 42 step by step, 22, 23; then the linear holds go and the goal comes as one linear credential.
+fn book_steps(
+    till: &mut Store,
+    head: Head,
+    serials: &[u32; 32],
+    rows: &[u32; 1536],
+    table: &mut [u32; 192],
+    sides: Sides,
+) -> Answer
+    requires { ⌜ Steppable (now till) head (now serials) (now rows) (now table) sides ⌝ }
+    ensures { λ r. ⌜ Handled (now (till .entry)) (bookingAt head (now (serials .entry)) (now (rows .entry))) r
+        (now (till .exit)) ⌝ }
+{
+    let checked = checker::check(
+        till,
+        rows,
+        table,
+        head.steps,
+        opening(head, sides),
+        head.holds,
+    );
+    if let Checked::Stopped(number, step) = checked {
+        return Answer::Refused(number, step);
+    }
+    let room = tests::room(till, sides.singles);
+    let Verdict::Passed = room else {
+        return Answer::Refused(22, 0);
+    };
+    let unused = tests::unused(till);
+    let Verdict::Passed = unused else {
+        return Answer::Refused(23, 0);
+    };
+    let serial = store::next_serial(till);
+    holds::spend(till, serials, head.holds);
+    store::give(till, Kind::Linear, head.formula, head.interval);
+    Answer::Accepted(serial)
+}
+
+// 24 for all holds, then 31.
+fn book_holds(till: &mut Store, head: Head, serials: &[u32; 32], rows: &[u32; 1536]) -> Answer
+    requires { ⌜ Bookable (now till) head (now serials) (now rows) ⌝ }
+    ensures { λ r. ⌜ Handled (now (till .entry)) (bookingAt head (now (serials .entry)) (now (rows .entry))) r
+        (now (till .exit)) ⌝ }
+{
+    let mut table = [0u32; 192];
+    let held = holds::hold_all(till, serials, head.holds, &mut table);
+    let Held::Live(sides) = held else {
+        return Answer::Refused(24, 0);
+    };
+    let once = tests::tested(holds::twice(serials, head.holds));
+    let Verdict::Passed = once else {
+        return Answer::Refused(31, 0);
+    };
+    book_steps(till, head, serials, rows, &mut table, sides)
+}
+
+// 10, 20, 30.
+fn book_read(till: &mut Store, head: Head, serials: &[u32; 32], rows: &[u32; 1536]) -> Answer
+    requires { ⌜ ReadLines (now till) head (now serials) (now rows) ⌝ }
+    ensures { λ r. ⌜ Handled (now (till .entry)) (bookingAt head (now (serials .entry)) (now (rows .entry))) r
+        (now (till .exit)) ⌝ }
+{
+    let present = tests::present(till, head.formula);
+    let Verdict::Passed = present else {
+        return Answer::Refused(10, 0);
+    };
+    let plain = tests::plainly(till, head.formula);
+    let Verdict::Passed = plain else {
+        return Answer::Refused(20, 0);
+    };
+    let in_time = timely(head.interval, head.now);
+    let Verdict::Passed = in_time else {
+        return Answer::Refused(30, 0);
+    };
+    book_holds(till, head, serials, rows)
+}
+
+// A booking whose head has been read: the rest of 2, 3, then as above.
+pub fn book(till: &mut Store, sheet: &[u8], head: Head) -> Answer
+    requires { ⌜ Opened (now till) (now sheet) head ⌝ }
+    ensures { λ r. ⌜ Called (now (till .entry)) (now (sheet .entry)) r (now (till .exit)) ⌝ }
+{
+    let mut serials = [0u32; 32];
+    let held = read_holds(sheet, head.next, head.holds, &mut serials);
+    let HoldsRead::Read(end) = held else {
+        return Answer::Refused(2, 0);
+    };
+    let at = end as usize;
+    if sheet.len() <= at {
+        return Answer::Refused(2, 0);
+    }
+    let mut rows = [0u32; 1536];
+    let read = read_steps(&sheet[at..], head.steps, &mut rows);
+    let StepsRead::Read(turned) = read else {
+        return Answer::Refused(2, 0);
+    };
+    let ordered = lines_ordered(head.interval, turned);
+    let Verdict::Passed = ordered else {
+        return Answer::Refused(3, 0);
+    };
+    book_read(till, head, &serials, &rows)
+}
+
+// The one call: any bytes, of any length.
 pub fn call(till: &mut Store, sheet: &[u8]) -> Answer
     requires { ⌜ Good (now till) ⌝ }
     ensures { λ r. ⌜ Called (now (till .entry)) (now (sheet .entry)) r (now (till .exit)) ⌝ }
 {
-    if 16384 < sheet.len() {
-        return Answer::Refused(1, 0);
-    }
-    let first = reader::requests::read_first(sheet);
-    match first {
-        First::Word(row) => till::word(till, row),
-        First::Issue(kind, formula, interval) => till::issue(till, kind, formula, interval),
-        First::Withdraw(serial) => till::withdraw(till, serial),
-        First::Tally(session, minute) => till::tally(till, session, minute),
-        First::Book(head) => Answer::Refused(2, 0),
-        First::Broken => Answer::Refused(2, 0),
+    let reply = answer(till, sheet);
+    match reply {
+        Reply::Answered(a) => a,
+        Reply::Booking(head) => book(till, sheet, head),
     }
 }

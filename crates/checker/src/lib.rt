@@ -3,6 +3,7 @@
 use begin::Begun;
 use steps::Plan;
 use steps::Sequent;
+use store::Store;
 use tables::lines;
 
 pub mod begin;
@@ -10,7 +11,7 @@ pub mod begin;
 ghost use mathlib.Core.Path.{_≡_};
 ghost use Prim.Native.Nat.{_≤_};
 ghost use Rattle.steps.specs.Check.{checkOf};
-ghost use Rattle.tables.specs.Rows.{rowAt};
+ghost use Rattle.store.specs.Layout.{rowAt};
 ghost use Rattle.tables.specs.Held.{heldAt, putHeld};
 ghost use Rattle.tables.specs.Lines.{stepsFrom};
 ghost use Rattle.checker.specs.Cycle.{Fits, PremiseChecked, StepChecked, Answers};
@@ -29,7 +30,7 @@ pub enum Checked {
 
 // Judges a sequent by the first of the `left` step lines that are not read yet, of `total`.
 fn check_premise(
-    store: &[u32; 3964],
+    store: &Store,
     steps: &[u32; 1536],
     table: &mut [u32; 192],
     total: u32,
@@ -60,7 +61,7 @@ fn check_premise(
 
 // Follows the plan of a step with `left` lines after it, at a sequent with the unrestricted labels r.
 fn check_step(
-    store: &[u32; 3964],
+    store: &Store,
     steps: &[u32; 1536],
     table: &mut [u32; 192],
     total: u32,
@@ -104,7 +105,7 @@ fn check_step(
 
 // All step lines of a booking, from the sequent q and the next label: no line may follow the close.
 pub fn check(
-    store: &[u32; 3964],
+    store: &Store,
     steps: &[u32; 1536],
     table: &mut [u32; 192],
     total: u32,

@@ -5,7 +5,7 @@ use Prim.Native.Nat.{ℕ}
 use Rattle.ledger.specs.declared.Answer.{Answer}
 use Rattle.ledger.specs.declared.Answer.the-variants.{Accepted, Counted, Refused}
 use Rattle.store.specs.Store.{ledgerOf, Good}
-use Rattle.booking.specs.StandIn.{call}
+use Rattle.ledger.specs.Calls.{call}
 
 -- An answer in four numbers: how many values it has, or 0 for a refusal; then the values, or refusal and step.
 abbrev pub numbersOf : Answer → List ℕ

@@ -13,10 +13,11 @@ use Rattle.request.specs.Text.{bytes, sameBytes, andThen, numberIn, labelSetIn}
 use Rattle.request.specs.Reader.{Reader, return, _>>=_, next, named, choose}
 use Rattle.request.specs.Request.{Step}
 use Rattle.request.specs.Read.{number, labelSet, interval, labelled, stepLine, holdLine}
-use Rattle.forms.specs.declared.StepRow.{StepRow}
+use Rattle.tables.specs.declared.StepRow.{StepRow}
+use Rattle.tables.specs.Lines.{stepRow, stepOf}
 use Rattle.numbers.specs.Field.{fieldTo, strip}
 use Rattle.forms.specs.Line.{readLine, intervalTo}
-use Rattle.forms.specs.Step.{stepRow, stepOf, ops, opOf, labelReader, stepReader}
+use Rattle.forms.specs.Step.{ops, opOf, labelReader, stepReader}
 use Rattle.numbers.proofs.Then.{then-same, by-test}
 use Rattle.numbers.proofs.Bytes.{here3}
 use Rattle.forms.proofs.Cut.{line-none, whole-none}
@@ -121,7 +122,7 @@ step-told b e = ap (λ z. some (stepOf z, b)) e
 -- The word of a step
 
 step-word : (t : List ℕ) (ts : List (List ℕ)) → stepLine (t ∷ ts) ≡ stepReader (opOf t) ts
-unfolding stepLine opOf ops stepReader labelReader
+unfolding stepLine opOf ops stepReader labelReader stepOf
 step-word t ts = choose-lookup _ t ts ∙ ap (λ (r : Reader Step). r ts) (lookup-by stepReader ops 22 t)
 
 module _ (s : List ℕ) (i : ℕ) where

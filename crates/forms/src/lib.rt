@@ -6,6 +6,7 @@ pub mod rows;
 
 use logic::Interval;
 use steps::Row;
+use tables::StepRow;
 
 // An interval (document 01: a window) and the position after the byte that ends it.
 pub enum Span {
@@ -25,17 +26,7 @@ pub enum HoldLine {
     Broken,
 }
 
-// its interval; 0 where a step has no such field.
-pub struct StepRow {
-    pub op: u32,
-    pub label: u32,
-    pub high: u32,
-    pub low: u32,
-    pub from: u32,
-    pub to: u32,
-}
-
-// A step line, and the position after its line end.
+// A step line as a row, and the position after its line end.
 pub enum StepLine {
     Step(StepRow, u32),
     Broken,

@@ -1,12 +1,12 @@
 // Step lines as rows.
 use crate::Span;
 use crate::StepLine;
-use crate::StepRow;
 use crate::formulas::interval;
 use numbers::Decimal;
 use numbers::Labels;
 use numbers::label_set;
 use numbers::number;
+use tables::StepRow;
 ghost use mathlib.Core.Path.{_≡_};
 ghost use mathlib.Core.List.{[], _∷_};
 ghost use Prim.Native.Nat.{_≤_};
@@ -14,7 +14,8 @@ ghost use lib.ListN.{length, drop};
 ghost use Rattle.request.specs.Range.{maxBytes};
 ghost use Rattle.request.specs.Read.{stepLine};
 ghost use Rattle.forms.specs.Line.{readLine};
-ghost use Rattle.forms.specs.Step.{stepRow, opOf, stepReader, labelReader, stepLineOf};
+ghost use Rattle.tables.specs.Lines.{stepRow};
+ghost use Rattle.forms.specs.Step.{opOf, stepReader, labelReader, stepLineOf};
 
 // The number of the step whose word is the two letters; 22 for no step.
 fn op_of(a: u8, b: u8) -> u32

@@ -35,7 +35,7 @@ take-out (d ∷ cs) n {c} e = go (eqb (d .serial) n) refl e (take-out cs n)
     go false q e ih = let w = ih e in (w .0, there (w .1))
 
 -- Another is still found.
-abbrev Other : ℕ → ℕ → Type 0
+abbrev pub Other : ℕ → ℕ → Type 0
 Other n m = eqb n m ≡ false
 
 still : (cs : List Credential) (n m : ℕ) → Other n m → find (withoutSerial cs n) m ≡ find cs m
@@ -77,11 +77,11 @@ alive-still cs n [] h a = tt
 alive-still cs n (m ∷ ms) h a = (ap isNone (still cs n m (h .0)) ∙ a .0, alive-still cs n ms (h .1) (a .1))
 
 -- no serial twice
-abbrev Apart : List ℕ → Type 0
+abbrev pub Apart : List ℕ → Type 0
 Apart [] = Unit {0}
 Apart (n ∷ ns) = Every (Other n) ns × Apart ns
 
-twice-apart : (ns : List ℕ) → twice ns ≡ false → Apart ns
+pub twice-apart : (ns : List ℕ) → twice ns ≡ false → Apart ns
 unfolding twice
 twice-apart [] e = tt
 twice-apart (n ∷ ns) e = go (any (eqb n) ns) refl e (twice-apart ns)
@@ -143,6 +143,32 @@ left-keeps Q c cs x y = go (c .kind)
     go : (k : Kind) → Q (byKind k (withoutSerial cs (c .serial)) cs)
     go Linear = y
     go Unrestricted = x
+
+-- the first hold is spent, and then the others from what is left
+module _ (cs : List Credential) (n : ℕ) (ms : List ℕ) (a : Alive cs n) (o : Every (Other n) ms) where
+  abbrev once : List Credential
+  once = spend cs (held cs (n ∷ []))
+
+  after-first : (Q : List Credential → Type 0) → Q cs → Q (withoutSerial cs n) → Q once
+  unfolding held spend
+  after-first Q x y = go (find cs n) refl a
+    where
+      go : (p : Option Credential) → find cs n ≡ p → isNone p ≡ false → Q (spend cs (consSome p []))
+      go none e q = absurd (no-truth (sym q))
+      go (some c) e q = left-keeps Q c cs x (subst (λ (m : ℕ). Q (withoutSerial cs m)) (sym (take-out cs n e .0)) y)
+
+  pub spend-first : spend cs (held cs (n ∷ ms)) ≡ spend once (held once ms)
+  unfolding held spend
+  spend-first = go (find cs n) a ∙ ap (spend once) (sym (after-first (λ ds. held ds ms ≡ held cs ms) refl
+      (held-still cs n ms o)))
+    where
+      go : (p : Option Credential) → isNone p ≡ false
+          → spend cs (consSome p (held cs ms)) ≡ spend (spend cs (consSome p [])) (held cs ms)
+      go none q = absurd (no-truth (sym q))
+      go (some c) q = refl
+
+  pub alive-after : Every (Alive cs) ms → Every (Alive once) ms
+  alive-after h = after-first (λ ds. Every (Alive ds) ms) h (alive-still cs n ms o h)
 
 -- The linear ones held and what is left once they are spent add up to what was there; all were there.
 pub record Splits (P : Credential → Type 0) (cs hs rest : List Credential) : Type 0 where

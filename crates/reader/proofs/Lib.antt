@@ -1,5 +1,5 @@
 pub mod Split
 pub mod Heads
 pub mod Several
-pub mod Arrays
+pub mod Reversals
 pub mod Reading

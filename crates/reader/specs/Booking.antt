@@ -1,11 +1,11 @@
 -- The lines after a booking's head: what the code's contracts say is read from them.
 use mathlib.Core.Path.{_≡_}
-use mathlib.Core.List.{List, [], _∷_, _++_}
+use mathlib.Core.List.{List, [], _∷_}
 use mathlib.Core.Option.{Option, none, some}
 use mathlib.Core.Bool.{Bool, true, false}
-use Prim.Native.Nat.{ℕ, zero, suc, _+_, _*_, _≤_}
+use Prim.Native.Nat.{ℕ, zero, suc, _≤_}
 use lib.Dec.{eqb, ltb}
-use lib.ListN.{length, getD, take, drop, set}
+use lib.ListN.{length, take, drop}
 use Rattle.logic.specs.Interval.{reversed}
 use Rattle.request.specs.Range.{maxBytes}
 use Rattle.request.specs.Text.{andThen}
@@ -13,16 +13,16 @@ use Rattle.request.specs.Reader.{Reader}
 use Rattle.request.specs.Request.{Step, Request, book, stepsIntervals}
 use Rattle.request.specs.Read.{holdLine, stepLine}
 use Rattle.ledger.specs.Checks.{any}
+use Rattle.tables.specs.declared.StepRow.{StepRow}
+use Rattle.tables.specs.Lines.{stepsFrom}
 use Rattle.numbers.specs.Field.{pick}
-use Rattle.forms.specs.declared.StepRow.{StepRow}
 use Rattle.forms.specs.Line.{readLine}
-use Rattle.forms.specs.Step.{stepRow, stepOf}
 use Rattle.reader.specs.First.{bookingFrom}
 use Rattle.reader.specs.declared.Head.{Head}
 use Rattle.reader.specs.declared.HoldsRead.{HoldsRead}
 use Rattle.reader.specs.declared.HoldsRead.the-variants.{Read, Broken as NoHolds}
 use Rattle.reader.specs.declared.StepsRead.{StepsRead}
-use Rattle.reader.specs.declared.StepsRead.the-variants.{Ordered, Reversed, Broken as NoSteps}
+use Rattle.reader.specs.declared.StepsRead.the-variants.{Read as AllRead, Broken as NoSteps}
 
 -- what r reads from the first n lines, each, and the bytes after them
 unfoldable pub readLines : {A : Type 0} → ℕ → Reader A → List ℕ → Option (List A × List ℕ)
@@ -39,23 +39,6 @@ abbrev pub holdsOf : List ℕ → ℕ → List ℕ → HoldsRead → Option (Lis
 holdsOf s count serials (Read i) = some (take count serials, drop i s)
 holdsOf s count serials NoHolds = none
 
--- Rows of six numbers
-
-unfoldable pub rowAt : List ℕ → ℕ → StepRow
-rowAt t k =
-    stepRow (getD t (k * 6) 0) (getD t (k * 6 + 1) 0) (getD t (k * 6 + 2) 0) (getD t (k * 6 + 3) 0)
-    (getD t (k * 6 + 4) 0) (getD t (k * 6 + 5) 0)
-
-unfoldable pub putRow : List ℕ → ℕ → StepRow → List ℕ
-putRow t k r =
-    set (set (set (set (set (set t (k * 6) (r .op)) (k * 6 + 1) (r .label)) (k * 6 + 2) (r .high)) (k * 6 + 3) (r .low))
-    (k * 6 + 4) (r .from)) (k * 6 + 5) (r .to)
-
--- the steps of the first n rows
-unfoldable pub stepsAt : ℕ → List ℕ → List Step
-stepsAt zero t = []
-stepsAt (suc n) t = stepsAt n t ++ (stepOf (rowAt t n) ∷ [])
-
 -- the interval of a step is reversed
 unfoldable pub turned : StepRow → Bool
 turned r = pick (ltb (r .op) 20) false (ltb (r .to) (r .from))
@@ -67,8 +50,7 @@ pub record StepsAre (q : Option (List Step)) (ss : List Step) (b : Bool) : Type 
 
 -- the answer for bytes whose step lines are q, the first `count` rows
 abbrev pub StepsIs : Option (List Step) → ℕ → List ℕ → StepsRead → Type 0
-StepsIs q count rows Ordered = StepsAre q (stepsAt count rows) false
-StepsIs q count rows Reversed = StepsAre q (stepsAt count rows) true
+StepsIs q count rows (AllRead b) = StepsAre q (stepsFrom rows 0 count) b
 StepsIs q count rows NoSteps = q ≡ none
 
 -- the booking of a head, its holds and its steps

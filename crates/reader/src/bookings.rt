@@ -3,15 +3,16 @@ use crate::HoldsRead;
 use crate::StepsRead;
 use forms::HoldLine;
 use forms::StepLine;
-use forms::StepRow;
 use forms::holds::read_hold;
 use forms::rows::read_step;
+use tables::StepRow;
+use tables::lines::put_step;
 ghost use mathlib.Core.Path.{_≡_};
-ghost use Prim.Native.Nat.{_≤_, _<_};
+ghost use Prim.Native.Nat.{_≤_};
 ghost use lib.ListN.{length, drop};
 ghost use Rattle.request.specs.Read.{holdLine, stepLine};
 ghost use Rattle.numbers.specs.Field.{pick};
-ghost use Rattle.reader.specs.Booking.{LinesAsked, readLines, holdsOf, rowAt, putRow, turned, allLines, StepsIs};
+ghost use Rattle.reader.specs.Booking.{LinesAsked, readLines, holdsOf, turned, allLines, StepsIs};
 
 // `count` hold lines from `at` on, and their serials in order.
 pub fn read_holds(s: &[u8], at: u32, count: u32, serials: &mut [u32; 32]) -> HoldsRead
@@ -32,35 +33,6 @@ pub fn read_holds(s: &[u8], at: u32, count: u32, serials: &mut [u32; 32]) -> Hol
         k += 1;
     }
     HoldsRead::Read(i)
-}
-
-// Row k of the rows.
-pub fn row_at(rows: &[u32; 1536], k: u32) -> StepRow
-    requires { ⌜ k < 256 ⌝ }
-    ensures { λ r. ⌜ r ≡ rowAt (now (rows .entry)) k ⌝ }
-{
-    let i = (k as usize) * 6;
-    StepRow {
-        op: rows[i],
-        label: rows[i + 1],
-        high: rows[i + 2],
-        low: rows[i + 3],
-        from: rows[i + 4],
-        to: rows[i + 5],
-    }
-}
-
-fn put_row(rows: &mut [u32; 1536], k: u32, r: StepRow)
-    requires { ⌜ k < 256 ⌝ }
-    ensures { λ _. ⌜ now (rows .exit) ≡ putRow (now (rows .entry)) k r ⌝ }
-{
-    let i = (k as usize) * 6;
-    rows[i] = r.op;
-    rows[i + 1] = r.label;
-    rows[i + 2] = r.high;
-    rows[i + 3] = r.low;
-    rows[i + 4] = r.from;
-    rows[i + 5] = r.to;
 }
 
 // 1 for a step whose interval is reversed, else 0.
@@ -92,15 +64,12 @@ pub fn read_steps(s: &[u8], count: u32, rows: &mut [u32; 1536]) -> StepsRead
             return StepsRead::Broken;
         };
         reversed = reversed + turns(row);
-        put_row(rows, k, row);
+        put_step(rows, k, row);
         at = next;
         k += 1;
     }
     if (at as usize) < s.len() {
         return StepsRead::Broken;
     }
-    if reversed == 0 {
-        return StepsRead::Ordered;
-    }
-    StepsRead::Reversed
+    StepsRead::Read(0 < reversed)
 }

@@ -33,9 +33,8 @@ pub enum HoldsRead {
     Broken,
 }
 
-// The step lines of a booking were read; an interval among them is reversed (refusal 3), or none is.
+// The step lines of a booking were read; whether an interval among them is reversed (refusal 3).
 pub enum StepsRead {
-    Ordered,
-    Reversed,
+    Read(bool),
     Broken,
 }

@@ -4,99 +4,93 @@ use steps::Fresh;
 use steps::Goal;
 use steps::Plan;
 use steps::Sequent;
+use store::Store;
 use tables::StepRow;
 use tables::held;
-use tables::rows;
-
-mod left;
-mod make;
-mod right;
-
+use tables::lines;
 ghost use mathlib.Core.Path.{_≡_};
-ghost use Rattle.labels.specs.Labels.{member};
-ghost use Rattle.steps.specs.Plans.{when, planOf};
-ghost use Rattle.tables.specs.Rows.{rowAt};
+ghost use Prim.Native.Nat.{_≤_};
+ghost use Rattle.steps.specs.Plans.{planOf};
+ghost use Rattle.store.specs.Layout.{rowAt};
 ghost use Rattle.tables.specs.Held.{heldAt};
 ghost use Rattle.tables.specs.Lines.{stepOf};
-ghost use Rattle.rules.specs.Among.{Among};
 
 // The right steps and `ax`, at the goal of formula n at i.
-fn at_right(
-    store: &[u32; 3964],
-    table: &[u32; 192],
-    q: Sequent,
-    n: u32,
-    i: Interval,
-    s: StepRow,
-) -> Plan
-    requires { ⌜ Among 1 10 s ⌝ }
+fn at_right(store: &Store, table: &[u32; 192], q: Sequent, n: u32, i: Interval, s: StepRow) -> Plan
+    requires { ⌜ (1 ≤ s .op) × (s .op ≤ 10) ⌝ }
     ensures { λ r. ⌜ r ≡ planOf (rowAt (now (store .entry))) (heldAt (now (table .entry))) (q .unrestricted)
         (q .linear) (Goal.Holds n i) (stepOf s) ⌝ }
 {
-    let x = rows::row_at(store, n);
+    let x = store::row_at(store, n);
     let d = q.linear;
     let op = s.op;
     match op {
-        1 => right::or(d, x),
-        2 => right::gr(d, x),
-        3 => right::p1(d, x, i),
-        4 => right::p2(d, x, i),
-        5 => right::br(d, x, i),
-        6 => right::hr(d, x),
-        7 => right::sr(d, x, i),
-        8 => right::wr(d, x, i),
-        9 => right::tr(d, x, i, s.share),
+        1 => right_steps::or(d, x),
+        2 => right_steps::gr(d, x),
+        3 => right_steps::p1(d, x, i),
+        4 => right_steps::p2(d, x, i),
+        5 => right_steps::br(d, x, i),
+        6 => right_steps::hr(d, x),
+        7 => right_steps::sr(d, x, i),
+        8 => right_steps::wr(d, x, i),
+        9 => right_steps::tr(d, x, i, lines::share(s)),
         _ => {
+            if 64 <= s.label {
+                return Plan::Refused;
+            }
             let h = held::held_at(table, s.label);
-            right::ax(d, x, i, s.label, h, rows::row_at(store, h.formula))
+            right_steps::ax(d, x, i, s.label, h, store::row_at(store, h.formula))
         }
     }
 }
 
-// The left steps, but for the test that the label is in D.
-fn at_left(store: &[u32; 3964], table: &[u32; 192], q: Sequent, s: StepRow) -> Plan
-    requires { ⌜ Among 12 21 s ⌝ }
-    ensures { λ r. ⌜ when (member (q .linear) (s .label)) r ≡ planOf (rowAt (now (store .entry)))
-        (heldAt (now (table .entry))) (q .unrestricted) (q .linear) (q .goal) (stepOf s) ⌝ }
+// The left steps: the label is in D.
+fn at_left(store: &Store, table: &[u32; 192], q: Sequent, s: StepRow) -> Plan
+    requires { ⌜ 12 ≤ s .op ⌝ }
+    ensures { λ r. ⌜ r ≡ planOf (rowAt (now (store .entry))) (heldAt (now (table .entry))) (q .unrestricted)
+        (q .linear) (q .goal) (stepOf s) ⌝ }
 {
+    if !plans::has(q.linear, s.label) {
+        return Plan::Refused;
+    }
     let h = held::held_at(table, s.label);
-    let x = rows::row_at(store, h.formula);
+    let x = store::row_at(store, h.formula);
     let d = labels::remove(q.linear, s.label);
     let g = q.goal;
     let i = h.interval;
-    let j = s.interval;
+    let j = Interval {
+        from: s.from,
+        to: s.to,
+    };
     let op = s.op;
     match op {
-        12 => left::ol(d, g, x),
-        13 => left::w1(d, g, x, i),
-        14 => left::w2(d, g, x, i),
-        15 => left::bl(d, g, x, i),
-        16 => left::hl(d, g, x),
+        12 => left_steps::ol(d, g, x),
+        13 => left_steps::w1(d, g, x, i),
+        14 => left_steps::w2(d, g, x, i),
+        15 => left_steps::bl(d, g, x, i),
+        16 => left_steps::hl(d, g, x),
         17 => match g {
             Goal::Holds(_, _) => Plan::Refused,
-            Goal::Affirms(k, _, v) => left::sl(d, g, x, i, k, v),
+            Goal::Affirms(k, _, v) => left_steps::sl(d, g, x, i, k, v),
         },
-        18 => left::tl(d, g, x, i),
-        19 => left::pl(d, g, x, i),
-        20 => left::ll(d, g, x, i, s.share, j),
-        _ => left::ul(d, g, x, i, j),
+        18 => left_steps::tl(d, g, x, i),
+        19 => left_steps::pl(d, g, x, i),
+        20 => left_steps::ll(d, g, x, i, lines::share(s), j),
+        _ => left_steps::ul(d, g, x, i, j),
     }
 }
 
 // What a step does at a sequent (document 01: the table of steps).
-pub fn rule(store: &[u32; 3964], table: &[u32; 192], q: Sequent, s: StepRow) -> Plan
+pub fn rule(store: &Store, table: &[u32; 192], q: Sequent, s: StepRow) -> Plan
     ensures { λ r. ⌜ r ≡ planOf (rowAt (now (store .entry))) (heldAt (now (table .entry))) (q .unrestricted)
         (q .linear) (q .goal) (stepOf s) ⌝ }
 {
-    if 64 <= s.label {
-        return Plan::Refused;
-    }
     let g = q.goal;
     let op = s.op;
     match op {
         0 => match g {
             Goal::Holds(_, _) => Plan::Refused,
-            Goal::Affirms(_, n, i) => Plan::One(make::premise(
+            Goal::Affirms(_, n, i) => Plan::One(plans::premise(
                 q.linear,
                 Goal::Holds(n, i),
                 Fresh::Nothing,
@@ -106,11 +100,7 @@ pub fn rule(store: &[u32; 3964], table: &[u32; 192], q: Sequent, s: StepRow) -> 
             Goal::Holds(n, i) => at_right(store, table, q, n, i, s),
             Goal::Affirms(_, _, _) => Plan::Refused,
         },
-        11 => left::cp(q, s.label, held::held_at(table, s.label)),
-        12..=21 => make::when(
-            labels::member(q.linear, s.label),
-            at_left(store, table, q, s),
-        ),
-        _ => Plan::Refused,
+        11 => left_steps::cp(table, q, s.label),
+        _ => at_left(store, table, q, s),
     }
 }

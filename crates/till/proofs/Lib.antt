@@ -1,3 +1,3 @@
 pub mod Laws
 pub mod Words
-mod Sheets
+pub mod Sheets

@@ -9,7 +9,7 @@ use store::Found;
 use store::Store;
 use tests::Verdict;
 
-mod tests;
+pub mod tests;
 
 // What becomes of a sheet: its answer, or the head of a booking.
 pub enum Reply {

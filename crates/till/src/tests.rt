@@ -68,7 +68,7 @@ pub fn names_present(till: &Store, row: Row) -> Verdict
 }
 
 // 20: the formula is not plain.
-fn plainly(till: &Store, n: u32) -> Verdict
+pub fn plainly(till: &Store, n: u32) -> Verdict
     requires { ⌜ Good (now till) × (n < length (ledgerOf (now till) .lines)) ⌝ }
     ensures { λ r. ⌜ fails r ≡ not (plain (formula (ledgerOf (now (till .entry))) n)) ⌝ }
 {

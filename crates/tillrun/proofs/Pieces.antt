@@ -10,7 +10,7 @@ use lib.ListN.{length, take, set, getD, length-append, length-set}
 use lib.Seq.{take-all, take-take, take-suc, take-suc-set, take-append-le, length-take-le}
 use Rattle.ledger.specs.Ledger.{empty}
 use Rattle.store.specs.Store.{StandsFor}
-use Rattle.booking.specs.StandIn.{after, answers}
+use Rattle.ledger.specs.Calls.{after, answers}
 use Rattle.tillrun.specs.declared.kiosk.Place.{Place}
 use Rattle.tillrun.specs.Sheets.{splitFrom, split, oneMore, sheetsOf}
 use Rattle.tillrun.specs.Printed.{printed, longest, Room}

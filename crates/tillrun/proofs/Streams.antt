@@ -14,8 +14,8 @@ use Rattle.ledger.specs.Ledger.{Ledger, empty}
 use Rattle.ledger.specs.Calls.{Reply, told}
 use Rattle.numbers.proofs.Then.{by-test}
 use Rattle.store.specs.Store.{ledgerOf}
-use Rattle.booking.specs.StandIn.{call, after, answers}
-use Rattle.booking.proofs.StandIn.{call-long}
+use Rattle.ledger.specs.Calls.{call, after, answers}
+use Rattle.ledger.proofs.Firsts.{call-long}
 use Rattle.tillrun.specs.declared.kiosk.Place.{Place}
 use Rattle.tillrun.specs.Sheets.{Split, next, splitFrom, split, oneMore, sheetsOf}
 use Rattle.tillrun.specs.Printed.{line, printed}

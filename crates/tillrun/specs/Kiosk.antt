@@ -7,7 +7,7 @@ use lib.ListN.{length, take}
 use Rattle.ledger.specs.Ledger.{empty}
 use Rattle.ledger.specs.Calls.{told}
 use Rattle.store.specs.Store.{ledgerOf, Good, StandsFor}
-use Rattle.booking.specs.StandIn.{call, after, answers}
+use Rattle.ledger.specs.Calls.{call, after, answers}
 use Rattle.tillrun.specs.declared.kiosk.Place.{Place}
 use Rattle.tillrun.specs.Sheets.{split, sheetsOf}
 use Rattle.tillrun.specs.Printed.{line, printed, longest, Room, Wrote}

@@ -1,6 +1,7 @@
 -- `implies_fields` meets its contract. Assumes nothing.
 use mathlib.Core.Path.{sym, _∙_}
 use borrow.Author.Needs.{needs}
+use Rattle.tables.specs.Lines.{stepOf}
 use Rattle.numbers.specs.Field.{decimalOf}
 use Rattle.forms.specs.Line.{spanOf}
 use Rattle.numbers.proofs.Then.{told, then-some, then-no}
@@ -9,6 +10,7 @@ use Rattle.forms.proofs.rows.implies_fields.Statement.{statement}
 use Rattle.forms.proofs.rows.implies_fields.Tie as tie
 
 pub implies-fields-spec : {M : Type 1} → statement M
+unfolding stepOf
 implies-fields-spec =
     tie.close
     (tie.spec

@@ -1,6 +1,7 @@
 -- `set_fields` meets its contract. Assumes nothing.
 use mathlib.Core.Path.{sym, _∙_}
 use borrow.Author.Needs.{needs}
+use Rattle.tables.specs.Lines.{stepOf}
 use Rattle.numbers.specs.Field.{labelsOf}
 use Rattle.numbers.proofs.Then.{told, then-some, then-no}
 use Rattle.forms.proofs.Ops.{set-line, set-halves}
@@ -8,6 +9,7 @@ use Rattle.forms.proofs.rows.set_fields.Statement.{statement}
 use Rattle.forms.proofs.rows.set_fields.Tie as tie
 
 pub set-fields-spec : {M : Type 1} → statement M
+unfolding stepOf
 set-fields-spec =
     tie.close
     (tie.spec

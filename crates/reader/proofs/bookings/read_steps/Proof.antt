@@ -3,8 +3,8 @@ use Prim.Native.Nat.{_-_}
 use borrow.Author.Needs.{needs}
 use Rattle.forms.specs.Step.{stepLineOf}
 use Rattle.numbers.proofs.Then.{told}
-use Rattle.reader.proofs.Reading.{Reading, first-reading, no-step, next-reading, more-bytes, in-order}
-use Rattle.reader.proofs.Reading.{some-reversed}
+use Rattle.reader.proofs.Reading.{Reading, first-reading, no-step, next-reading, more-bytes}
+use Rattle.reader.proofs.Reading.{all-lines-read}
 use Rattle.reader.proofs.bookings.read_steps.Statement.{statement}
 use Rattle.reader.proofs.bookings.read_steps.Tie as tie
 
@@ -37,7 +37,7 @@ read-steps-spec =
     (λ c. let d = c .before .before .before .before in
     let l = d .before .before .before in
     next-reading (l .before .loop .inv) _ _ _ _ (l .loop-test .taken) (l .before .before .before .pre .few)
-    (told (stepLineOf _) (d .before .before .read-step .ensures) (d .line .given .1)) (c .put-row .ensures)
+    (told (stepLineOf _) (d .before .before .read-step .ensures) (d .line .given .1)) (c .put-step .ensures)
     (c .before .before .turns .ensures .0) (c .before .before .turns .ensures .1)
     (search needs))
     (λ c. search needs)
@@ -45,11 +45,7 @@ read-steps-spec =
       more-bytes (c .before .before .loop .inv) (c .before .loop-test .left) (c .if1 .taken),
       c .before .before .loop .inv .long,
     ))
-    (λ c. let l = c .before .before in (
-      in-order (l .before .loop .inv) (l .loop-test .left) (c .before .if1 .left) (c .if2 .taken),
-      l .before .loop .inv .long,
-    ))
-    (λ c. let l = c .before .before in (
-      some-reversed (l .before .loop .inv) (l .loop-test .left) (c .before .if1 .left) (c .if2 .left),
-      l .before .loop .inv .long,
+    (λ c. (
+      all-lines-read (c .before .before .loop .inv) (c .before .loop-test .left) (c .if1 .left),
+      c .before .before .loop .inv .long,
     )))

@@ -7,13 +7,12 @@ use Rattle.tables.proofs.lines.put_step.Tie as tie
 
 returns : tie.Need-returns
 unfolding putStepRow
-returns c = simp (add-one, add-two, add-three, add-four, add-five, c .low .ensures, c .before .high .ensures)
+returns c = simp (add-one, add-two, add-three, add-four, add-five)
 
 pub put-step-spec : {M : Type 1} → statement M
 put-step-spec =
     tie.close
-    (tie.spec (λ c. search needs) (λ c κs. search needs) (λ c κs. search needs) (λ c. search needs)
+    (tie.spec (λ c. search needs) (λ c. search needs) (λ c. search needs) (λ c. search needs) (λ c. search needs)
     (λ c. search needs) (λ c. search needs) (λ c. search needs) (λ c. search needs) (λ c. search needs)
     (λ c. search needs) (λ c. search needs) (λ c. search needs) (λ c. search needs) (λ c. search needs)
-    (λ c. search needs) (λ c. search needs) (λ c. search needs) (λ c. search needs) (λ c. search needs)
-    (λ c. search needs) returns)
+    (λ c. search needs) (λ c. search needs) (λ c. search needs) returns)

@@ -1,0 +1,11 @@
+use borrow.Author.Needs.{needs}
+use Rattle.logic.specs.Interval.{reversed}
+use Rattle.booking.proofs.lines_ordered.Statement.{statement}
+use Rattle.booking.proofs.lines_ordered.Tie as tie
+
+returns : tie.Need-returns
+unfolding reversed
+returns c = c .tested .ensures
+
+pub lines-ordered-spec : {M : Type 1} → statement M
+lines-ordered-spec = tie.close (tie.spec (λ c κs. search needs) returns)

@@ -1,0 +1,22 @@
+use mathlib.Core.Path.{_∙_}
+use borrow.Author.Needs.{needs}
+use Rattle.plans.proofs.Tests.{when-and}
+use Rattle.left_steps.proofs.ul.Statement.{statement}
+use Rattle.left_steps.proofs.ul.Tie as tie
+
+returns : tie.Need-returns
+returns c =
+    c .when .ensures
+    ∙ simp (
+      c .before .contains .ensures,
+      c .before .before .before .premise2 .ensures,
+      c .before .before .before .before .held .ensures,
+      c .before .before .before .before .before .premise .ensures,
+      when-and,
+    )
+
+pub ul-spec : {M : Type 1} → statement M
+ul-spec =
+    tie.close
+    (tie.spec (λ c κs. search needs) (λ c κs. search needs) (λ c κs. search needs) (λ c κs. search needs)
+    (λ c κs. search needs) returns)

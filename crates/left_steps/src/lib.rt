@@ -1,0 +1,139 @@
+// `cp`, and the left steps: d is D without the step's label, which stands for the formula of the row x at i; g is the
+// goal.
+use logic::Interval;
+use steps::Fresh;
+use steps::Goal;
+use steps::Plan;
+use steps::Row;
+use steps::Sequent;
+use tables::held;
+ghost use mathlib.Core.Path.{_≡_};
+ghost use mathlib.Core.Bool.{_&&_};
+ghost use lib.Dec.{eqb};
+ghost use Rattle.logic.specs.Interval.{span, contains};
+ghost use Rattle.labels.specs.Labels.{member, subset, without};
+ghost use Rattle.steps.specs.Plans.{when, is, premise, _at_};
+ghost use Rattle.tables.specs.Held.{heldAt};
+
+// "L in R; a new single label of the same wording and window."
+pub fn cp(table: &[u32; 192], q: Sequent, k: u32) -> Plan
+    ensures { λ r. ⌜ r ≡ when (member (q .unrestricted) k)
+        (Plan.One (premise (q .linear) (q .goal) (Fresh.Linear (heldAt (now (table .entry)) k)))) ⌝ }
+{
+    if !plans::has(q.unrestricted, k) {
+        return Plan::Refused;
+    }
+    let g = q.goal;
+    Plan::One(plans::premise(q.linear, g, Fresh::Linear(held::held_at(table, k))))
+}
+
+// "drops L, a 1."
+pub fn ol(d: u64, g: Goal, x: Row) -> Plan
+    ensures { λ r. ⌜ r ≡ when (is x "o") (Plan.One (premise d g Fresh.Nothing)) ⌝ }
+{
+    plans::when(
+        x.letter == 111,
+        Plan::One(plans::premise(d, g, Fresh::Nothing)),
+    )
+}
+
+// "that arm"
+pub fn w1(d: u64, g: Goal, x: Row, i: Interval) -> Plan
+    ensures { λ r. ⌜ r ≡ when (is x "w") (Plan.One (premise d g (Fresh.Linear ((x .a) at i)))) ⌝ }
+{
+    plans::when(
+        x.letter == 119,
+        Plan::One(plans::premise(d, g, Fresh::Linear(plans::held(x.a, i)))),
+    )
+}
+
+pub fn w2(d: u64, g: Goal, x: Row, i: Interval) -> Plan
+    ensures { λ r. ⌜ r ≡ when (is x "w") (Plan.One (premise d g (Fresh.Linear ((x .b) at i)))) ⌝ }
+{
+    plans::when(
+        x.letter == 119,
+        Plan::One(plans::premise(d, g, Fresh::Linear(plans::held(x.b, i)))),
+    )
+}
+
+// "the part joins R"
+pub fn bl(d: u64, g: Goal, x: Row, i: Interval) -> Plan
+    ensures { λ r. ⌜ r ≡ when (is x "b") (Plan.One (premise d g (Fresh.Unrestricted ((x .a) at i)))) ⌝ }
+{
+    plans::when(
+        x.letter == 98,
+        Plan::One(plans::premise(d, g, Fresh::Unrestricted(plans::held(x.a, i)))),
+    )
+}
+
+// "A@J becomes A at J": likewise for L
+pub fn hl(d: u64, g: Goal, x: Row) -> Plan
+    ensures { λ r. ⌜ r ≡ when (is x "h")
+        (Plan.One (premise d g (Fresh.Linear ((x .a) at (span (x .b) (x .c)))))) ⌝ }
+{
+    let j = Interval { from: x.b, to: x.c };
+    plans::when(
+        x.letter == 104,
+        Plan::One(plans::premise(d, g, Fresh::Linear(plans::held(x.a, j)))),
+    )
+}
+
+// "L is ⟨K⟩A and the goal K affirms B, same K; L's window ⊇ goal's." The goal is affirmed by k, at j.
+pub fn sl(d: u64, g: Goal, x: Row, i: Interval, k: u32, j: Interval) -> Plan
+    ensures { λ r. ⌜ r ≡ when (is x "s") (when (eqb (x .a) k && contains i j)
+        (Plan.One (premise d g (Fresh.Linear ((x .b) at i))))) ⌝ }
+{
+    let p = plans::premise(d, g, Fresh::Linear(plans::held(x.b, i)));
+    plans::when(
+        (x.letter == 115) & ((x.a == k) & plans::contains(i, j)),
+        Plan::One(p),
+    )
+}
+
+// "both parts"
+pub fn tl(d: u64, g: Goal, x: Row, i: Interval) -> Plan
+    ensures { λ r. ⌜ r ≡ when (is x "t") (Plan.One (premise d g (Fresh.Both ((x .a) at i) ((x .b) at i)))) ⌝ }
+{
+    let p = plans::premise(d, g, Fresh::Both(plans::held(x.a, i), plans::held(x.b, i)));
+    plans::when(x.letter == 116, Plan::One(p))
+}
+
+// "a premise for each arm"
+pub fn pl(d: u64, g: Goal, x: Row, i: Interval) -> Plan
+    ensures { λ r. ⌜ r ≡ when (is x "p") (Plan.Two (premise d g (Fresh.Linear ((x .a) at i)))
+        (premise d g (Fresh.Linear ((x .b) at i)))) ⌝ }
+{
+    let p = plans::premise(d, g, Fresh::Linear(plans::held(x.a, i)));
+    let p2 = plans::premise(d, g, Fresh::Linear(plans::held(x.b, i)));
+    plans::when(x.letter == 112, Plan::Two(p, p2))
+}
+
+// "A ⊸ B; L's window ⊇ J = from..to; A at J from the share, which must not have L; then the goal from the rest with
+// B at J for L."
+pub fn ll(d: u64, g: Goal, x: Row, i: Interval, share: u64, j: Interval) -> Plan
+    ensures { λ r. ⌜ r ≡ when (is x "l") (when (contains i j && subset share d)
+        (Plan.Two (premise share (Goal.Holds (x .a) j) Fresh.Nothing)
+        (premise (without d share) g (Fresh.Linear ((x .b) at j))))) ⌝ }
+{
+    let p = plans::premise(share, Goal::Holds(x.a, j), Fresh::Nothing);
+    let p2 = plans::premise(
+        labels::without(d, share),
+        g,
+        Fresh::Linear(plans::held(x.b, j)),
+    );
+    plans::when(
+        (x.letter == 108) & (plans::contains(i, j) & labels::subset(share, d)),
+        Plan::Two(p, p2),
+    )
+}
+
+// "A ⊃ B; the same, but A from an empty D."
+pub fn ul(d: u64, g: Goal, x: Row, i: Interval, j: Interval) -> Plan
+    ensures { λ r. ⌜ r ≡ when (is x "u") (when (contains i j)
+        (Plan.Two (premise 0 (Goal.Holds (x .a) j) Fresh.Nothing)
+        (premise d g (Fresh.Linear ((x .b) at j))))) ⌝ }
+{
+    let p = plans::premise(0, Goal::Holds(x.a, j), Fresh::Nothing);
+    let p2 = plans::premise(d, g, Fresh::Linear(plans::held(x.b, j)));
+    plans::when((x.letter == 117) & plans::contains(i, j), Plan::Two(p, p2))
+}

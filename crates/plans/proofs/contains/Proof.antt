@@ -1,0 +1,10 @@
+use Rattle.logic.specs.Interval.{contains}
+use borrow.Author.Needs.{needs}
+use Rattle.plans.proofs.contains.Statement.{statement}
+use Rattle.plans.proofs.contains.Tie as tie
+
+pub contains-spec : {M : Type 1} → statement M
+unfolding contains
+contains-spec =
+    tie.close
+    (tie.spec (λ c. search needs))

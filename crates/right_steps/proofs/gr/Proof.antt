@@ -1,0 +1,13 @@
+use mathlib.Core.Path.{_∙_}
+use borrow.Author.Needs.{needs}
+use Rattle.plans.proofs.Tests.{when-and}
+use Rattle.right_steps.proofs.gr.Statement.{statement}
+use Rattle.right_steps.proofs.gr.Tie as tie
+
+returns : tie.Need-returns
+returns c = c .when .ensures ∙ rw when-and (simp (c .before .contains .ensures, c .before .before .is-empty .ensures))
+
+pub gr-spec : {M : Type 1} → statement M
+gr-spec =
+    tie.close
+    (tie.spec (λ c κs. search needs) (λ c κs. search needs) (λ c κs. search needs) returns)

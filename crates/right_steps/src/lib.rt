@@ -1,0 +1,126 @@
+// The right steps and `ax`, at the linear labels d and a goal whose row is x, at i.
+use logic::Interval;
+use steps::Fresh;
+use steps::Goal;
+use steps::Hypothesis;
+use steps::Plan;
+use steps::Row;
+ghost use mathlib.Core.Path.{_≡_};
+ghost use mathlib.Core.Bool.{_&&_};
+ghost use Prim.Native.Nat.{_<_};
+ghost use lib.Dec.{eqb};
+ghost use Rattle.logic.specs.Interval.{span, contains};
+ghost use Rattle.labels.specs.Labels.{isEmpty, isJust, subset, without};
+ghost use Rattle.steps.specs.Plans.{when, is, premise};
+
+// "1, D empty; closes."
+pub fn or(d: u64, x: Row) -> Plan
+    ensures { λ r. ⌜ r ≡ when (is x "o") (when (isEmpty d) Plan.Closed) ⌝ }
+{
+    plans::when((x.letter == 111) & labels::is_empty(d), Plan::Closed)
+}
+
+// "⊇ that holds, D empty; closes."
+pub fn gr(d: u64, x: Row) -> Plan
+    ensures { λ r. ⌜ r ≡ when (is x "g") (when (isEmpty d && contains (span (x .a) (x .b)) (span (x .c) (x .d)))
+        Plan.Closed) ⌝ }
+{
+    let i = Interval { from: x.a, to: x.b };
+    let j = Interval { from: x.c, to: x.d };
+    plans::when(
+        (x.letter == 103) & (labels::is_empty(d) & plans::contains(i, j)),
+        Plan::Closed,
+    )
+}
+
+// "⊕, that arm."
+pub fn p1(d: u64, x: Row, i: Interval) -> Plan
+    ensures { λ r. ⌜ r ≡ when (is x "p") (Plan.One (premise d (Goal.Holds (x .a) i) Fresh.Nothing)) ⌝ }
+{
+    plans::when(
+        x.letter == 112,
+        Plan::One(plans::premise(d, Goal::Holds(x.a, i), Fresh::Nothing)),
+    )
+}
+
+pub fn p2(d: u64, x: Row, i: Interval) -> Plan
+    ensures { λ r. ⌜ r ≡ when (is x "p") (Plan.One (premise d (Goal.Holds (x .b) i) Fresh.Nothing)) ⌝ }
+{
+    plans::when(
+        x.letter == 112,
+        Plan::One(plans::premise(d, Goal::Holds(x.b, i), Fresh::Nothing)),
+    )
+}
+
+// "!, D empty, then the part."
+pub fn br(d: u64, x: Row, i: Interval) -> Plan
+    ensures { λ r. ⌜ r ≡ when (is x "b") (when (isEmpty d)
+        (Plan.One (premise d (Goal.Holds (x .a) i) Fresh.Nothing))) ⌝ }
+{
+    let p = plans::premise(d, Goal::Holds(x.a, i), Fresh::Nothing);
+    plans::when((x.letter == 98) & labels::is_empty(d), Plan::One(p))
+}
+
+// "A@J becomes A at J."
+pub fn hr(d: u64, x: Row) -> Plan
+    ensures { λ r. ⌜ r ≡ when (is x "h")
+        (Plan.One (premise d (Goal.Holds (x .a) (span (x .b) (x .c))) Fresh.Nothing)) ⌝ }
+{
+    let j = Interval { from: x.b, to: x.c };
+    plans::when(
+        x.letter == 104,
+        Plan::One(plans::premise(d, Goal::Holds(x.a, j), Fresh::Nothing)),
+    )
+}
+
+// "⟨K⟩A becomes K affirms A."
+pub fn sr(d: u64, x: Row, i: Interval) -> Plan
+    ensures { λ r. ⌜ r ≡ when (is x "s") (Plan.One (premise d (Goal.Affirms (x .a) (x .b) i) Fresh.Nothing)) ⌝ }
+{
+    plans::when(
+        x.letter == 115,
+        Plan::One(plans::premise(d, Goal::Affirms(x.a, x.b, i), Fresh::Nothing)),
+    )
+}
+
+// "&, both arms, each from all of D."
+pub fn wr(d: u64, x: Row, i: Interval) -> Plan
+    ensures { λ r. ⌜ r ≡ when (is x "w") (Plan.Two (premise d (Goal.Holds (x .a) i) Fresh.Nothing)
+        (premise d (Goal.Holds (x .b) i) Fresh.Nothing)) ⌝ }
+{
+    let p = plans::premise(d, Goal::Holds(x.a, i), Fresh::Nothing);
+    let p2 = plans::premise(d, Goal::Holds(x.b, i), Fresh::Nothing);
+    plans::when(x.letter == 119, Plan::Two(p, p2))
+}
+
+// "⊗; left from the share, right from the rest of D."
+pub fn tr(d: u64, x: Row, i: Interval, share: u64) -> Plan
+    ensures { λ r. ⌜ r ≡ when (is x "t") (when (subset share d)
+        (Plan.Two (premise share (Goal.Holds (x .a) i) Fresh.Nothing)
+        (premise (without d share) (Goal.Holds (x .b) i) Fresh.Nothing))) ⌝ }
+{
+    let p = plans::premise(share, Goal::Holds(x.a, i), Fresh::Nothing);
+    let p2 = plans::premise(
+        labels::without(d, share),
+        Goal::Holds(x.b, i),
+        Fresh::Nothing,
+    );
+    plans::when(
+        (x.letter == 116) & labels::subset(share, d),
+        Plan::Two(p, p2),
+    )
+}
+
+// "D holds just L, an atom equal to the goal; L's window ⊇ goal's. Closes." Label k stands for h, whose row is y.
+pub fn ax(d: u64, x: Row, i: Interval, k: u32, h: Hypothesis, y: Row) -> Plan
+    requires { ⌜ k < 64 ⌝ }
+    ensures { λ r. ⌜ r ≡ when (is x "a") (when (isJust d k
+        && ((is y "a" && (eqb (y .a) (x .a) && eqb (y .b) (x .b))) && contains (h .interval) i)) Plan.Closed) ⌝ }
+{
+    let j = h.interval;
+    let same = (y.letter == 97) & ((y.a == x.a) & (y.b == x.b));
+    plans::when(
+        (x.letter == 97) & (labels::is_just(d, k) & (same & plans::contains(j, i))),
+        Plan::Closed,
+    )
+}
