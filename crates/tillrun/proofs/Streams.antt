@@ -10,10 +10,9 @@ use lib.Seq.{take-all, take-take, take-append-le, length-take-le}
 use borrow.Author.Tests.{leb-true, leb-false}
 use Rattle.ledger.specs.declared.Answer.{Answer}
 use Rattle.ledger.specs.Ledger.{Ledger, empty}
-use Rattle.ledger.specs.Calls.{Reply, told}
 use Rattle.numbers.proofs.Then.{by-test}
 use Rattle.store.specs.Store.{ledgerOf}
-use Rattle.ledger.specs.Calls.{call, after, answers}
+use Rattle.ledger.specs.Calls.{Reply, told, call, after, answers}
 use Rattle.ledger.proofs.Firsts.{call-long}
 use Rattle.tillrun.specs.declared.kiosk.Place.{Place}
 use Rattle.tillrun.specs.Sheets.{Split, next, splitFrom, split}

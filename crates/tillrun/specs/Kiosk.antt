@@ -5,9 +5,8 @@ use mathlib.Core.List.{List, [], _∷_, _++_}
 use Prim.Native.Nat.{ℕ, _+_, _*_, _≤_}
 use lib.ListN.{length, take}
 use Rattle.ledger.specs.Ledger.{empty}
-use Rattle.ledger.specs.Calls.{told}
 use Rattle.store.specs.Store.{ledgerOf, Good, StandsFor}
-use Rattle.ledger.specs.Calls.{call, after, answers}
+use Rattle.ledger.specs.Calls.{told, call, after, answers}
 use Rattle.tillrun.specs.declared.kiosk.Place.{Place}
 use Rattle.tillrun.specs.Sheets.{split, sheetsOf}
 use Rattle.tillrun.specs.Printed.{line, printed, longest, Room, Wrote}
