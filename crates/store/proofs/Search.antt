@@ -61,6 +61,16 @@ rises-apart lo (suc n) f (suc i) r q zero h e =
 rises-apart lo (suc n) f (suc i) r q (suc k) h e =
     rises-apart (f zero .serial) n (λ k. f (suc k)) i (r .1) (le-of-suc-le-suc q) k (le-of-suc-le-suc h) e
 
+pub rises-between : (lo n : ℕ) (f : ℕ → Credential) (i j : ℕ) → Rises lo (tab n f) → i < j → j < n
+    → f i .serial < f j .serial
+unfolding tab
+rises-between lo zero f i j r h q = absurd (not-suc-le-zero q)
+rises-between lo (suc n) f i zero r h q = absurd (omega arith)
+rises-between lo (suc n) f zero (suc j) r h q =
+    rises-above (f zero .serial) n (λ k. f (suc k)) j (r .1) (le-of-suc-le-suc q)
+rises-between lo (suc n) f (suc i) (suc j) r h q =
+    rises-between (f zero .serial) n (λ k. f (suc k)) i j (r .1) (le-of-suc-le-suc h) (le-of-suc-le-suc q)
+
 module _ {A : Type 0} (p : A → Bool) where
   pub any-none : (n : ℕ) (f : ℕ → A) → ((k : ℕ) → k < n → p (f k) ≡ false) → any p (tab n f) ≡ false
   unfolding tab any

@@ -3,7 +3,7 @@ use mathlib.Core.Path.{_≡_, sym, ap, _∙_}
 use mathlib.Core.List.{List}
 use mathlib.Core.Option.{some}
 use mathlib.Core.Bool.{true, false}
-use Prim.Native.Nat.{ℕ, _<_}
+use Prim.Native.Nat.{ℕ, _+_, _≤_, _<_}
 use native.Mathlib.Omega.{arith}
 use native.Mathlib.Decide.{decLt}
 use lib.ListN.{length, getD}
@@ -18,7 +18,7 @@ use Rattle.store.specs.declared.Found.the-variants.{At, Nothing}
 use Rattle.store.specs.Layout.{lineCount, liveCount, rowAt, credentialAt}
 use Rattle.store.specs.Store.{lineOf, ledgerOf, Good, Finds}
 use Rattle.store.proofs.Tabs.{length-tab, getD-tab, getD-past}
-use Rattle.store.proofs.Search.{NoneBefore, find-none, find-at, any-none, any-at}
+use Rattle.store.proofs.Search.{find-none, find-at, rises-between, any-none, any-at}
 use Rattle.store.proofs.Rows.{row-past}
 
 module _ (l : List ℕ) where
@@ -63,21 +63,68 @@ module _ (l : List ℕ) where
     has-none h =
         any-none (λ x. sameRow r (rowOf x)) (lineCount l) _ (λ i q. ap (sameRow r) (g .canonical i q) ∙ h i q)
 
-  -- what a search through the serials has found, when no credential before place i has the serial
-  module _ (s : ℕ) where
-    pub found-at : (i : ℕ) (c : Credential) → i < liveCount l → NoneBefore (credentialAt l) s i → c ≡ credentialAt l i
-        → credentialAt l i .serial ≡ s → Finds l s (At i c)
+  -- A search by halves: serials before place `low` are smaller, those from `high` on are larger.
+  pub record Halving (s low high : ℕ) : Type 0 where
+    pub ends : (low ≤ high) × (high ≤ liveCount l)
+    pub smaller : (k : ℕ) → k < low → credentialAt l k .serial < s
+    pub larger : (k : ℕ) → high ≤ k → k < liveCount l → s < credentialAt l k .serial
+
+  module _ (g : Good l) (s : ℕ) where
+    -- serials rise
+    between : (i j : ℕ) → i < j → j < liveCount l → credentialAt l i .serial < credentialAt l j .serial
     unfolding ledgerOf
-    found-at i c q h e n = record {
-      found = ap some e ∙ sym (find-at (liveCount l) (credentialAt l) s i q h n);
+    between i j h q = rises-between 0 (liveCount l) (credentialAt l) i j (g .bounded .rises) h q
+
+    pub first-half : {n : ℕ} → n ≡ liveCount l → Halving s 0 n
+    first-half e = record {
+      ends = (omega arith, omega arith);
+      smaller = λ k h. absurd (omega arith);
+      larger = λ k h q. absurd (omega arith);
+    }
+
+    module _ {low high : ℕ} (h : Halving s low high) where
+      pub upper-half : (i : ℕ) → low ≤ i → i < high → credentialAt l i .serial < s → Halving s (i + 1) high
+      upper-half i p q e = record {
+        ends = (omega arith, h .ends .1);
+        smaller = λ k z. below k z (decLt k i);
+        larger = h .larger;
+      }
+        where
+          below : (k : ℕ) → k < i + 1 → Dec (k < i) → credentialAt l k .serial < s
+          below k z (yes y) = omega (arith, between k i y (omega (arith, h .ends .1)))
+          below k z (no y) = let x : k ≡ i = omega arith in rw x e
+
+      pub lower-half : (i : ℕ) → low ≤ i → i < high → s < credentialAt l i .serial → Halving s low i
+      lower-half i p q e = record {
+        ends = (p, omega (arith, h .ends .1));
+        smaller = h .smaller;
+        larger = λ k z y. above k z y (decLt i k);
+      }
+        where
+          above : (k : ℕ) → i ≤ k → k < liveCount l → Dec (i < k) → s < credentialAt l k .serial
+          above k z y (yes x) = omega (arith, between i k x y)
+          above k z y (no x) = let w : k ≡ i = omega arith in rw w e
+
+      pub found-nothing : high ≤ low → Finds l s Nothing
+      unfolding ledgerOf
+      found-nothing z = record {
+        found = sym (find-none (liveCount l) (credentialAt l) s (λ k q e. apart k q e (decLt k low)));
+        placed = tt;
+      }
+        where
+          apart : (k : ℕ) → k < liveCount l → credentialAt l k .serial ≡ s → Dec (k < low) → ⊥
+          apart k q e (yes y) = omega (arith, h .smaller k y)
+          apart k q e (no y) = omega (arith, h .larger k (omega arith) q)
+
+    pub found-at : (i : ℕ) (c : Credential) → i < liveCount l → c ≡ credentialAt l i → credentialAt l i .serial ≡ s
+        → Finds l s (At i c)
+    unfolding ledgerOf
+    found-at i c q e n = record {
+      found = ap some e ∙ sym (find-at (liveCount l) (credentialAt l) s i q (λ k h z. omega (arith, between k i h q)) n);
       placed = (omega (arith, live-length), sym e);
     }
 
-    pub found-nothing : NoneBefore (credentialAt l) s (liveCount l) → Finds l s Nothing
-    unfolding ledgerOf
-    found-nothing h = record { found = sym (find-none (liveCount l) (credentialAt l) s h); placed = tt }
-
-    -- so it is the credential of that serial that stands at the place found
-    pub found-serial : {i : ℕ} {c : Credential} → Finds l s (At i c) → credentialAt l i .serial ≡ s
-    found-serial h =
-        ap (λ (d : Credential). d .serial) (h .placed .1) ∙ take-out (ledgerOf l .live) s (sym (h .found)) .0
+  -- it is the credential of that serial that stands at the place found
+  pub found-serial : (s : ℕ) {i : ℕ} {c : Credential} → Finds l s (At i c) → credentialAt l i .serial ≡ s
+  found-serial s h =
+      ap (λ (d : Credential). d .serial) (h .placed .1) ∙ take-out (ledgerOf l .live) s (sym (h .found)) .0

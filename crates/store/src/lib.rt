@@ -131,18 +131,24 @@ pub fn credential_at(store: &Store, i: u32) -> Credential
     row::credential(store, i)
 }
 
-// The live credential of a serial: serials alone are read, and the one row found.
+// The live credential of a serial: serials rise, so half of what is left goes with each look.
 pub fn find(store: &Store, serial: u32) -> Found
     requires { ⌜ Good (now store) ⌝ }
     ensures { λ r. ⌜ Finds (now (store .entry)) serial r ⌝ }
 {
-    let n = row::live_count(store);
-    let mut i = 0;
-    while i < n {
-        if row::serial(store, i) == serial {
-            return Found::At(i, row::credential(store, i));
+    let mut low = 0;
+    let mut high = row::live_count(store);
+    while low < high {
+        let middle = (low + high) / 2;
+        let found = row::serial(store, middle);
+        if found == serial {
+            return Found::At(middle, row::credential(store, middle));
         }
-        i += 1;
+        if found < serial {
+            low = middle + 1;
+        } else {
+            high = middle;
+        }
     }
     Found::Nothing
 }

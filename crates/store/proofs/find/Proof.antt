@@ -1,44 +1,68 @@
--- `find` meets its contract. The loop: no credential before i has the serial.
-use mathlib.Core.Path.{_≡_, sym, _∙_}
-use Prim.Native.Nat.{_≤_, _-_}
-use borrow.Author.Count.{below-more}
+-- `find` meets its contract. The loop: serials before `low` are smaller, those from `high` on are larger.
+use Prim.Native.Nat.{_-_}
 use borrow.Author.Needs.{needs}
 use native.Mathlib.Omega.{arith}
+use mathlib.Core.Path.{sym, _∙_}
 use denote.Ref.{now}
-use Rattle.store.specs.Layout.{liveCount, credentialAt}
-use Rattle.store.proofs.Search.{NoneBefore}
-use Rattle.store.proofs.Views.{found-at, found-nothing}
+use Rattle.store.proofs.Views.{Halving, first-half, upper-half, lower-half, found-at, found-nothing}
 use Rattle.store.proofs.find.Statement.{statement}
 use Rattle.store.proofs.find.Tie as tie
 
 abbrev Inv-loop : tie.InvT-loop
-Inv-loop store serial n i₀ i = (n ≡ liveCount store) × ((i ≤ n) × NoneBefore (credentialAt store) serial i)
+Inv-loop store serial low₀ high₀ low high = Halving store serial low high
 
 abbrev μ-loop : tie.MeasureT-loop
-μ-loop store serial n i₀ i = n - i
+μ-loop store serial low₀ high₀ low high = high - low
 
 loop-holds : tie.Need-loop-holds Inv-loop μ-loop
-loop-holds c = (c .live-count .ensures, (search needs, λ k h e. omega arith))
+loop-holds c = first-half _ (c .before .pre) _ (c .live-count .ensures)
+
+add-middle : tie.Need-add-middle Inv-loop μ-loop
+add-middle c =
+    let at = c .before in
+    omega (arith, at .loop .inv .ends .0, at .loop .inv .ends .1, at .before .before .pre .live)
+
+serial-requires : tie.Need-serial-requires Inv-loop μ-loop
+serial-requires c κs =
+    let at = c .before in
+    omega (arith, c .loop-test .taken, at .loop .inv .ends .1, at .before .before .pre .live)
+
+credential-requires : tie.Need-credential-requires Inv-loop μ-loop
+credential-requires c κs =
+    let turn = c .before .before in
+    let at = turn .before in
+    omega (arith, turn .loop-test .taken, at .loop .inv .ends .1, at .before .before .pre .live)
 
 returns : tie.Need-returns Inv-loop μ-loop
 returns c =
-    let at = c .before .before .before .before in
-    let h = c .before .before .before .loop-test .taken in
-    found-at (now (at .before .before .args .store)) _ (at .loop .i) (c .credential .result) (omega arith)
-    (at .loop .inv .1 .1) (c .credential .ensures)
-    (sym (c .before .before .serial .ensures) ∙ c .before .if1 .taken)
+    let look = c .before .before in
+    let turn = look .before in
+    let at = turn .before in
+    found-at _ (at .before .before .pre) _ _ (c .credential .result)
+    (omega (arith, turn .loop-test .taken, at .loop .inv .ends .1)) (c .credential .ensures)
+    (sym (look .serial .ensures) ∙ c .before .if1 .taken)
 
 loop-again : tie.Need-loop-again Inv-loop μ-loop
 loop-again c =
-    let at = c .before .before .before in
-    let h = c .before .before .loop-test .taken in
-    let e = c .before .serial .ensures in
-    (at .loop .inv .0, (search needs, below-more _ _ (at .loop .inv .1 .1) (λ f. c .if1 .left (e ∙ f))))
+    let look = c .before .before in
+    let turn = look .before in
+    let at = turn .before in
+    upper-half _ (at .before .before .pre) _ (at .loop .inv) _ (omega (arith, turn .loop-test .taken))
+    (omega (arith, turn .loop-test .taken)) (omega (arith, look .serial .ensures, c .if2 .taken))
+
+loop-again-2 : tie.Need-loop-again-2 Inv-loop μ-loop
+loop-again-2 c =
+    let look = c .before .before in
+    let turn = look .before in
+    let at = turn .before in
+    lower-half _ (at .before .before .pre) _ (at .loop .inv) _ (omega (arith, turn .loop-test .taken))
+    (omega (arith, turn .loop-test .taken))
+    (omega (arith, look .serial .ensures, c .before .if1 .left, c .if2 .left))
 
 returns-2 : tie.Need-returns-2 Inv-loop μ-loop
 returns-2 c =
     let at = c .before in
-    found-nothing (now (at .before .before .args .store)) _ (λ k h e. at .loop .inv .1 .1 k (omega arith) e)
+    found-nothing _ (at .before .before .pre) _ (at .loop .inv) (c .loop-test .left)
 
 pub find-spec : {M : Type 1} → statement M
 find-spec =
@@ -48,10 +72,13 @@ find-spec =
     μ-loop
     (λ c κs. search needs)
     loop-holds
-    (λ c κs. search needs)
-    (λ c κs. search needs)
+    add-middle
+    serial-requires
+    credential-requires
     returns
     (λ c. search needs)
     (λ c. search needs)
     loop-again
+    (λ c. search needs)
+    loop-again-2
     returns-2)
