@@ -1,3 +1,4 @@
 mod Writing
 mod Streams
 mod Pieces
+mod Parting

@@ -1,18 +1,18 @@
 -- What the functions leave: one law for each way out.
 use mathlib.Core.Path.{_≡_, refl, sym, ap, subst, _∙_}
 use mathlib.Core.List.{List, [], _∷_, _++_, append-assoc, append-nil}
-use mathlib.Core.Bool.{Bool, true, false, _&&_}
-use Prim.Native.Nat.{ℕ, suc, _+_, _*_, _≤_, _<_}
+use mathlib.Core.Bool.{true, false, _&&_}
+use Prim.Native.Nat.{ℕ, _+_, _*_, _≤_, _<_}
 use native.Mathlib.Omega.{arith}
 use native.Mathlib.Numerals.{add-one}
 use lib.Dec.{eqb}
 use lib.ListN.{length, take, set, getD, length-append, length-set}
-use lib.Seq.{take-all, take-take, take-suc, take-suc-set, take-append-le, length-take-le}
+use lib.Seq.{take-all, take-suc, take-suc-set, take-append-le, length-take-le}
 use Rattle.ledger.specs.Ledger.{empty}
 use Rattle.store.specs.Store.{StandsFor}
 use Rattle.ledger.specs.Calls.{after, answers}
 use Rattle.tillrun.specs.declared.kiosk.Place.{Place}
-use Rattle.tillrun.specs.Sheets.{splitFrom, split, oneMore, sheetsOf}
+use Rattle.tillrun.specs.Sheets.{splitFrom, split, oneMore}
 use Rattle.tillrun.specs.Printed.{printed, longest, Room}
 use Rattle.tillrun.specs.Kiosk.{most, Kept, Said, Ready, Stands, Took, Ended, Turned, Going}
 use Rattle.tillrun.proofs.Streams.{stands-kept, stands-ended, said-text}

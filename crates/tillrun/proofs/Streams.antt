@@ -1,14 +1,13 @@
 -- A stream in pieces, calls after calls, and what the program's state stands for after a byte.
-use mathlib.Core.Path.{_≡_, refl, sym, ap, subst, _∙_}
+use mathlib.Core.Path.{_≡_, refl, sym, ap, _∙_}
 use mathlib.Core.List.{List, [], _∷_, _++_, append-assoc, append-nil}
 use mathlib.Core.Bool.{Bool, true, false, _&&_}
-use Prim.Native.Nat.{ℕ, suc, _+_, _*_, _≤_, _<_}
+use Prim.Native.Nat.{ℕ, _<_}
 use native.Mathlib.Omega.{arith}
 use lib.Dec.{eqb, leb}
-use lib.ListN.{length, take, length-take, length-append}
+use lib.ListN.{length, take}
 use lib.Seq.{take-all, take-take, take-append-le, length-take-le}
 use borrow.Author.Tests.{leb-true, leb-false}
-use Rattle.request.specs.Range.{maxBytes}
 use Rattle.ledger.specs.declared.Answer.{Answer}
 use Rattle.ledger.specs.Ledger.{Ledger, empty}
 use Rattle.numbers.proofs.Then.{by-test}
@@ -16,7 +15,7 @@ use Rattle.store.specs.Store.{ledgerOf}
 use Rattle.ledger.specs.Calls.{Reply, told, call, after, answers}
 use Rattle.ledger.proofs.Firsts.{call-long}
 use Rattle.tillrun.specs.declared.kiosk.Place.{Place}
-use Rattle.tillrun.specs.Sheets.{Split, next, splitFrom, split, oneMore, sheetsOf}
+use Rattle.tillrun.specs.Sheets.{Split, next, splitFrom, split}
 use Rattle.tillrun.specs.Printed.{line, printed}
 use Rattle.tillrun.specs.Kiosk.{most, Kept, Said, Stands}
 
@@ -49,7 +48,7 @@ printed-snoc (x ∷ done) a =
     ap (λ (t : List ℕ). line (told x) ++ t) (printed-snoc done a) ∙ sym (append-assoc (line (told x)) (printed done) _)
 
 -- of an overlong sheet the first bytes are refused as the whole
-cut : (t : Ledger) (b : List ℕ) → call t (take most b) ≡ call t b
+pub cut : (t : Ledger) (b : List ℕ) → call t (take most b) ≡ call t b
 cut t b = by-test (leb (length b) most) (λ e. ap (call t) (take-all most b (leb-true _ _ e))) (λ e.
     let h : most < length b = leb-false _ _ e in
     call-long t (take most b) (omega (arith, length-take-le most b (omega arith))) ∙ sym (call-long t b (omega arith)))
@@ -64,12 +63,12 @@ keep-cut b x = by-test (leb (length b) most)
     ∙ sym (take-append-le most b (x ∷ []) (omega arith)))
 
 -- a byte that ends no sheet
-kept : (s : Split) (x : ℕ) → (s .fresh && eqb x 10) ≡ false
+pub kept : (s : Split) (x : ℕ) → (s .fresh && eqb x 10) ≡ false
     → next s x ≡ record { ended = s .ended; begun = s .begun ++ (x ∷ []); fresh = eqb x 10 }
 kept s x e = rw (next, e)
 
 -- an empty line
-ended : (s : Split) (x : ℕ) → (s .fresh && eqb x 10) ≡ true
+pub ended : (s : Split) (x : ℕ) → (s .fresh && eqb x 10) ≡ true
     → next s x ≡ record { ended = s .ended ++ (s .begun ∷ []); begun = []; fresh = true }
 ended s x e = rw (next, e)
 

@@ -1,15 +1,14 @@
 -- Text written piece after piece, digits, and the lines of answers.
-use mathlib.Core.Path.{_≡_, refl, sym, ap, _∙_}
+use mathlib.Core.Path.{_≡_, refl, ap, _∙_}
 use mathlib.Core.List.{List, [], _∷_, _++_, append-assoc}
-use Prim.Native.Nat.{ℕ, suc, _+_, _*_, _/_, _%_, _^_, _≤_, _<_}
+use Prim.Native.Nat.{ℕ, _+_, _*_, _/_, _%_, _^_, _≤_, _<_}
 use native.Mathlib.Numerals.{add-one}
 use native.Mathlib.Omega.{arith}
 use lib.ListN.{length, take, set, length-append, length-set}
 use lib.Seq.{take-suc-set}
 use Rattle.request.specs.Text.{bytes}
 use Rattle.request.specs.Write.{digits, joined}
-use Rattle.request.proofs.Digits.{digits-one, digits-more, digits-length}
-use Rattle.ledger.specs.declared.Answer.{Answer}
+use Rattle.request.proofs.Digits.{digits-more, digits-length}
 use Rattle.ledger.specs.declared.Answer.the-variants.{Accepted, Counted, Refused}
 use Rattle.ledger.specs.Calls.{told}
 use Rattle.tillrun.specs.Printed.{line, Room, Wrote}

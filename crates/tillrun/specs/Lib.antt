@@ -1,3 +1,4 @@
 pub mod Sheets
 pub mod Printed
 pub mod Kiosk
+pub mod Statements

@@ -14,8 +14,8 @@ returns c =
 
 slice-aggregate-write-all : tie.Need-slice-aggregate-write-all
 slice-aggregate-write-all c =
-    let fed = c .before .before .before .before .before in
-    sym (length-take-le (fed .feed .result .text) (fed .feed .last .1 .1 .0) (omega (arith, fed .feed .ensures .ready .text)))
+    let fed = c .before .before .before .before .before .feed in
+    sym (length-take-le (fed .result .text) (fed .last .1 .1 .0) (omega (arith, fed .ensures .ready .text)))
 
 returns-2 : tie.Need-returns-2
 returns-2 c =

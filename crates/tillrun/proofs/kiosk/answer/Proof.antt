@@ -13,7 +13,8 @@ use Rattle.tillrun.proofs.kiosk.answer.Tie as tie
 slice-aggregate-call : tie.Need-slice-aggregate-call
 slice-aggregate-call c =
     let start = c .before .before .before .before in
-    sym (length-take-le (start .args .held) (now (start .args .begun)) (omega (arith, start .pre .begun, start .pre .held)))
+    sym (length-take-le (start .args .held) (now (start .args .begun))
+    (omega (arith, start .pre .begun, start .pre .held)))
 
 returns : tie.Need-returns
 returns c =

@@ -1,12 +1,11 @@
 -- The measure is the number: each call below has its tenth.
-use mathlib.Core.Path.{sym, ap, _∙_}
+use mathlib.Core.Path.{sym, ap}
 use Prim.Native.Nat.{ℕ, _<_}
 use native.Mathlib.Omega.{arith}
-use lib.ListN.{length, length-append}
+use lib.ListN.{length}
 use borrow.Author.Needs.{needs}
 use borrow.Fn.Kinds.{In}
 use borrow.Fn.PlainCycle.{Measures, is, falls, and}
-use Rattle.request.specs.Write.{digits}
 use Rattle.request.proofs.Digits.{digits-one}
 use Rattle.tillrun.proofs.Writing.{wrote-then, wrote-as, digits-high, digits-room}
 use Rattle.tillrun.proofs.print.put_digits.Reads as put-digits

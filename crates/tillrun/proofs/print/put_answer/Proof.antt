@@ -28,12 +28,11 @@ returns-2 c =
     let third = last .before .before .before .before in
     let second = third .before .before .before .before in
     let first = second .before .before .before .before in
-    let word = first .before .before .before .before in (
+    let word = first .before .before .before .before in
+    let begun = wrote-then (word .put-word2 .ensures) (first .put-field2 .ensures .0) in (
       wrote-as (line-counted _ _ _ ∙ by-case (word .before .before .before .a2 .given .1))
           (wrote-then
-          (wrote-then
-          (wrote-then (wrote-then (word .put-word2 .ensures) (first .put-field2 .ensures .0)) (second .put-field3 .ensures .0))
-          (third .put-field4 .ensures .0))
+          (wrote-then (wrote-then begun (second .put-field3 .ensures .0)) (third .put-field4 .ensures .0))
           (last .put-byte2 .ensures)),
       omega (
         arith,
@@ -50,11 +49,10 @@ returns-3 c =
     let last = c .before .before in
     let second = last .before .before .before .before in
     let first = second .before .before .before .before in
-    let word = first .before .before .before .before in (
+    let word = first .before .before .before .before in
+    let begun = wrote-then (word .put-word3 .ensures) (first .put-field5 .ensures .0) in (
       wrote-as (line-refused _ _ ∙ by-case (word .before .before .before .a3 .given .1))
-          (wrote-then
-          (wrote-then (wrote-then (word .put-word3 .ensures) (first .put-field5 .ensures .0)) (second .put-field6 .ensures .0))
-          (last .put-byte3 .ensures)),
+          (wrote-then (wrote-then begun (second .put-field6 .ensures .0)) (last .put-byte3 .ensures)),
       omega (
         arith,
         last .put-byte3 .ensures .end,

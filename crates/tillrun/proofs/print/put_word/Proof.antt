@@ -11,4 +11,5 @@ put-word-spec =
     (λ c κs. search needs)
     (λ c. search needs)
     (λ c.
-    wrote-then (c .before .before .before .before .before .before .put-byte .ensures) (c .before .before .put-byte2 .ensures)))
+    let last = c .before .before in
+    wrote-then (last .before .before .before .before .put-byte .ensures) (last .put-byte2 .ensures)))
