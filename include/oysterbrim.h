@@ -19,14 +19,18 @@ extern "C" {
 /* No sheet has more bytes; a longer one is refused with 1. */
 #define TILL_SHEET_BYTES 16384
 
+/* Room to work on: 1,536 numbers of 32 bits (6,144 bytes), lent for a call. What they hold before a call has no bearing
+ * on it, and what they hold after it says nothing. */
+#define TILL_SCRATCH 1536
+
 /* Makes the block an empty till, whatever it held before. */
 void till_start(uint32_t till[TILL_NUMBERS]);
 
 /* Answers a sheet, given as `length` bytes from `sheet` on. Any bytes of any length may be given; the sheet is only
  * read. With length 0 the pointer is not followed.
  *
- * What must hold: `till` was made by till_start and changed by nothing but till_call since; till, sheet and answer do
- * not overlap; nothing else uses them during the call. There is no other requirement.
+ * What must hold: `till` was made by till_start and changed by nothing but till_call since; till, sheet,
+ * scratch and answer do not overlap; nothing else uses them during the call. There is no other requirement.
  *
  * The answer:
  *   accepted with a value   { 1, n, 0, 0 }              word: the wording's number; issue, withdraw, book: the serial
@@ -34,7 +38,8 @@ void till_start(uint32_t till[TILL_NUMBERS]);
  *   refused                 { 0, refusal, step, 0 }     step counts from 1 for refusals 40 to 42 and is 0 for others
  *
  * A refusal leaves the block as it was, every number of it. No call changes the sheet. */
-void till_call(uint32_t till[TILL_NUMBERS], const uint8_t *sheet, size_t length, uint32_t answer[4]);
+void till_call(uint32_t till[TILL_NUMBERS], const uint8_t *sheet, size_t length, uint32_t scratch[TILL_SCRATCH],
+               uint32_t answer[4]);
 
 #ifdef __cplusplus
 }
