@@ -12,7 +12,7 @@ use Rattle.ledger.specs.Calls.{ok, told, call, after, answers}
 use Rattle.store.specs.Store.{ledgerOf}
 use Rattle.demands.proofs.Demand3.{demand-3}
 use Rattle.entry.specs.Entered.{numbersOf}
-use Rattle.entry.specs.Played.{Played, none, more, PlayedIs, Demand3}
+use Rattle.entry.specs.Played.{Played, none, more, PlayedIs, CallsAddUp}
 
 -- from any ledger
 played : {l l′ : List ℕ} {bs ns : List (List ℕ)} (t : Ledger) → ledgerOf l ≡ t → Played l bs ns l′
@@ -32,8 +32,8 @@ three-values (Accepted n) e = let z : _≡_ {A = ℕ} 0 1 = cc in absurd (omega 
 three-values (Counted x y z) e = cc
 three-values (Refused n k) e = let z : _≡_ {A = ℕ} 0 1 = cc in absurd (omega arith)
 
-pub demand-3-entered : Demand3
-demand-3-entered l l₁ n l₂ bs ns s m hs hm g p t =
+pub calls-add-up : CallsAddUp
+calls-add-up l l₁ n l₂ bs ns s m hs hm g p t =
     let sums = demand-3 bs s m hs hm in
     let at = played-is l l₁ bs ns g p .0 in
     record {

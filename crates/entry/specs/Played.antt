@@ -34,7 +34,7 @@ pub record TallyAddsUp (bs : List (List ℕ)) (s : ℕ) (n : List ℕ) : Type 0 
   pub answer : n ≡ 3 ∷ openSeats ∷ shutSeats ∷ placed ∷ []
   pub sum : openSeats + shutSeats + placed + withdrawn s (historyOf bs) ≡ issued s (historyOf bs)
 
-abbrev pub Demand3 : Type 0
-Demand3 =
+abbrev pub CallsAddUp : Type 0
+CallsAddUp =
     (l l₁ n l₂ : List ℕ) (bs ns : List (List ℕ)) (s m : ℕ) → s ∈ session → m ∈ minute → StandsFor l empty
     → Played l bs ns l₁ → Entered l₁ (write (tally s m)) n l₂ → TallyAddsUp bs s n

@@ -75,11 +75,11 @@ pub fn hr(d: u64, x: Row) -> Plan
 
 // "⟨K⟩A becomes K affirms A."
 pub fn sr(d: u64, x: Row, i: Interval) -> Plan
-    ensures { λ r. ⌜ r ≡ when (is x "s") (Plan.One (premise d (Goal.Affirms (x .a) (x .b) i) Fresh.Nothing)) ⌝ }
+    ensures { λ r. ⌜ r ≡ when (is x "s") (Plan.One (premise d (Goal.Affirms (x .b) i (x .a)) Fresh.Nothing)) ⌝ }
 {
     plans::when(
         x.letter == 115,
-        Plan::One(plans::premise(d, Goal::Affirms(x.a, x.b, i), Fresh::Nothing)),
+        Plan::One(plans::premise(d, Goal::Affirms(x.b, i, x.a), Fresh::Nothing)),
     )
 }
 

@@ -67,12 +67,12 @@ each P (suc k) (suc n) h e = each (λ m. P (suc m)) k n (omega arith) (e .1)
 module _ (row : ℕ → Row) (label : ℕ → Hypothesis) (R D : ℕ) where
   -- "The right steps .. and `ax` need a goal without affirms"
   pub right-refused : (k m : ℕ) (i : Interval) (s : StepRow) → 1 ≤ s .op → s .op ≤ 10
-      → planOf row label R D (Affirms k m i) (stepOf s) ≡ Refused
+      → planOf row label R D (Affirms m i k) (stepOf s) ≡ Refused
   unfolding planOf right
   right-refused k m i s l u =
       let e : s .op ≡ 1 + (s .op - 1) = omega arith in
       let refuses : ℕ → Type 0 =
-      λ n. planOf row label R D (Affirms k m i) (getD makers (1 + n) implies s) ≡ Refused in
+      λ n. planOf row label R D (Affirms m i k) (getD makers (1 + n) implies s) ≡ Refused in
       rw (numbered s e)
       (each refuses 10 (s .op - 1) (omega arith)
       (refl, (refl, (refl, (refl, (refl, (refl, (refl, (refl, (refl, (refl, tt)))))))))))
@@ -92,7 +92,7 @@ module _ (row : ℕ → Row) (label : ℕ → Hypothesis) (R D : ℕ) where
         → affirmed row label R D g h (λ p n j. left row label R D g (s .label) "s" (k p j)) ≡ Refused
     unfolding affirmed
     not-affirmed (Holds n i) k = refl
-    not-affirmed (Affirms p n j) k = not-in "s" (k p j)
+    not-affirmed (Affirms n j p) k = not-in "s" (k p j)
 
     pub left-refused : 12 ≤ s .op → planOf row label R D g (stepOf s) ≡ Refused
     unfolding planOf

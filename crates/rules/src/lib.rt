@@ -71,7 +71,7 @@ fn at_left(store: &Store, table: &[u32; 192], q: Sequent, s: StepRow) -> Plan
         16 => left_steps::hl(d, g, x),
         17 => match g {
             Goal::Holds(_, _) => Plan::Refused,
-            Goal::Affirms(k, _, v) => left_steps::sl(d, g, x, i, k, v),
+            Goal::Affirms(_, v, k) => left_steps::sl(d, g, x, i, k, v),
         },
         18 => left_steps::tl(d, g, x, i),
         19 => left_steps::pl(d, g, x, i),
@@ -90,7 +90,7 @@ pub fn rule(store: &Store, table: &[u32; 192], q: Sequent, s: StepRow) -> Plan
     match op {
         0 => match g {
             Goal::Holds(_, _) => Plan::Refused,
-            Goal::Affirms(_, n, i) => Plan::One(plans::premise(
+            Goal::Affirms(n, i, _) => Plan::One(plans::premise(
                 q.linear,
                 Goal::Holds(n, i),
                 Fresh::Nothing,

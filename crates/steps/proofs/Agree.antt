@@ -81,14 +81,14 @@ module _ {row : ℕ → Row} {f : ℕ → Formula} (u : Unrolls row f) (names : 
     ruled-right (Holds n i) s c k h =
         ruled-when (holds (f n) i) s _ _ (eq-decides (row n .letter) (code c)) (λ e.
         subst (λ (a : Formula). Ruled (holds a i) s (k (row n) i)) (sym (of-letter u n (code c) e)) (h n i))
-    ruled-right (Affirms p n i) s c k h = tt
+    ruled-right (Affirms n i p) s c k h = tt
 
     ruled-affirmed : (g : Goal) (s : Step) (k : ℕ → ℕ → Interval → Plan)
-        → ((p n : ℕ) (i : Interval) → g ≡ Affirms p n i → Ruled (affirms p (f n) i) s (k p n i))
+        → ((p n : ℕ) (i : Interval) → g ≡ Affirms n i p → Ruled (affirms p (f n) i) s (k p n i))
         → Ruled (goalOf u g) s (affirmed row label R D g g k)
     unfolding affirmed
     ruled-affirmed (Holds n i) s k h = tt
-    ruled-affirmed (Affirms p n i) s k h = h p n i refl
+    ruled-affirmed (Affirms n i p) s k h = h p n i refl
 
     pub plan-rule : (g : Goal) (s : Step) → Ruled (goalOf u g) s (planOf row label R D g s)
     unfolding planOf
@@ -170,7 +170,7 @@ module _ {row : ℕ → Row} {f : ℕ → Formula} (u : Unrolls row f) (names : 
         let v : i ≡ j = cc in
         passes _ _ (eq-decides (row n .letter) (code c)) (o .0 ∙ q)
         (subst (λ (x : Interval). leaves u (k (row n) x) ≡ some w) v (h n (o .1)))
-    right-plan (Affirms p n j) c k e q h = let z : _≡_ {A = ℕ} 0 1 = cc in absurd (omega arith)
+    right-plan (Affirms n j p) c k e q h = let z : _≡_ {A = ℕ} 0 1 = cc in absurd (omega arith)
 
     superset-inv : {i j k l : Interval} → superset i j ≡ superset k l → (i ≡ k) × (j ≡ l)
     superset-inv e = (cc, cc)
@@ -213,10 +213,10 @@ module _ {row : ℕ → Row} {f : ℕ → Formula} (u : Unrolls row f) (names : 
     rule-plan (Rule.hl {l = l} m e) g y = left-plan g l "h" _ m e refl (λ o v. cc)
     rule-plan Rule.sr g y = right-plan g "s" _ y refl (λ n q. cc)
     rule-plan Rule.af (Holds n j) y = let z : _≡_ {A = ℕ} 0 1 = cc in absurd (omega arith)
-    rule-plan Rule.af (Affirms p n j) y = cc
+    rule-plan Rule.af (Affirms n j p) y = cc
     rule-plan (Rule.sl m e c) (Holds n j) y = let z : _≡_ {A = ℕ} 0 1 = cc in absurd (omega arith)
-    rule-plan (Rule.sl {l = l} {j = i} m e c) (Affirms p n j) y =
-        left-plan (Affirms p n j) l "s" _ m e refl (λ o v.
+    rule-plan (Rule.sl {l = l} {j = i} m e c) (Affirms n j p) y =
+        left-plan (Affirms n j p) l "s" _ m e refl (λ o v.
         let x : i ≡ j = cc in
         passes _ _ (and-decides (eq-decides (rowAt l .a) p) (contains-decides (label l .interval) j))
         (cc, subst₂ (λ (a b : Interval). a ⊇ b) (sym v) x c) (cc))

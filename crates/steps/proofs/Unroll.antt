@@ -75,7 +75,7 @@ module _ {row : ℕ → Row} {f : ℕ → Formula} (u : Unrolls row f) where
 
   abbrev pub goalOf : Goal → Judgment
   goalOf (Holds n i) = holds (f n) i
-  goalOf (Affirms k n i) = affirms k (f n) i
+  goalOf (Affirms n i k) = affirms k (f n) i
 
   abbrev pub sequentOf : Sequent → Labelled
   sequentOf q = record { unrestricted = q .unrestricted; linear = q .linear; goal = goalOf (q .goal) }

@@ -42,12 +42,12 @@ module _ (row : ℕ → Row) (label : ℕ → Hypothesis) (R D : ℕ) (g : Goal)
   -- "The right steps .. and `ax` need a goal without affirms": A at I, where A has the letter
   unfoldable pub right : Goal → Char → (Row → Interval → Plan) → Plan
   right (Holds n i) c k = when (is (row n) c) (k (row n) i)
-  right (Affirms p n i) c k = Refused
+  right (Affirms n i p) c k = Refused
 
   -- K affirms A at I
   unfoldable pub affirmed : Goal → (ℕ → ℕ → Interval → Plan) → Plan
   affirmed (Holds n i) k = Refused
-  affirmed (Affirms p n i) k = k p n i
+  affirmed (Affirms n i p) k = k p n i
 
   -- "L is in D save at `cp`": and its formula has the letter
   unfoldable pub left : ℕ → Char → (Interval → Row → Plan) → Plan
@@ -108,7 +108,7 @@ module _ (row : ℕ → Row) (label : ℕ → Hypothesis) (R D : ℕ) (g : Goal)
   planOf (Step.hl l) =
       left l "h" (λ i x. One (premise (remove D l) g (Linear ((x .a) at (span (x .b) (x .c))))))
   -- "⟨K⟩A becomes K affirms A."
-  planOf Step.sr = right g "s" (λ x i. One (premise D (Affirms (x .a) (x .b) i) Nothing))
+  planOf Step.sr = right g "s" (λ x i. One (premise D (Affirms (x .b) i (x .a)) Nothing))
   -- "K affirms A becomes A."
   planOf Step.af = affirmed g (λ k n i. One (premise D (Holds n i) Nothing))
   -- "L is ⟨K⟩A and the goal K affirms B, same K; L's window ⊇ goal's."

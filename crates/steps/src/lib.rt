@@ -16,10 +16,10 @@ pub struct Hypothesis {
     pub interval: logic::Interval,
 }
 
-// "A at I", or "K affirms A at I"; K comes first.
+// "A at I", or "K affirms A at I"; K comes last, so that A and I stand in one place.
 pub enum Goal {
     Holds(u32, logic::Interval),
-    Affirms(u32, u32, logic::Interval),
+    Affirms(u32, logic::Interval, u32),
 }
 
 // A sequent (document 01: a judged line): the unrestricted labels (standing, R), the linear ones (single-use, D) and
