@@ -3,9 +3,8 @@ use crate::print;
 use store::Store;
 ghost use mathlib.Core.Path.{_≡_};
 ghost use mathlib.Core.List.{[], _∷_};
-ghost use Prim.Native.Nat.{_+_, _≤_};
+ghost use Prim.Native.Nat.{_≤_};
 ghost use lib.ListN.{length, take};
-ghost use Rattle.store.specs.Store.{Good};
 ghost use Rattle.tillrun.specs.Kiosk.{most, Asked, Kept, Said, Ready, Took, Ended};
 
 // How many bytes of the sheet are held, whether a line begins, and how many bytes of text wait to be written.
