@@ -24,7 +24,7 @@ ghost use Rattle.logic.specs.Interval.{has, reversed};
 ghost use Rattle.store.specs.Store.{Good};
 ghost use Rattle.checker.specs.Begin.{sequent};
 ghost use Rattle.till.specs.Handled.{Handled, Called, fails};
-ghost use Rattle.booking.specs.Booking.{bookingAt, ReadLines, Bookable, Steppable, Opened};
+ghost use Rattle.booking.specs.Booking.{bookingAt, Lent, ReadLines, Bookable, Steppable, Opened};
 
 // 3: the goal's interval is reversed, or a step's is.
 fn lines_ordered(interval: Interval, turned: bool) -> Verdict
@@ -131,10 +131,11 @@ fn book_read(till: &mut Store, head: Head, serials: &[u32; 32], rows: &[u32; 153
     book_holds(till, head, serials, rows)
 }
 
-// A booking whose head has been read: the rest of 2, 3, then as above.
-pub fn book(till: &mut Store, sheet: &[u8], head: Head) -> Answer
-    requires { ⌜ Opened (now till) (now sheet) head ⌝ }
+// A booking whose head has been read: the rest of 2, 3, then as above. The rows are lent for its step lines.
+pub fn book(till: &mut Store, sheet: &[u8], rows: &mut [u32; 1536], head: Head) -> Answer
+    requires { ⌜ Opened (now till) (now sheet) head × Lent (now rows) ⌝ }
     ensures { λ r. ⌜ Called (now (till .entry)) (now (sheet .entry)) r (now (till .exit)) ⌝ }
+    ensures { λ _. ⌜ Lent (now (rows .exit)) ⌝ }
 {
     let mut serials = [0u32; 32];
     let held = read_holds(sheet, head.next, head.holds, &mut serials);
@@ -145,8 +146,7 @@ pub fn book(till: &mut Store, sheet: &[u8], head: Head) -> Answer
     if sheet.len() <= at {
         return Answer::Refused(2, 0);
     }
-    let mut rows = [0u32; 1536];
-    let read = read_steps(&sheet[at..], head.steps, &mut rows);
+    let read = read_steps(&sheet[at..], head.steps, rows);
     let StepsRead::Read(turned) = read else {
         return Answer::Refused(2, 0);
     };
@@ -154,17 +154,18 @@ pub fn book(till: &mut Store, sheet: &[u8], head: Head) -> Answer
     let Verdict::Passed = ordered else {
         return Answer::Refused(3, 0);
     };
-    book_read(till, head, &serials, &rows)
+    book_read(till, head, &serials, rows)
 }
 
-// The one call: any bytes, of any length.
-pub fn call(till: &mut Store, sheet: &[u8]) -> Answer
-    requires { ⌜ Good (now till) ⌝ }
+// The one call: any bytes, of any length. The rows are lent for a booking's step lines; what they hold says nothing.
+pub fn call(till: &mut Store, sheet: &[u8], rows: &mut [u32; 1536]) -> Answer
+    requires { ⌜ Good (now till) × Lent (now rows) ⌝ }
     ensures { λ r. ⌜ Called (now (till .entry)) (now (sheet .entry)) r (now (till .exit)) ⌝ }
+    ensures { λ _. ⌜ Lent (now (rows .exit)) ⌝ }
 {
     let reply = answer(till, sheet);
     match reply {
         Reply::Answered(a) => a,
-        Reply::Booking(head) => book(till, sheet, head),
+        Reply::Booking(head) => book(till, sheet, rows, head),
     }
 }

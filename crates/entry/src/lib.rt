@@ -1,9 +1,10 @@
 // The entry for C (include/oysterbrim.h): the till is a block of 3,964 numbers that the caller keeps, a sheet is bytes
-// with a length, and the answer goes to four numbers that the caller lends.
+// with a length, and the caller lends 1,536 numbers to work on and four for the answer.
 use ledger::Answer;
 use store::Store;
 ghost use Rattle.ledger.specs.Ledger.{empty};
 ghost use Rattle.store.specs.Store.{Good, StandsFor};
+ghost use Rattle.booking.specs.Booking.{Lent};
 ghost use Rattle.entry.specs.Entered.{Entered};
 
 // Makes the block an empty till.
@@ -16,11 +17,17 @@ pub extern "C" fn till_start(till: &mut Store)
 
 // Answers a sheet: {1, n, 0, 0} accepted with a value, {3, open, shut, placed} a tally, {0, refusal, step, 0} refused.
 #[no_mangle]
-pub extern "C" fn till_call(till: &mut Store, sheet: &[u8], answer: &mut [u32; 4])
-    requires { ⌜ Good (now till) ⌝ }
+pub extern "C" fn till_call(
+    till: &mut Store,
+    sheet: &[u8],
+    scratch: &mut [u32; 1536],
+    answer: &mut [u32; 4],
+)
+    requires { ⌜ Good (now till) × Lent (now scratch) ⌝ }
     ensures { λ _. ⌜ Entered (now (till .entry)) (now (sheet .entry)) (now (answer .exit)) (now (till .exit)) ⌝ }
+    ensures { λ _. ⌜ Lent (now (scratch .exit)) ⌝ }
 {
-    let a = booking::call(till, sheet);
+    let a = booking::call(till, sheet, scratch);
     match a {
         Answer::Accepted(n) => {
             *answer = [1, n, 0, 0];

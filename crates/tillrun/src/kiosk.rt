@@ -32,7 +32,8 @@ fn answer(till: &mut Store, begun: &[u8], text: &mut [u8], held: usize, at: usiz
     ensures { λ r. ⌜ Said (now (till .entry)) (take held (now (begun .entry))) (now (text .entry)) at
         (now (till .exit)) (now (text .exit)) r ⌝ }
 {
-    let a = booking::call(till, &begun[..held]);
+    let mut rows = [0u32; 1536];
+    let a = booking::call(till, &begun[..held], &mut rows);
     print::put_answer(text, at, a)
 }
 

@@ -25,6 +25,15 @@ till-call-spec =
     (λ c. search needs)
     (λ c. search needs)
     (λ c. search needs)
-    (λ c. entered (c .before .before .before .before .call .ensures) (c .before .before .a .given .1))
-    (λ c. entered (c .before .before .before .before .call .ensures) (c .before .before .a2 .given .1))
-    (λ c. entered (c .before .before .before .before .call .ensures) (c .before .before .a3 .given .1)))
+    (λ c. let call = c .before .before .before .before .call .ensures in (
+      entered (call .0) (c .before .before .a .given .1),
+      call .1,
+    ))
+    (λ c. let call = c .before .before .before .before .call .ensures in (
+      entered (call .0) (c .before .before .a2 .given .1),
+      call .1,
+    ))
+    (λ c. let call = c .before .before .before .before .call .ensures in (
+      entered (call .0) (c .before .before .a3 .given .1),
+      call .1,
+    )))

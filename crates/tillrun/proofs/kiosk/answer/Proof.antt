@@ -19,7 +19,7 @@ slice-aggregate-call c =
 returns : tie.Need-returns
 returns c =
     let put = c .before .before in
-    let called = put .before .before .call .ensures in
+    let called = put .before .before .call .ensures .0 in
     record {
       good = called .good;
       ledger = called .ledger;
