@@ -17,6 +17,9 @@ extern "C" {
 /* A till: a block of 3,964 numbers of 32 bits (15,856 bytes), aligned as uint32_t. It holds no pointer. */
 #define TILL_NUMBERS 3964
 
+/* Numbers that a call works on. What they hold before a call says nothing, and what they hold after it neither. */
+#define TILL_SCRATCH 1536
+
 /* No sheet has more bytes; a longer one is refused with 1. */
 #define TILL_SHEET_BYTES 16384
 
@@ -26,8 +29,8 @@ void till_start(uint32_t till[TILL_NUMBERS]);
 /* Answers a sheet, given as `length` bytes from `sheet` on. Any bytes of any length may be given; the sheet is only
  * read. With length 0 the pointer is not followed; it may be null.
  *
- * What must hold: `till` was made by till_start and changed by nothing but till_call since; till, sheet and answer do
- * not overlap; nothing else uses them during the call. There is no other requirement.
+ * What must hold: `till` was made by till_start and changed by nothing but till_call since; till, sheet, scratch and
+ * answer do not overlap; nothing else uses them during the call. There is no other requirement.
  *
  * The answer:
  *   accepted with a value   { 1, n, 0, 0 }              word: the wording's number; issue, withdraw, book: the serial
@@ -35,7 +38,8 @@ void till_start(uint32_t till[TILL_NUMBERS]);
  *   refused                 { 0, refusal, step, 0 }     step counts from 1 for refusals 40 to 42 and is 0 for others
  *
  * A refusal leaves the block as it was, every number of it. No call changes the sheet. */
-void till_call(uint32_t till[TILL_NUMBERS], const uint8_t *sheet, size_t length, uint32_t answer[4]);
+void till_call(uint32_t till[TILL_NUMBERS], const uint8_t *sheet, size_t length, uint32_t scratch[TILL_SCRATCH],
+               uint32_t answer[4]);
 
 #ifdef __cplusplus
 }

@@ -1,5 +1,5 @@
 /* A C program keeps a till over many calls (include/oysterbrim.h): every answer, what a refusal leaves, and that nothing
- * is read or written beside block, sheet and answer. `till [GROUP..]` plays the groups named, or all. */
+ * is read or written beside block, sheet, scratch and answer. `till [GROUP..]` plays the groups named, or all. */
 #define _DEFAULT_SOURCE
 #include "oysterbrim.h"
 #include <stdio.h>
@@ -26,9 +26,9 @@ struct Block {
     uint32_t before[GUARD], till[TILL_NUMBERS], after[GUARD];
 };
 
-/* An answer between guard words. */
+/* An answer, and the numbers to work on, between guard words. */
 struct Answered {
-    uint32_t before[GUARD], answer[4], after[GUARD];
+    uint32_t before[GUARD], answer[4], between[GUARD], scratch[TILL_SCRATCH], after[GUARD];
 };
 
 static void mark(uint32_t guard[GUARD]) {
@@ -63,17 +63,19 @@ static void begin(struct Block *block) {
 static void call_at(struct Block *block, uint8_t *at, size_t length, const uint32_t expected[4], const char *name) {
     static uint32_t before[TILL_NUMBERS];
     struct Answered a;
-    memset(&a, 0x77, sizeof a);
+    static uint8_t left;
+    memset(&a, left += 0x77, sizeof a); /* other numbers in the scratch at each call */
     mark(a.before);
+    mark(a.between);
     mark(a.after);
     memcpy(before, block->till, sizeof before);
     if (mprotect(pages, ROOM, PROT_READ)) exit(2);
-    till_call(block->till, at, length, a.answer);
+    till_call(block->till, at, length, a.scratch, a.answer);
     if (mprotect(pages, ROOM, PROT_READ | PROT_WRITE)) exit(2);
     int same = memcmp(a.answer, expected, sizeof a.answer) == 0;
     check(same, "the answer", name);
     if (!same) printf("  got %u,%u,%u,%u\n", a.answer[0], a.answer[1], a.answer[2], a.answer[3]);
-    check(marked(a.before) && marked(a.after), "a number beside the answer", name);
+    check(marked(a.before) && marked(a.between) && marked(a.after), "a number beside answer or scratch", name);
     check(marked(block->before) && marked(block->after), "a number beside the block", name);
     if (expected[0] != 1) check(memcmp(before, block->till, sizeof before) == 0, "the block, which had to stay", name);
 }
