@@ -17,11 +17,12 @@ extern "C" {
 /* A till: a block of 3,964 numbers of 32 bits (15,856 bytes), aligned as uint32_t. It holds no pointer. */
 #define TILL_NUMBERS 3964
 
-/* Numbers that a call works on. What they hold before a call says nothing, and what they hold after it neither. */
-#define TILL_SCRATCH 1536
-
 /* No sheet has more bytes; a longer one is refused with 1. */
 #define TILL_SHEET_BYTES 16384
+
+/* Room to work on: 1,536 numbers of 32 bits (6,144 bytes), lent for a call. What they hold before a call has no bearing
+ * on it, and what they hold after it says nothing. */
+#define TILL_SCRATCH 1536
 
 /* Makes the block an empty till, whatever it held before. */
 void till_start(uint32_t till[TILL_NUMBERS]);
@@ -29,8 +30,8 @@ void till_start(uint32_t till[TILL_NUMBERS]);
 /* Answers a sheet, given as `length` bytes from `sheet` on. Any bytes of any length may be given; the sheet is only
  * read. With length 0 the pointer is not followed; it may be null.
  *
- * What must hold: `till` was made by till_start and changed by nothing but till_call since; till, sheet, scratch and
- * answer do not overlap; nothing else uses them during the call. There is no other requirement.
+ * What must hold: `till` was made by till_start and changed by nothing but till_call since; till, sheet,
+ * scratch and answer do not overlap; nothing else uses them during the call. There is no other requirement.
  *
  * The answer:
  *   accepted with a value   { 1, n, 0, 0 }              word: the wording's number; issue, withdraw, book: the serial

@@ -9,7 +9,7 @@ use till::{Answer, Till};
 
 extern "C" {
     fn till_start(till: *mut u32);
-    fn till_call(till: *mut u32, sheet: *const u8, length: usize, answer: *mut u32);
+    fn till_call(till: *mut u32, sheet: *const u8, length: usize, scratch: *mut u32, answer: *mut u32);
 }
 
 /// The number of turns, of which each side's fastest counts.
@@ -42,14 +42,15 @@ fn sheets(input: &[u8]) -> Vec<Vec<u8>> {
 
 /// One play of a list by the proved code; its time, and what it answered.
 fn proved(list: &List, out: &mut Vec<[u32; 4]>) -> Duration {
-    let mut block = [0u32; 3964];
+    let (mut block, mut scratch) = ([0u32; 3964], [0u32; 1536]);
     let mut time = Duration::ZERO;
     out.clear();
     unsafe { till_start(block.as_mut_ptr()) };
     for (sheet, timed) in list.sheets.iter().zip(&list.timed) {
         let mut answer = [0u32; 4];
         let begin = Instant::now();
-        unsafe { till_call(block.as_mut_ptr(), sheet.as_ptr(), sheet.len(), answer.as_mut_ptr()) };
+        let (at, length) = (sheet.as_ptr(), sheet.len());
+        unsafe { till_call(block.as_mut_ptr(), at, length, scratch.as_mut_ptr(), answer.as_mut_ptr()) };
         let took = begin.elapsed();
         time += if *timed { took } else { Duration::ZERO };
         out.push(answer);

@@ -26,9 +26,14 @@ struct Block {
     uint32_t before[GUARD], till[TILL_NUMBERS], after[GUARD];
 };
 
-/* An answer, and the numbers to work on, between guard words. */
+/* Room to work on between guard words. */
+struct Scratch {
+    uint32_t before[GUARD], numbers[TILL_SCRATCH], after[GUARD];
+};
+
+/* An answer between guard words. */
 struct Answered {
-    uint32_t before[GUARD], answer[4], between[GUARD], scratch[TILL_SCRATCH], after[GUARD];
+    uint32_t before[GUARD], answer[4], after[GUARD];
 };
 
 static void mark(uint32_t guard[GUARD]) {
@@ -62,21 +67,25 @@ static void begin(struct Block *block) {
 /* One call with the sheet at `at` (read-only while it runs), and everything that must hold of it. */
 static void call_at(struct Block *block, uint8_t *at, size_t length, const uint32_t expected[4], const char *name) {
     static uint32_t before[TILL_NUMBERS];
+    static struct Scratch scratch;
+    static int fill;
     struct Answered a;
-    static uint8_t left;
-    memset(&a, left += 0x77, sizeof a); /* other numbers in the scratch at each call */
+    memset(&a, 0x77, sizeof a);
     mark(a.before);
-    mark(a.between);
     mark(a.after);
+    memset(&scratch, fill++, sizeof scratch);
+    mark(scratch.before);
+    mark(scratch.after);
     memcpy(before, block->till, sizeof before);
     if (mprotect(pages, ROOM, PROT_READ)) exit(2);
-    till_call(block->till, at, length, a.scratch, a.answer);
+    till_call(block->till, at, length, scratch.numbers, a.answer);
     if (mprotect(pages, ROOM, PROT_READ | PROT_WRITE)) exit(2);
     int same = memcmp(a.answer, expected, sizeof a.answer) == 0;
     check(same, "the answer", name);
     if (!same) printf("  got %u,%u,%u,%u\n", a.answer[0], a.answer[1], a.answer[2], a.answer[3]);
-    check(marked(a.before) && marked(a.between) && marked(a.after), "a number beside answer or scratch", name);
+    check(marked(a.before) && marked(a.after), "a number beside the answer", name);
     check(marked(block->before) && marked(block->after), "a number beside the block", name);
+    check(marked(scratch.before) && marked(scratch.after), "a number beside the scratch", name);
     if (expected[0] != 1) check(memcmp(before, block->till, sizeof before) == 0, "the block, which had to stay", name);
 }
 
