@@ -1,7 +1,8 @@
 /* The booking till: a C program keeps a till and hands it sheets.
  *
  * The functions are those of target/staticlib/libentry.a, which `rt staticlib entry` proves and writes (x86-64 Linux).
- * They keep nothing between calls, allocate nothing and do no input or output; several tills may be used side by side.
+ * They keep nothing between calls, allocate nothing and do no input or output; several tills may be used side by side. A
+ * call takes up to 128 KB of stack, at a booking of 256 steps.
  */
 #ifndef OYSTERBRIM_H
 #define OYSTERBRIM_H
@@ -27,7 +28,7 @@ extern "C" {
 void till_start(uint32_t till[TILL_NUMBERS]);
 
 /* Answers a sheet, given as `length` bytes from `sheet` on. Any bytes of any length may be given; the sheet is only
- * read. With length 0 the pointer is not followed.
+ * read. With length 0 the pointer is not followed; it may be null.
  *
  * What must hold: `till` was made by till_start and changed by nothing but till_call since; till, sheet,
  * scratch and answer do not overlap; nothing else uses them during the call. There is no other requirement.

@@ -166,6 +166,7 @@ static void lengths(void) {
     words(&block);
     ask_long(&block, 0, 2);
     call_at(&block, pages - PAGE, 0, NONE, "no bytes, at memory that cannot be read");
+    call_at(&block, NULL, 0, NONE, "no bytes, nowhere");
     ask_long(&block, 1, 2);
     ask_long(&block, 16384, 2);
     ask_long(&block, 16385, 1);

@@ -14,18 +14,20 @@ slice-aggregate-call : tie.Need-slice-aggregate-call
 slice-aggregate-call c =
     let start = c .before .before .before .before in
     sym (length-take-le (start .args .held) (now (start .args .begun))
-    (omega (arith, start .pre .begun, start .pre .held)))
+    (omega (arith, start .pre .0 .begun, start .pre .0 .held)))
 
 returns : tie.Need-returns
 returns c =
     let put = c .before .before in
-    let called = put .before .before .call .ensures .0 in
-    record {
-      good = called .good;
-      ledger = called .ledger;
-      wrote = wrote-as (ap (λ (a : Answer). line (told a)) (called .answer)) (put .put-answer .ensures .0);
-      short = put .put-answer .ensures .1;
-    }
+    let called = put .before .before .call .ensures in (
+      record {
+        good = called .0 .good;
+        ledger = called .0 .ledger;
+        wrote = wrote-as (ap (λ (a : Answer). line (told a)) (called .0 .answer)) (put .put-answer .ensures .0);
+        short = put .put-answer .ensures .1;
+      },
+      called .1,
+    )
 
 pub answer-spec : {M : Type 1} → statement M
 answer-spec =

@@ -6,8 +6,8 @@ use Rattle.tillrun.proofs.kiosk.finish.Tie as tie
 returns-2 : tie.Need-returns-2
 returns-2 c =
     let said = c .before .before in
-    let test = said .before .before .before in
-    ended-one (test .before .before .before .before .pre) (test .if1 .left) (said .answer .ensures)
+    let test = said .before .before .before .before in
+    ended-one (test .before .before .before .before .pre) (test .if1 .left) (said .answer .ensures .0)
 
 pub finish-spec : {M : Type 1} → statement M
 finish-spec =
