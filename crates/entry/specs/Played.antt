@@ -25,8 +25,8 @@ PlayedIs =
     (l l′ : List ℕ) (bs ns : List (List ℕ)) → StandsFor l empty → Played l bs ns l′
     → (ledgerOf l′ ≡ after empty bs) × (ns ≡ map numbersOf (answers empty bs))
 
--- DEMAND 3 of the running code: after any calls from a block that was started, a call with a tally answers three figures
--- that add up with what was withdrawn to what was issued.
+-- DEMAND 3 of the running code: after any calls from a block that was started, a call with a tally answers three
+-- figures that add up with what was withdrawn to what was issued.
 pub record TallyAddsUp (bs : List (List ℕ)) (s : ℕ) (n : List ℕ) : Type 0 where
   pub openSeats : ℕ
   pub shutSeats : ℕ

@@ -19,7 +19,8 @@ module _ {l : List ℕ} {count : ℕ} (s : Serials l count) where
       ∙ rw (getD-take count l k 0 h, add-one)
 
   pub no-serial : (k : ℕ) → count ≤ k → drop k (take count l) ≡ []
-  no-serial k h = drop-of-length-le (take count l) {i = k} (omega (arith, length-take-le count l (omega (arith, s .few, s .long))))
+  no-serial k h =
+      drop-of-length-le (take count l) {i = k} (omega (arith, length-take-le count l (omega (arith, s .few, s .long))))
 
   -- a search through them
   pub any-here : (f : ℕ → Bool) (k : ℕ) → k < count → f (getD l k 0) ≡ true → any f (drop k (take count l)) ≡ true

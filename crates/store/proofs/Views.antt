@@ -120,7 +120,8 @@ module _ (l : List ℕ) where
         → Finds l s (At i c)
     unfolding ledgerOf
     found-at i c q e n = record {
-      found = ap some e ∙ sym (find-at (liveCount l) (credentialAt l) s i q (λ k h z. omega (arith, between k i h q)) n);
+      found = ap some e
+          ∙ sym (find-at (liveCount l) (credentialAt l) s i q (λ k h z. omega (arith, between k i h q)) n);
       placed = (omega (arith, live-length), sym e);
     }
 

@@ -41,7 +41,8 @@ book-steps-requires c κs =
     record {
       before = start .pre;
       holds = rw (held .held .given .1) at (hold .hold-all .ensures);
-      apart = sym (tested .before .twice .ensures) ∙ by-verdict (tested .tested .ensures) (passed .enum-told2 .given .1);
+      apart = sym (tested .before .twice .ensures)
+          ∙ by-verdict (tested .tested .ensures) (passed .enum-told2 .given .1);
     }
 
 pub book-holds-spec : {M : Type 1} → statement M
