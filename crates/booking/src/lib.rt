@@ -132,7 +132,7 @@ fn book_read(till: &mut Store, head: Head, serials: &[u32; 32], rows: &[u32; 153
 }
 
 // A booking whose head has been read: the rest of 2, 3, then as above. The rows are lent for its step lines.
-pub fn book(till: &mut Store, sheet: &[u8], rows: &mut [u32; 1536], head: Head) -> Answer
+fn book(till: &mut Store, sheet: &[u8], rows: &mut [u32; 1536], head: Head) -> Answer
     requires { ⌜ Opened (now till) (now sheet) head × Lent (now rows) ⌝ }
     ensures { λ r. ⌜ Called (now (till .entry)) (now (sheet .entry)) r (now (till .exit)) ⌝ }
     ensures { λ _. ⌜ Lent (now (rows .exit)) ⌝ }

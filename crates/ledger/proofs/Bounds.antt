@@ -1,29 +1,30 @@
 -- What holds of every ledger that calls gave: the limits of document 01.
 use mathlib.Core.Path.{_≡_, refl, sym, subst}
 use mathlib.Core.List.{List, [], _∷_, _++_}
-use mathlib.Core.Option.{Option}
+use mathlib.Core.Option.{Option, some}
 use mathlib.Core.Bool.{Bool, true, false}
 use Prim.Native.Nat.{ℕ, _+_, _≤_, _<_}
 use native.Mathlib.Omega.{arith}
 use lib.Dec.{eqb}
 use lib.ListN.{length, length-append}
+use Rattle.logic.specs.declared.Interval.{Interval}
 use Rattle.logic.specs.Formula.{Formula, size}
 use Rattle.logic.specs.Multiset.{Every}
 use Rattle.logic.proofs.Multisets.{ins-length, every-out, every-snoc, every-map}
 use Rattle.request.specs.declared.Kind.{Kind}
 use Rattle.request.specs.declared.Kind.the-variants.{Linear, Unrestricted}
 use Rattle.request.specs.Range.{serial}
-use Rattle.request.specs.Request.{Request, word, issue, withdraw, book, tally}
+use Rattle.request.specs.Request.{Line, Request, word, issue, withdraw, book, tally}
 use Rattle.ledger.specs.declared.Credential.{Credential}
 use Rattle.ledger.specs.declared.Answer.{Answer}
-use Rattle.ledger.specs.Table.{form, build, formulas}
-use Rattle.ledger.specs.Ledger.{Ledger, empty, formula, byKind, withoutSerial, held, spend}
+use Rattle.ledger.specs.Table.{form, names, build, formulas}
+use Rattle.ledger.specs.Ledger.{Ledger, empty, formula, byKind, find, withoutSerial, held, spend}
 use Rattle.ledger.specs.Checks.{maxSize, maxFormulas, maxLive, checks}
-use Rattle.ledger.specs.Calls.{accept, after}
+use Rattle.ledger.specs.Calls.{withLine, withLive, withCredential, accept, after}
 use Rattle.ledger.specs.Statements.{Pass}
 use Rattle.ledger.proofs.Walk.{walk}
 use Rattle.ledger.proofs.Credentials.{take-out, splits}
-use Rattle.ledger.proofs.Tables.{formula-snoc, Tabled, line-tabled}
+use Rattle.ledger.proofs.Tables.{formula-snoc, Tabled, There, line-tabled}
 use Rattle.ledger.proofs.Passed.{passed-word, passed-issue, passed-withdraw, passed-book}
 
 -- serials rise, from above lo
@@ -84,69 +85,80 @@ same-table : (t : Ledger) (cs : List Credential) (n : ℕ) → Tabled t
     → Tabled (record { lines = t .lines; live = cs; next = n })
 same-table t cs n h = record { reads = h .reads; refs = h .refs }
 
+-- what one line more, other live credentials and one credential more ask
+module _ (t : Ledger) (b : Bounded t) where
+  pub line-bounded : (l : Line) → length (t .lines) < maxFormulas → There t (names l)
+      → size (form (formula t) l) ≤ maxSize → Bounded (withLine t l)
+  line-bounded l room there small = record {
+    tabled = line-tabled t l (b .tabled) there;
+    rises = b .rises;
+    below = b .below;
+    lines = omega (arith, length-append (t .lines) (l ∷ []));
+    live = b .live;
+    first = b .first;
+    last = b .last;
+    sizes = λ n. subst (λ (a : Formula). size a ≤ maxSize) (sym (formula-snoc t l n))
+        (go n (eqb n (length (t .lines))));
+  }
+    where
+      go : (n : ℕ) (x : Bool)
+          → size (elim x as (λ z. Formula) [ true ↦ form (formula t) l | false ↦ formula t n ]) ≤ maxSize
+      go n true = small
+      go n false = b .sizes n
+
+  live-bounded : (cs : List Credential) → Rises 0 cs → Below (t .next) cs → length cs ≤ maxLive
+      → Bounded (withLive t cs)
+  live-bounded cs rises below live = record {
+    tabled = same-table t cs (t .next) (b .tabled);
+    rises = rises;
+    below = below;
+    lines = b .lines;
+    live = live;
+    first = b .first;
+    last = b .last;
+    sizes = b .sizes;
+  }
+
+  pub without-bounded : (n : ℕ) {c : Credential} → find (t .live) n ≡ some c
+      → Bounded (withLive t (withoutSerial (t .live) n))
+  without-bounded n e =
+      let i = take-out (t .live) n e .1 in
+      live-bounded (withoutSerial (t .live) n) (rises-without 0 n (t .live) (b .rises)) (every-out _ i (b .below) .1)
+      (omega (arith, b .live, ins-length i))
+
+  pub credential-bounded : (k : Kind) (n : ℕ) (i : Interval) → length (t .live) < maxLive → t .next ≤ serial .last
+      → Bounded (withCredential t k n i)
+  credential-bounded k n i room unused = record {
+    tabled = same-table t _ _ (b .tabled);
+    rises = rises-snoc 0 (t .next) (t .live) _ refl (b .first) (b .rises) (b .below);
+    below = below-snoc (t .next) (t .live) _ refl (b .below);
+    lines = b .lines;
+    live = one-more (t .live) _ room;
+    first = omega arith;
+    last = omega arith;
+    sizes = b .sizes;
+  }
+
 accept-bounded : (t : Ledger) (r : Request) → Pass (checks t r) → Bounded t → Bounded (accept t r .ledger)
 unfolding accept
 accept-bounded t (word l) p b =
     let q = passed-word t l p in
-    record {
-      tabled = line-tabled t l (b .tabled) (q .there);
-      rises = b .rises;
-      below = b .below;
-      lines = omega (arith, length-append (t .lines) (l ∷ []), q .room);
-      live = b .live;
-      first = b .first;
-      last = b .last;
-      sizes = λ n. subst (λ (a : Formula). size a ≤ maxSize) (sym (formula-snoc t l n))
-          (go (q .small) n (eqb n (length (t .lines))));
-    }
-  where
-    go : size (form (formula t) l) ≤ maxSize → (n : ℕ) (x : Bool)
-        → size (elim x as (λ z. Formula) [ true ↦ form (formula t) l | false ↦ formula t n ]) ≤ maxSize
-    go h n true = h
-    go h n false = b .sizes n
+    line-bounded t b l (omega (arith, q .room)) (q .there) (q .small)
 accept-bounded t (issue k n i) p b =
     let q = passed-issue t k n i p in
-    record {
-      tabled = same-table t _ _ (b .tabled);
-      rises = rises-snoc 0 (t .next) (t .live) _ refl (b .first) (b .rises) (b .below);
-      below = below-snoc (t .next) (t .live) _ refl (b .below);
-      lines = b .lines;
-      live = one-more (t .live) _ (omega (arith, q .room));
-      first = omega arith;
-      last = omega (arith, q .unused);
-      sizes = b .sizes;
-    }
-accept-bounded t (withdraw n) p b =
-    let q = passed-withdraw t n p in
-    let i = take-out (t .live) n (q .found) .1 in
-    record {
-      tabled = same-table t _ _ (b .tabled);
-      rises = rises-without 0 n (t .live) (b .rises);
-      below = every-out _ i (b .below) .1;
-      lines = b .lines;
-      live = omega (arith, b .live, ins-length i);
-      first = b .first;
-      last = b .last;
-      sizes = b .sizes;
-    }
+    credential-bounded t b k n i (omega (arith, q .room)) (omega (arith, q .unused))
+accept-bounded t (withdraw n) p b = without-bounded t b n (passed-withdraw t n p .found)
 accept-bounded t (book x) p b =
     let q = passed-book t x p in
     let v = splits (λ c. c .serial < t .next) t (x .holds) (q .alive) (q .apart) (b .below) in
     let hs = held (t .live) (x .holds) in
     let cs = spend (t .live) hs in
-    record {
-      tabled = same-table t _ _ (b .tabled);
-      rises = rises-snoc 0 (t .next) cs _ refl (b .first) (rises-spend 0 (t .live) hs (b .rises)) (v .stay);
-      below = below-snoc (t .next) cs _ refl (v .stay);
-      lines = b .lines;
-      live = one-more cs _ (omega (arith, v .lengths, q .room));
-      first = omega arith;
-      last = omega (arith, q .unused);
-      sizes = b .sizes;
-    }
+    credential-bounded (withLive t cs)
+    (live-bounded t b cs (rises-spend 0 (t .live) hs (b .rises)) (v .stay) (omega (arith, v .lengths, b .live)))
+    Linear (x .formula) (x .interval) (omega (arith, v .lengths, q .room)) (omega (arith, q .unused))
 accept-bounded t (tally s m) p b = b
 
-empty-bounded : Bounded empty
+pub empty-bounded : Bounded empty
 unfolding build formulas size
 empty-bounded = record {
   tabled = record { reads = λ n. refl; refs = λ n. tt };

@@ -13,7 +13,7 @@ use Rattle.ledger.specs.Table.{form}
 use Rattle.ledger.specs.Ledger.{Ledger, formula}
 use Rattle.ledger.specs.Calls.{withLine}
 use Rattle.ledger.proofs.Tables.{formula-snoc, formula-stays}
-use Rattle.ledger.proofs.Bounds.{Bounded}
+use Rattle.ledger.proofs.Bounds.{Bounded, line-bounded}
 use Rattle.store.specs.Tab.{tab}
 use Rattle.store.specs.Layout.{lineCount, lineCell, rowAt, sizeAt, plainAt, lineCells, putLineCount}
 use Rattle.store.specs.Layout.{putLine, liveCount, credentialAt}
@@ -22,7 +22,7 @@ use Rattle.store.proofs.Tabs.{tab-ext, tab-append}
 use Rattle.store.proofs.Rows.{row-ext, row-below, SameLive, same-credential, count-live, head-same, head-line}
 use Rattle.store.proofs.Rows.{line-same, line-other, line-live}
 use Rattle.store.proofs.Views.{lines-length}
-use Rattle.store.proofs.Bounds.{line-bounded, line-named}
+use Rattle.store.proofs.Names.{line-named}
 
 -- what is kept of row i is right
 record Right (m : List ℕ) (i : ℕ) : Type 0 where

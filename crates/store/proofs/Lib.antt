@@ -6,6 +6,6 @@ pub mod Shift
 pub mod Lines
 pub mod Rows
 pub mod Views
-pub mod Bounds
+pub mod Names
 pub mod Live
 pub mod Added

@@ -14,7 +14,7 @@ use Rattle.ledger.specs.Table.{nth, formulas}
 use Rattle.ledger.specs.Ledger.{Ledger, empty, formula, find, withoutSerial}
 use Rattle.ledger.specs.Checks.{maxLive}
 use Rattle.ledger.specs.Calls.{withLive, withCredential}
-use Rattle.ledger.proofs.Bounds.{Bounded}
+use Rattle.ledger.proofs.Bounds.{Bounded, empty-bounded, credential-bounded, without-bounded}
 use Rattle.store.specs.Tab.{tab, without}
 use Rattle.store.specs.Layout.{cells, lineCount, liveCount, nextSerial, credentialAt, putLiveCount}
 use Rattle.store.specs.Layout.{putNext, putCredential}
@@ -26,8 +26,7 @@ use Rattle.store.proofs.Rows.{SameLines, lines-self, same-row, same-siz
 use Rattle.store.proofs.Rows.{head-credential, credential-same, credential-other, credential-before}
 use Rattle.store.proofs.Rows.{credential-lines, head-other}
 use Rattle.store.proofs.Views.{live-length}
-use Rattle.store.proofs.Bounds.{without-named}
-use Rattle.store.proofs.Bounds.{empty-bounded, credential-bounded, without-bounded, credential-named}
+use Rattle.store.proofs.Names.{without-named, credential-named}
 
 -- The empty ledger.
 pub empty-stands : (l : List ℕ) → length l ≡ cells → lineCount l ≡ 0 → liveCount l ≡ 0 → nextSerial l ≡ 1

@@ -62,7 +62,7 @@ pub fn issue(till: &mut Store, kind: Kind, formula: u32, interval: Interval) -> 
 }
 
 // Word: 3, 10, 12, 13, 14.
-pub fn word(till: &mut Store, row: Row) -> Answer
+fn word(till: &mut Store, row: Row) -> Answer
     requires { ⌜ Good (now till) × Canonical row ⌝ }
     ensures { λ r. ⌜ Handled (now (till .entry)) (wordRequest (lineOf row)) r (now (till .exit)) ⌝ }
 {
