@@ -1,6 +1,6 @@
 /* A kiosk to touch: keeps one till, hands it the sheets that are typed or stand in a file, and shows each answer and a
- * panel for a session and a minute. The panel's open, shut and placed are the till's tally; issued and withdrawn are the
- * kiosk's own count (recount.h), so that nothing hides: open + shut + placed + withdrawn = issued.
+ * panel for a session and a minute. The panel's open, shut and placed are the till's tally; issued and withdrawn are
+ * the kiosk's own count (recount.h), so that nothing hides: open + shut + placed + withdrawn = issued.
  *
  * On a terminal the panel stands at the top. Without one each answer is a line, in tillrun's form and then in words. */
 #define _POSIX_C_SOURCE 200809L
@@ -26,8 +26,8 @@ struct Kiosk {
     unsigned lines;
 };
 
-/* Bytes on their way to be sheets and commands. Of a sheet one byte too many is kept, which is refused as any longer one
- * would be; of a command, one byte too many as well. */
+/* Bytes on their way to be sheets and commands. Of a sheet one byte too many is kept, which is refused as any longer
+ * one would be; of a command, one byte too many as well. */
 struct Input {
     uint8_t sheet[TILL_SHEET_BYTES + 1];
     size_t length;
@@ -120,8 +120,9 @@ static struct Panel panel_of(struct Kiosk *kiosk) {
 
 static void say_panel(struct Kiosk *kiosk) {
     struct Panel p = panel_of(kiosk);
-    say(kiosk, "panel session %u minute %u: open %u + shut %u + placed %u + withdrawn %u = issued %u, %s", kiosk->session,
-        kiosk->minute, p.open, p.shut, p.placed, p.withdrawn, p.issued, p.good ? "adds up" : "DOES NOT ADD UP");
+    say(kiosk, "panel session %u minute %u: open %u + shut %u + placed %u + withdrawn %u = issued %u, %s",
+        kiosk->session, kiosk->minute, p.open, p.shut, p.placed, p.withdrawn, p.issued,
+        p.good ? "adds up" : "DOES NOT ADD UP");
 }
 
 /* The whole screen: the panel, what was said last, and a place to type. */
@@ -169,8 +170,8 @@ static void play_file(struct Kiosk *kiosk, struct Input *input, const char *name
         if (!read_all(kiosk, file, sheets)) say(kiosk, "cannot read that file to its end: %s", strerror(errno));
         else if (sheets->length > 0) hand_over(kiosk, sheets->sheet, sheets->length);
         close(file);
-        if (kiosk->screen)
-            say(kiosk, "that file: %u sheets accepted, %u refused", kiosk->accepted - accepted, kiosk->refused - refused);
+        accepted = kiosk->accepted - accepted, refused = kiosk->refused - refused;
+        if (kiosk->screen) say(kiosk, "that file: %u sheets accepted, %u refused", accepted, refused);
     }
     free(sheets);
 }
@@ -285,8 +286,8 @@ static int read_all(struct Kiosk *kiosk, int file, struct Input *input) {
     }
 }
 
-/* The end of the input: a last line that is a command is run. Bytes after the last empty line are one more sheet, as for
- * tillrun; on a terminal they are dropped, as nobody has said that the sheet ends there. */
+/* The end of the input: a last line that is a command is run. Bytes after the last empty line are one more sheet, as
+ * for tillrun; on a terminal they are dropped, as nobody has said that the sheet ends there. */
 static void finish(struct Kiosk *kiosk, struct Input *input) {
     if (kiosk->leave) return;
     if (input->in_command) run_command(kiosk, input);

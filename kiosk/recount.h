@@ -1,6 +1,6 @@
 /* What was issued and withdrawn, counted from the accepted sheets and their answers alone (document 01, "Booking,
- * tally"). It looks into no till: wording n is the line that was answered n, and a serial's coupon is the one issued, or
- * the goal booked, by the sheet that was answered that serial. */
+ * tally"). It looks into no till: wording n is the line that was answered n, and a serial's coupon is the one issued,
+ * or the goal booked, by the sheet that was answered that serial. */
 #ifndef RECOUNT_H
 #define RECOUNT_H
 
