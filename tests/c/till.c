@@ -1,5 +1,6 @@
 /* A C program keeps a till over many calls (include/oysterbrim.h): every answer, what a refusal leaves, and that
- * nothing is read or written beside block, sheet, scratch and answer. `till [GROUP..]` plays the groups named, or all. */
+ * nothing is read or written beside block, sheet, scratch and answer; what a call takes of the stack.
+ * `till [GROUP..]` plays the groups named, or all. */
 #define _DEFAULT_SOURCE
 #include "oysterbrim.h"
 #include <stdio.h>
