@@ -130,11 +130,11 @@ static void draw(struct Kiosk *kiosk, const struct Input *input) {
     struct Panel p = panel_of(kiosk);
     fputs("\033[H\033[2J", stdout);
     printf("BOOKING TILL   session %u   minute %u\n", kiosk->session, kiosk->minute);
-    puts("--------------------------------------------------------------");
-    printf("%10s %10s %10s %10s   %10s\n", "open", "shut", "placed", "withdrawn", "issued");
-    printf("%10u %10u %10u %10u = %10u  ", p.open, p.shut, p.placed, p.withdrawn, p.issued);
+    puts("------------------------------------------------------------------------");
+    printf("%9s   %9s   %9s   %9s   %9s\n", "open", "shut", "placed", "withdrawn", "issued");
+    printf("%9u + %9u + %9u + %9u = %9u  ", p.open, p.shut, p.placed, p.withdrawn, p.issued);
     puts(p.good ? "adds up" : "\033[7m DOES NOT ADD UP \033[0m");
-    puts("--------------------------------------------------------------");
+    puts("------------------------------------------------------------------------");
     printf("%u sheets accepted, %u refused. An empty line ends a sheet; :help\n\n", kiosk->accepted, kiosk->refused);
     unsigned first = kiosk->lines > SHOWN ? kiosk->lines - SHOWN : 0;
     for (unsigned i = first; i < kiosk->lines; i++) puts(kiosk->said[i % SHOWN]);
