@@ -1,13 +1,15 @@
-/* A C program keeps a till over many calls (include/oysterbrim.h): every answer, what a refusal leaves, and that nothing
- * is read or written beside block, sheet, scratch and answer. `till [GROUP..]` plays the groups named, or all. */
+/* A C program keeps a till over many calls (include/oysterbrim.h): every answer, what a refusal leaves, and that
+ * nothing is read or written beside block, sheet, scratch and answer; what a call takes of the stack.
+ * `till [GROUP..]` plays the groups named, or all. */
 #define _DEFAULT_SOURCE
 #include "oysterbrim.h"
 #include <stdio.h>
 #include <stdlib.h>
 #include <string.h>
 #include <sys/mman.h>
+#include <ucontext.h>
 
-enum { PAGE = 4096, GUARD = 16, ROOM = 1 << 21 };
+enum { PAGE = 4096, GUARD = 16, ROOM = 1 << 21, SMALL = 256 * 1024, TAKEN = 128 * 1024 };
 
 static const uint32_t MARK = 0xA5C3965Au;
 static unsigned passed, failed;
@@ -218,11 +220,88 @@ static void bookings(void) {
     ask(&block, "withdraw,4\n", 1, 4, 0, 0);
 }
 
+/* A call on a small stack, below which nothing may be touched. */
+static struct Small {
+    struct Block *block;
+    const char *sheet;
+    uint32_t scratch[TILL_SCRATCH], answer[4];
+    ucontext_t here, there;
+} small;
+
+static void small_call(void) {
+    till_call(small.block->till, (const uint8_t *)small.sheet, strlen(small.sheet), small.scratch, small.answer);
+}
+
+/* The bytes of the stack that the call took. */
+static size_t on_small_stack(struct Block *block, const char *sheet) {
+    uint8_t *all = mmap(NULL, SMALL + PAGE, PROT_READ | PROT_WRITE, MAP_PRIVATE | MAP_ANONYMOUS, -1, 0);
+    if (all == MAP_FAILED || mprotect(all, PAGE, PROT_NONE) || getcontext(&small.there)) exit(2);
+    uint8_t *stack = all + PAGE;
+    memset(stack, 0xC9, SMALL);
+    small.block = block;
+    small.sheet = sheet;
+    small.there.uc_stack.ss_sp = stack;
+    small.there.uc_stack.ss_size = SMALL;
+    small.there.uc_link = &small.here;
+    makecontext(&small.there, small_call, 0);
+    if (swapcontext(&small.here, &small.there)) exit(2);
+    size_t free_bytes = 0;
+    while (free_bytes < SMALL && stack[free_bytes] == 0xC9) free_bytes++;
+    munmap(all, SMALL + PAGE);
+    return SMALL - free_bytes;
+}
+
+static void measured(struct Block *block, const char *sheet, const uint32_t expected[4], const char *name) {
+    size_t taken = on_small_stack(block, sheet);
+    check(memcmp(small.answer, expected, sizeof small.answer) == 0, "the answer on a small stack", name);
+    check(taken <= TAKEN, "the header's 128 KB of stack", name);
+    printf("%s: %zu bytes of stack\n", name, taken);
+}
+
+static char *times(char *to, int count, const char *lines) {
+    while (count-- > 0) to = stpcpy(to, lines);
+    return to;
+}
+
+/* Wordings: 63 is <1> 63 times over an atom, 64 is 1, 125 is <1> 61 times over that, 126 is 125 -o 64. Credentials: 126
+ * and 64 standing, the atom single-use. */
+static void tower(struct Block *block) {
+    char line[40];
+    begin(block);
+    for (uint32_t n = 0; n < 126; n++) {
+        snprintf(line, sizeof line, n == 0 ? "word,a,9,7\n" : n == 64 ? "word,o\n" : "word,s,1,%u\n", n - 1);
+        ask(block, line, 1, n, 0, 0);
+    }
+    ask(block, "word,l,125,64\n", 1, 126, 0, 0);
+    ask(block, "issue,r,126,0,9\n", 1, 1, 0, 0);
+    ask(block, "issue,r,64,0,9\n", 1, 2, 0, 0);
+    ask(block, "issue,s,0,0,9\n", 1, 3, 0, 0);
+}
+
+/* Bookings whose premises lie 253 and 256 deep in one another: what a call takes of the stack. */
+static void stack(void) {
+    static struct Block block;
+    static const uint32_t OPEN[4] = {0, 42, 257, 0}, BOOKED[4] = {1, 4, 0, 0};
+    static char sheet[4096];
+    tower(&block);
+    char *at = stpcpy(sheet, "book,5,63,0,9,3,256\nhold,1\nhold,2\nhold,3\n");
+    at = times(at, 63, "sr\naf\n");
+    at = stpcpy(at, "cp,0\ncp,1\nol,4\ncp,1\nol,5\ncp,1\nol,6\nll,3,0000000000000000,0,9\n");
+    times(at, 61, "sr\naf\n");
+    measured(&block, sheet, OPEN, "256 steps, the last premise open");
+    at = stpcpy(sheet, "book,5,63,0,9,3,255\nhold,1\nhold,2\nhold,3\n");
+    at = times(at, 63, "sr\naf\n");
+    at = stpcpy(at, "cp,0\ncp,1\nol,4\nll,3,0000000000000000,0,9\n");
+    at = times(at, 61, "sr\naf\n");
+    stpcpy(at, "or\nol,5\nax,2\n");
+    measured(&block, sheet, BOOKED, "255 steps, accepted");
+}
+
 static const struct Group {
     const char *name;
     void (*play)(void);
-} GROUPS[] = {{"calls", calls}, {"refusals", refusals}, {"lengths", lengths},
-              {"full", full},   {"two", two},           {"bookings", bookings}};
+} GROUPS[] = {{"calls", calls}, {"refusals", refusals}, {"lengths", lengths}, {"full", full},
+              {"two", two},     {"bookings", bookings}, {"stack", stack}};
 
 int main(int count, char **names) {
     open_pages();

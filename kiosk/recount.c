@@ -1,0 +1,135 @@
+#include "recount.h"
+#include <stdlib.h>
+#include <string.h>
+
+enum { FIELDS = 7, STANDING = 1, SINGLE = 2 };
+
+struct Field {
+    const uint8_t *at;
+    size_t length;
+};
+
+struct History *history_new(void) { return calloc(1, sizeof(struct History)); }
+
+void history_clear(struct History *history) { memset(history, 0, sizeof *history); }
+
+/* The fields of the first line; 0 where it has no end or too many of them. */
+static size_t split(const uint8_t *sheet, size_t length, struct Field fields[FIELDS]) {
+    size_t count = 0, from = 0;
+    memset(fields, 0, FIELDS * sizeof *fields);
+    for (size_t i = 0; i < length; i++) {
+        if (sheet[i] != ',' && sheet[i] != '\n') continue;
+        if (count == FIELDS) return 0;
+        fields[count++] = (struct Field){sheet + from, i - from};
+        from = i + 1;
+        if (sheet[i] == '\n') return count;
+    }
+    return 0;
+}
+
+static int is(struct Field field, const char *word) {
+    return field.length == strlen(word) && memcmp(field.at, word, field.length) == 0;
+}
+
+/* A decimal number up to `most`, without leading zeros. */
+static int number(struct Field field, uint32_t most, uint32_t *value) {
+    uint64_t sum = 0;
+    if (field.length == 0 || (field.length > 1 && field.at[0] == '0')) return 0;
+    for (size_t i = 0; i < field.length; i++) {
+        if (field.at[i] < '0' || field.at[i] > '9') return 0;
+        sum = sum * 10 + (field.at[i] - '0');
+        if (sum > most) return 0;
+    }
+    *value = (uint32_t)sum;
+    return 1;
+}
+
+/* A wording that was given before. */
+static int wording(const struct History *history, struct Field field, uint32_t *value) {
+    return number(field, WORDINGS - 1, value) && *value < history->wordings;
+}
+
+/* Adds the part's seats and places to those of wording `to`: a part counts as often as it stands there. */
+static int add_part(struct History *history, uint32_t to, struct Field field) {
+    uint32_t part;
+    if (!wording(history, field, &part)) return 0;
+    for (int s = 0; s < SESSIONS; s++) {
+        uint32_t sum = (uint32_t)history->seats[to][s] + history->seats[part][s];
+        if (sum > MOST_SIZE) return 0;
+        history->seats[to][s] = (uint8_t)sum;
+    }
+    return 1;
+}
+
+static int add_atom(struct History *history, uint32_t to, const struct Field *fields) {
+    uint32_t predicate, session;
+    if (!number(fields[2], 255, &predicate) || !number(fields[3], SESSIONS - 1, &session)) return 0;
+    if (predicate == 1 || predicate == 2) history->seats[to][session] = 1;
+    return 1;
+}
+
+static int note_word(struct History *history, const struct Field *fields, size_t count, uint32_t answer) {
+    if (answer >= WORDINGS || answer != history->wordings || fields[1].length != 1) return 0;
+    int good;
+    memset(history->seats[answer], 0, sizeof history->seats[answer]);
+    switch (fields[1].at[0]) {
+    case 'a': good = count == 4 && add_atom(history, answer, fields); break;
+    case 'o': good = count == 2; break;
+    case 'g': good = count == 6; break;
+    case 't': case 'w': case 'p': case 'l': case 'u':
+        good = count == 4 && add_part(history, answer, fields[2]) && add_part(history, answer, fields[3]);
+        break;
+    case 'b': good = count == 3 && add_part(history, answer, fields[2]); break;
+    case 'h': good = count == 5 && add_part(history, answer, fields[2]); break;
+    case 's': good = count == 4 && add_part(history, answer, fields[3]); break;
+    default: good = 0;
+    }
+    history->wordings++;
+    return good;
+}
+
+/* A coupon with a new serial. */
+static int give(struct History *history, uint32_t serial, uint32_t kind) {
+    if (serial == 0 || serial > LAST_SERIAL || history->coupon[serial] != 0) return 0;
+    history->coupon[serial] = (uint16_t)kind;
+    history->serial = serial;
+    return 1;
+}
+
+static int note_issue(struct History *history, const struct Field *fields, size_t count, uint32_t answer) {
+    uint32_t n;
+    int single = is(fields[1], "s");
+    if (count != 5 || (!single && !is(fields[1], "r")) || !wording(history, fields[2], &n)) return 0;
+    if (!give(history, answer, single ? SINGLE + n : STANDING)) return 0;
+    for (int s = 0; single && s < SESSIONS; s++) history->issued[s] += history->seats[n][s];
+    return 1;
+}
+
+static int note_book(struct History *history, const struct Field *fields, size_t count, uint32_t answer) {
+    uint32_t n;
+    return count == 7 && wording(history, fields[2], &n) && give(history, answer, SINGLE + n);
+}
+
+static int note_withdraw(struct History *history, const struct Field *fields, size_t count, uint32_t answer) {
+    uint32_t serial;
+    if (count != 2 || !number(fields[1], LAST_SERIAL, &serial) || serial != answer) return 0;
+    uint32_t coupon = history->coupon[serial];
+    if (coupon == 0) return 0;
+    for (int s = 0; coupon >= SINGLE && s < SESSIONS; s++)
+        history->withdrawn[s] += history->seats[coupon - SINGLE][s];
+    return 1;
+}
+
+int history_note(struct History *history, const uint8_t *sheet, size_t length, const uint32_t answer[4]) {
+    struct Field fields[FIELDS];
+    int good = 0;
+    if (answer[0] != 1) return 1;
+    size_t count = split(sheet, length, fields);
+    if (count < 2) good = 0;
+    else if (is(fields[0], "word")) good = note_word(history, fields, count, answer[1]);
+    else if (is(fields[0], "issue")) good = note_issue(history, fields, count, answer[1]);
+    else if (is(fields[0], "book")) good = note_book(history, fields, count, answer[1]);
+    else if (is(fields[0], "withdraw")) good = note_withdraw(history, fields, count, answer[1]);
+    if (!good) history->unread++;
+    return good;
+}
