@@ -10,10 +10,11 @@ ghost use mathlib.Core.Path.{_≡_};
 ghost use lib.ListN.{length};
 ghost use Rattle.tillrun.specs.Kiosk.{Ready, Turned, Opened};
 
-// A place, and whether to go on.
+// A place, whether to go on, and whether the answers could be written.
 struct Turn {
     place: Place,
     more: bool,
+    written: bool,
 }
 
 // Reads once, answers what came and writes the answers.
@@ -33,7 +34,11 @@ fn next_piece(
     let got = libc::read(0, piece);
     let n = io::count(got, piece);
     if n == 0 {
-        return Turn { place, more: false };
+        return Turn {
+            place,
+            more: false,
+            written: true,
+        };
     }
     let next = kiosk::feed(till, begun, text, place, &piece[..n]);
     let end = next.text;
@@ -45,11 +50,12 @@ fn next_piece(
             text: 0,
         },
         more,
+        written: more,
     }
 }
 
 // Plays the input to its end. A proved loop has to end, and nothing says that the input does, so the loop counts its
-// turns down from a number that no run uses up.
+// turns down from a number that no run uses up. Where the answers cannot be written, the sheet that has begun is left.
 fn play(till: &mut Store, begun: &mut [u8], text: &mut [u8], piece: &mut [u8])
     requires { ⌜ Opened (now till) (now begun) (now text) (now piece) ⌝ }
 {
@@ -59,12 +65,17 @@ fn play(till: &mut Store, begun: &mut [u8], text: &mut [u8], piece: &mut [u8])
         text: 0,
     };
     let mut more = true;
+    let mut written = true;
     let mut turns = u64::MAX;
     while turns > 0 && more {
         let t = next_piece(till, begun, text, piece, place);
         place = t.place;
         more = t.more;
+        written = t.written;
         turns -= 1;
+    }
+    if !written {
+        return;
     }
     let end = kiosk::finish(till, begun, text, place);
     io::write_all(1, &text[..end]);

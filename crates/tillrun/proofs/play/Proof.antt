@@ -11,12 +11,12 @@ use Rattle.tillrun.proofs.play.Statement.{statement}
 use Rattle.tillrun.proofs.play.Tie as tie
 
 abbrev Inv-loop : tie.InvT-loop
-Inv-loop till₀ begun₀ text₀ piece₀ place₀ more₀ turns₀ till begun text piece place more turns =
+Inv-loop till₀ begun₀ text₀ piece₀ place₀ more₀ written₀ turns₀ till begun text piece place more written turns =
     Going till begun text place 4096 × ((length begun ≡ length begun₀) × ((length text ≡ length text₀)
     × ((length piece ≡ length piece₀) × (length piece ≡ 4096))))
 
 abbrev μ-loop : tie.MeasureT-loop
-μ-loop till₀ begun₀ text₀ piece₀ place₀ more₀ turns₀ till begun text piece place more turns = turns
+μ-loop till₀ begun₀ text₀ piece₀ place₀ more₀ written₀ turns₀ till begun text piece place more written turns = turns
 
 loop-holds : tie.Need-loop-holds Inv-loop μ-loop
 loop-holds c =
@@ -47,7 +47,7 @@ loop-again c =
 
 finish-requires : tie.Need-finish-requires Inv-loop μ-loop
 finish-requires c κs =
-    let inv = c .before .before .before .before .loop .inv in
+    let inv = c .before .before .before .before .before .loop .inv in
     ready-for 4096 1 (inv .0 .ready) (omega (arith, inv .0 .ready .text))
 
 slice-aggregate-write-all : tie.Need-slice-aggregate-write-all Inv-loop μ-loop
@@ -66,11 +66,15 @@ play-spec =
     (λ c. search needs)
     loop-less
     loop-again
+    (λ c. c .before .before .loop .inv .1 .0)
+    (λ c. c .before .before .loop .inv .1 .1 .0)
+    (λ c. c .before .before .loop .inv .1 .1 .1 .0)
+    (λ c. search needs)
     finish-requires
     (λ c. search needs)
     slice-aggregate-write-all
     (λ c κs. search needs)
-    (λ c. c .before .before .before .before .before .before .before .before .before .loop .inv .1 .0)
+    (λ c. c .before .before .before .before .before .before .before .before .before .before .loop .inv .1 .0)
     (λ c. search needs)
-    (λ c. c .before .before .before .before .before .before .before .before .before .loop .inv .1 .1 .1 .0)
+    (λ c. c .before .before .before .before .before .before .before .before .before .before .loop .inv .1 .1 .1 .0)
     (λ c. search needs))
