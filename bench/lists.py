@@ -58,7 +58,7 @@ def booked_255():
 
 
 def refused():
-    """A sheet for each refusal that a till with M1's coupons gives, 22 to 24 and the steps' among them."""
+    """Sheets that get 1, 2, 3, 10, 13, 20, 21, 24, 30, 31, 40, 41 and 42 of a till with M1's coupons."""
     begin = words(M1 + ["t,5,5", "l,3,8"]) + ["issue,r,7,0,9999"] + ["issue,s,3,0,600", "issue,s,4,0,600"]
     good = list(M1_STEPS)
     head = "540,5,540,600"

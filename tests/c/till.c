@@ -2,6 +2,7 @@
  * nothing is read or written beside block, sheet, scratch and answer; what a call takes of the stack.
  * `till [GROUP..]` plays the groups named, or all. */
 #define _DEFAULT_SOURCE
+#include "guards.h"
 #include "oysterbrim.h"
 #include <stdio.h>
 #include <stdlib.h>
@@ -9,9 +10,8 @@
 #include <sys/mman.h>
 #include <ucontext.h>
 
-enum { PAGE = 4096, GUARD = 16, ROOM = 1 << 21, SMALL = 256 * 1024, TAKEN = 128 * 1024 };
+enum { PAGE = 4096, ROOM = 1 << 21, SMALL = 256 * 1024, TAKEN = 128 * 1024 };
 
-static const uint32_t MARK = 0xA5C3965Au;
 static unsigned passed, failed;
 
 static void check(int good, const char *what, const char *sheet) {
@@ -37,16 +37,6 @@ struct Scratch {
 struct Answered {
     uint32_t before[GUARD], answer[4], after[GUARD];
 };
-
-static void mark(uint32_t guard[GUARD]) {
-    for (int i = 0; i < GUARD; i++) guard[i] = MARK;
-}
-
-static int marked(const uint32_t guard[GUARD]) {
-    for (int i = 0; i < GUARD; i++)
-        if (guard[i] != MARK) return 0;
-    return 1;
-}
 
 /* Room for sheets, with a page before and after that must not be touched. */
 static uint8_t *pages;

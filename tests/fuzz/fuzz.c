@@ -3,6 +3,7 @@
  * reads it. The calls made depend on the seed and the files alone, how many there are on the time. */
 #define _DEFAULT_SOURCE
 #include "mutate.h"
+#include "../c/guards.h"
 #include "oysterbrim.h"
 #include <stdio.h>
 #include <stdlib.h>
@@ -10,9 +11,7 @@
 #include <sys/mman.h>
 #include <time.h>
 
-enum { TILLS = 6, GUARD = 16, PAGE = 4096, LONG = 10, NUMBERS = 43, SHOWN = 10 };
-
-static const uint32_t MARK = 0xA5C3965Au;
+enum { TILLS = 6, PAGE = 4096, LONG = 10, NUMBERS = 43, SHOWN = 10 };
 
 struct Session {
     struct Sheet *sheets;
@@ -81,16 +80,6 @@ static const struct Sheet *any_sheet(struct Fuzz *fuzz) {
 }
 
 /* ---- What must hold of a call ---- */
-
-static void mark(uint32_t guard[GUARD]) {
-    for (int i = 0; i < GUARD; i++) guard[i] = MARK;
-}
-
-static int marked(const uint32_t guard[GUARD]) {
-    for (int i = 0; i < GUARD; i++)
-        if (guard[i] != MARK) return 0;
-    return 1;
-}
 
 /* The five sheets, and 5 for bytes that begin as none. */
 static int kind_of(const uint8_t *sheet, size_t length) {

@@ -9,7 +9,7 @@ use Rattle.logic.specs.Weight.{counted}
 use Rattle.logic.specs.Counts.{level, even, all}
 use Rattle.logic.specs.Multiset.{sum}
 use Rattle.steps.specs.declared.Row.{Row}
-use Rattle.store.specs.Tab.{pick}
+use Rattle.logic.specs.Choice.{pick}
 
 -- the number is one of these
 abbrev pub among : ℕ → List ℕ → Bool

@@ -9,7 +9,8 @@ use borrow.Author.Tests.{eqb-true}
 use Rattle.request.specs.Text.{andThen, push, fields}
 use Rattle.request.specs.Reader.{Reader, return, _>>=_, ended, whole}
 use Rattle.request.proofs.Gives.{Gives, nothing, just, gives-then}
-use Rattle.numbers.specs.Field.{pick, ends, Stop, cut}
+use Rattle.logic.specs.Choice.{pick}
+use Rattle.numbers.specs.Field.{ends, Stop, cut}
 use Rattle.forms.specs.Line.{split, readLine}
 use Rattle.numbers.proofs.Then.{then-then, then-same, then-none, by-test}
 

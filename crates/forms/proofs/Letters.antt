@@ -18,7 +18,8 @@ use Rattle.request.specs.Read.{number, interval, part, parts, formulaLine}
 use Rattle.steps.specs.declared.Row.{Row}
 use Rattle.ledger.specs.Table.{rowOf}
 use Rattle.ledger.specs.Checks.{any}
-use Rattle.numbers.specs.Field.{pick, fieldTo}
+use Rattle.logic.specs.Choice.{pick}
+use Rattle.numbers.specs.Field.{fieldTo}
 use Rattle.forms.specs.Line.{readLine, row, oneField, twoFields, atFields, supersetFields, rowed}
 use Rattle.numbers.proofs.Then.{then-then, then-same, then-pair, or-false}
 use Rattle.numbers.proofs.Bytes.{here2}

@@ -12,7 +12,8 @@ use Rattle.request.specs.Range.{Range, minute}
 use Rattle.request.specs.Text.{andThen, numberIn, labelSetIn}
 use Rattle.request.specs.Reader.{Reader, return, _>>=_, next, whole, ended}
 use Rattle.request.specs.Read.{number, labelSet, interval}
-use Rattle.numbers.specs.Field.{pick, ends, Stop, cut, fieldTo}
+use Rattle.logic.specs.Choice.{pick}
+use Rattle.numbers.specs.Field.{ends, Stop, cut, fieldTo}
 use Rattle.forms.specs.Line.{readLine, intervalTo}
 use Rattle.numbers.proofs.Then.{then-then, then-same, then-given, then-pair, by-test}
 use Rattle.forms.proofs.Cut.{atStop, line-cut, line-same, line-return, whole-none, stop-none, cut-stop}

@@ -14,7 +14,8 @@ use Rattle.logic.specs.Multiset.{Every}
 use Rattle.request.specs.Text.{bytes, sameBytes, andThen}
 use Rattle.request.specs.Reader.{Reader, return, named, choose, whole, ended}
 use Rattle.request.proofs.Gives.{Gives, just}
-use Rattle.numbers.specs.Field.{pick, ends, Stop, cut, strip}
+use Rattle.logic.specs.Choice.{pick}
+use Rattle.numbers.specs.Field.{ends, Stop, cut, strip}
 use Rattle.forms.specs.Line.{readLine}
 use Rattle.numbers.proofs.Then.{then-then, then-same, then-none, by-test}
 use Rattle.forms.proofs.Cut.{atStop, line-cut, line-same, line-none, line-return, whole-none, stop-none}

@@ -17,7 +17,8 @@ use Rattle.forms.specs.declared.Span.{Span}
 use Rattle.forms.specs.declared.Span.the-variants.{Minutes, Broken as NoSpan}
 use Rattle.forms.specs.declared.FormulaLine.{FormulaLine}
 use Rattle.forms.specs.declared.FormulaLine.the-variants.{Formula, Broken as NoFormula}
-use Rattle.numbers.specs.Field.{pick, fieldTo}
+use Rattle.logic.specs.Choice.{pick}
+use Rattle.numbers.specs.Field.{fieldTo}
 
 -- the first line, and what follows its byte 10
 unfoldable pub split : List ℕ → Option (List ℕ × List ℕ)

@@ -11,7 +11,7 @@ use Rattle.request.specs.Reader.{Reader, return, _>>=_}
 use Rattle.request.specs.Request.{Step}
 use Rattle.request.specs.Read.{number, labelSet, interval, labelled}
 use Rattle.tables.specs.Lines.{stepRow, stepOf}
-use Rattle.numbers.specs.Field.{pick}
+use Rattle.logic.specs.Choice.{pick}
 use Rattle.forms.specs.declared.HoldLine.{HoldLine}
 use Rattle.forms.specs.declared.HoldLine.the-variants.{Serial, Broken as NoHold}
 use Rattle.forms.specs.declared.StepLine.{StepLine}

@@ -1,3 +1,4 @@
+pub mod Choice
 pub mod Interval
 pub mod Formula
 pub mod Weight

@@ -7,7 +7,8 @@ use Prim.Native.Nat.{ℕ}
 use lib.Dec.{eqb}
 use borrow.Author.Tests.{eq-eqb, ne-eqb, eqb-true}
 use Rattle.request.specs.Text.{andThen}
-use Rattle.numbers.specs.Field.{pick, ends, Stop, cut, fieldTo}
+use Rattle.logic.specs.Choice.{pick}
+use Rattle.numbers.specs.Field.{ends, Stop, cut, fieldTo}
 use Rattle.numbers.proofs.Then.{then-then, then-same, then-none, by-test}
 
 module _ {A : Type 0} (stop : ℕ) where

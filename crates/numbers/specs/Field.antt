@@ -9,16 +9,13 @@ use lib.Dec.{eqb, leb}
 use lib.ListN.{length, drop}
 use Rattle.request.specs.Range.{Range, maxBytes}
 use Rattle.request.specs.Text.{andThen, reads, decimalDigit, hexDigit}
+use Rattle.logic.specs.Choice.{pick}
 use Rattle.numbers.specs.declared.Decimal.{Decimal}
 use Rattle.numbers.specs.declared.Decimal.the-variants.{Number, Broken as NoNumber}
 use Rattle.numbers.specs.declared.Labels.{Labels}
 use Rattle.numbers.specs.declared.Labels.the-variants.{Set, Broken as NoSet}
 use Rattle.numbers.specs.declared.Prefix.{Prefix}
 use Rattle.numbers.specs.declared.Prefix.the-variants.{Past, Absent}
-
-abbrev pub pick : {A : Type 0} → Bool → A → A → A
-pick true a b = a
-pick false a b = b
 
 -- the bytes that end a field: a comma (44) and a line's end (10)
 abbrev pub ends : ℕ → Bool

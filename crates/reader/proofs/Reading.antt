@@ -15,7 +15,7 @@ use Rattle.ledger.specs.Checks.{any}
 use Rattle.tables.specs.declared.StepRow.{StepRow}
 use Rattle.tables.specs.Lines.{stepOf, putStepRow, stepsFrom}
 use Rattle.tables.proofs.StepRows.{length-put, steps-next}
-use Rattle.numbers.specs.Field.{pick}
+use Rattle.logic.specs.Choice.{pick}
 use Rattle.forms.specs.Line.{readLine}
 use Rattle.numbers.proofs.Then.{then-some, then-no}
 use Rattle.reader.proofs.Several.{prefixed, lines-begin, lines-end, lines-turn, lines-broken}

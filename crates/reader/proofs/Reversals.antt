@@ -15,7 +15,7 @@ use Rattle.request.specs.Request.{Step, stepIntervals, stepsIntervals}
 use Rattle.ledger.specs.Checks.{any}
 use Rattle.tables.specs.declared.StepRow.{StepRow}
 use Rattle.tables.specs.Lines.{makers, implies, stepOf}
-use Rattle.numbers.specs.Field.{pick}
+use Rattle.logic.specs.Choice.{pick}
 use Rattle.numbers.proofs.Then.{by-test, or-false, or-true}
 use Rattle.reader.specs.Booking.{turned}
 

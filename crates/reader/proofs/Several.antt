@@ -15,7 +15,7 @@ use Rattle.request.specs.Reader.{Reader, return, _>>=_, many, whole, ended, lin
 use Rattle.request.specs.Request.{Step, Request, book}
 use Rattle.request.specs.Read.{rest, holdLine, stepLine, booking}
 use Rattle.reader.specs.declared.Head.{Head}
-use Rattle.numbers.specs.Field.{pick}
+use Rattle.logic.specs.Choice.{pick}
 use Rattle.forms.specs.Line.{readLine}
 use Rattle.reader.specs.First.{bookingFrom}
 use Rattle.numbers.proofs.Then.{then-then, then-same, then-some, then-no, then-pair}

@@ -15,7 +15,7 @@ use Rattle.request.specs.Read.{holdLine, stepLine}
 use Rattle.ledger.specs.Checks.{any}
 use Rattle.tables.specs.declared.StepRow.{StepRow}
 use Rattle.tables.specs.Lines.{stepsFrom}
-use Rattle.numbers.specs.Field.{pick}
+use Rattle.logic.specs.Choice.{pick}
 use Rattle.forms.specs.Line.{readLine}
 use Rattle.reader.specs.First.{bookingFrom}
 use Rattle.reader.specs.declared.Head.{Head}

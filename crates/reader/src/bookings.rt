@@ -11,7 +11,7 @@ ghost use mathlib.Core.Path.{_≡_};
 ghost use Prim.Native.Nat.{_≤_};
 ghost use lib.ListN.{length, drop};
 ghost use Rattle.request.specs.Read.{holdLine, stepLine};
-ghost use Rattle.numbers.specs.Field.{pick};
+ghost use Rattle.logic.specs.Choice.{pick};
 ghost use Rattle.reader.specs.Booking.{LinesAsked, readLines, holdsOf, turned, allLines, StepsIs};
 
 // `count` hold lines from `at` on, and their serials in order.

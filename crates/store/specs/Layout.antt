@@ -24,7 +24,7 @@ use Rattle.steps.specs.declared.Row.{Row}
 use Rattle.ledger.specs.declared.Credential.{Credential}
 use Rattle.ledger.specs.Table.{rowOf}
 use Rattle.ledger.specs.Checks.{maxFormulas}
-use Rattle.store.specs.Tab.{pick}
+use Rattle.logic.specs.Choice.{pick}
 
 abbrev pub cells : ℕ
 cells = 3964

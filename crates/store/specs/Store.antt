@@ -22,7 +22,8 @@ use Rattle.ledger.proofs.Tables.{There}
 use Rattle.ledger.proofs.Bounds.{Bounded}
 use Rattle.store.specs.declared.Found.{Found}
 use Rattle.store.specs.declared.Found.the-variants.{At, Nothing}
-use Rattle.store.specs.Tab.{tab, pick}
+use Rattle.logic.specs.Choice.{pick}
+use Rattle.store.specs.Tab.{tab}
 use Rattle.store.specs.Layout.{cells, lineCount, liveCount, nextSerial, rowAt, sizeAt, plainAt, credentialAt}
 
 -- the line of a row, by its letter; 1 for any other letter

@@ -1,6 +1,5 @@
 -- A list made from a count and a function from the index.
 use mathlib.Core.List.{List, [], _∷_, _++_}
-use mathlib.Core.Bool.{Bool, true, false}
 use Prim.Native.Nat.{ℕ, zero, suc}
 use lib.ListN.{take, drop}
 
@@ -13,8 +12,3 @@ module _ {A : Type 0} where
   -- the list without what stands at i
   abbrev pub without : ℕ → List A → List A
   without i l = take i l ++ drop (suc i) l
-
-  -- the first where the test is true
-  abbrev pub pick : Bool → A → A → A
-  pick true x y = x
-  pick false x y = y

@@ -1,7 +1,7 @@
 -- One law for each way out of a call.
 use mathlib.Core.Path.{_≡_, refl, sym, ap, subst, _∙_}
 use mathlib.Core.List.{List, [], _∷_}
-use mathlib.Core.Option.{Option, none, some}
+use mathlib.Core.Option.{none, some}
 use mathlib.Core.Bool.{Bool, true, false, not, _||_}
 use Prim.Native.Nat.{ℕ, _-_, _≤_}
 use lib.Dec.{eqb, leb}
@@ -14,22 +14,22 @@ use Rattle.logic.specs.Interval.{span, reversed}
 use Rattle.request.specs.declared.Kind.{Kind}
 use Rattle.request.specs.declared.Kind.the-variants.{Linear, Unrestricted}
 use Rattle.request.specs.Range.{serial}
-use Rattle.request.specs.Request.{Line, Request, word, issue, withdraw, tally, lineIntervals, intervals}
+use Rattle.request.specs.Request.{Line, Request, issue, withdraw, tally, lineIntervals, intervals}
 use Rattle.steps.specs.declared.Row.{Row}
+use Rattle.numbers.proofs.Then.{or-false}
 use Rattle.ledger.specs.declared.Credential.{Credential}
 use Rattle.ledger.specs.declared.Answer.{Answer}
 use Rattle.ledger.specs.declared.Answer.the-variants.{Accepted, Counted, Refused}
-use Rattle.ledger.specs.Ledger.{Ledger, formula, find, withoutSerial, isNone}
+use Rattle.ledger.specs.Ledger.{Ledger, formula, withoutSerial, isNone}
 use Rattle.ledger.specs.Checks.{_if_, any, maxLive, missing, noRoom, usedUp, checks, readChecks}
-use Rattle.ledger.specs.Calls.{Reply, openSeats, shutSeats, withLive, withCredential, accept, handle}
+use Rattle.ledger.specs.Calls.{Reply, openSeats, shutSeats, withLive, withCredential, accept}
 use Rattle.ledger.specs.Statements.{Pass, FirstFails}
 use Rattle.ledger.proofs.Credentials.{take-out}
 use Rattle.ledger.proofs.Firsts.{if-false, if-true, skip, hit, handle-fails, handle-passes}
-use Rattle.store.specs.declared.Found.{Found}
 use Rattle.store.specs.declared.Found.the-variants.{At, Nothing}
 use Rattle.store.specs.Layout.{credentialAt}
 use Rattle.store.specs.Store.{lineOf, ledgerOf, Good, StandsFor, Givable, Finds}
-use Rattle.store.specs.Tab.{pick}
+use Rattle.logic.specs.Choice.{pick}
 use Rattle.figures.specs.declared.Figures.{Figures}
 use Rattle.figures.specs.Figures.{Tallied}
 use Rattle.till.specs.declared.tests.Verdict.{Verdict}
@@ -179,10 +179,6 @@ pub by-verdict : {v w : Verdict} {b : Bool} → fails v ≡ b → v ≡ w → b 
 by-verdict e g = sym e ∙ ap fails g
 
 -- Word
-
-or-false : (b : Bool) → (b || false) ≡ b
-or-false true = refl
-or-false false = refl
 
 -- the intervals of a row's line: of `h` and `g` alone
 pub at-ordered : (x : Row) → x .letter ≡ code "h"
