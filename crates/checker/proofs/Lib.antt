@@ -1,2 +1,3 @@
 pub mod Beginnings
+pub mod Flats
 pub mod Outcomes

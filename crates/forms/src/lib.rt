@@ -1,7 +1,7 @@
 // Lines of a request (document 01: a sheet), read by positions: formula lines, hold lines, step lines. This file has
 // the types of the answers.
 pub mod formulas;
-pub mod holds;
+pub mod hold_lines;
 pub mod rows;
 
 use logic::Interval;

@@ -3,7 +3,7 @@ use crate::HoldsRead;
 use crate::StepsRead;
 use forms::HoldLine;
 use forms::StepLine;
-use forms::holds::read_hold;
+use forms::hold_lines::read_hold;
 use forms::rows::read_step;
 use tables::StepRow;
 use tables::lines::put_step;

@@ -5,8 +5,8 @@ use Rattle.request.specs.Text.{bytes}
 use Rattle.numbers.specs.Field.{decimalOf, pastOf}
 use Rattle.numbers.proofs.Then.{told}
 use Rattle.forms.proofs.Ops.{hold-found, hold-none}
-use Rattle.forms.proofs.holds.read_hold.Statement.{statement}
-use Rattle.forms.proofs.holds.read_hold.Tie as tie
+use Rattle.forms.proofs.hold_lines.read_hold.Statement.{statement}
+use Rattle.forms.proofs.hold_lines.read_hold.Tie as tie
 
 pub read-hold-spec : {M : Type 1} → statement M
 unfolding bytes
