@@ -1,0 +1,69 @@
+/* Plays the sheets of standard input through the static library and prints the answers as tillrun does; then counts
+ * again: at each of some minutes, for every session, open + shut + placed + withdrawn = issued, the last two counted from
+ * the accepted sheets and their answers alone. Exit status 1 where a sum does not hold. */
+#include "oysterbrim.h"
+#include "recount.h"
+#include <stdio.h>
+#include <stdlib.h>
+#include <string.h>
+
+static const unsigned minutes[] = {0, 9, 540, 600, 5000, LAST_MINUTE};
+
+static uint32_t till[TILL_NUMBERS], scratch[TILL_SCRATCH];
+static struct History *history;
+
+/* All of standard input, in memory; the count of its bytes. */
+static size_t read_all(uint8_t **bytes) {
+    size_t count = 0, room = 1 << 16, got;
+    *bytes = malloc(room);
+    while (*bytes && (got = fread(*bytes + count, 1, room - count, stdin)) > 0) {
+        count += got;
+        if (count == room) *bytes = realloc(*bytes, room *= 2);
+    }
+    if (!*bytes) exit(2);
+    return count;
+}
+
+static void play(const uint8_t *sheet, size_t length) {
+    uint32_t answer[4];
+    till_call(till, sheet, length, scratch, answer);
+    history_note(history, sheet, length, answer);
+    if (answer[0] == 0) {
+        printf("no,%u,%u\n", answer[1], answer[2]);
+    } else if (answer[0] == 1) {
+        printf("ok,%u\n", answer[1]);
+    } else {
+        printf("ok,%u,%u,%u\n", answer[1], answer[2], answer[3]);
+    }
+}
+
+/* Whether the sum of a session at a minute holds. */
+static int holds(unsigned session, unsigned minute) {
+    char sheet[40];
+    uint32_t answer[4];
+    int length = snprintf(sheet, sizeof sheet, "tally,%u,%u\n", session, minute);
+    till_call(till, (const uint8_t *)sheet, (size_t)length, scratch, answer);
+    uint32_t sum = answer[1] + answer[2] + answer[3] + history->withdrawn[session];
+    if (answer[0] == 3 && sum == history->issued[session]) return 1;
+    fprintf(stderr, "session %u, minute %u: the sum is %u, issued %u\n", session, minute, sum, history->issued[session]);
+    return 0;
+}
+
+int main(void) {
+    uint8_t *bytes;
+    size_t count = read_all(&bytes), from = 0;
+    int good = 1;
+    if (!(history = history_new())) return 2;
+    till_start(till);
+    for (size_t i = 0; i < count; i++) { /* a byte 10 where a line begins ends a sheet */
+        if (bytes[i] != '\n' || (i > from && bytes[i - 1] != '\n')) continue;
+        play(bytes + from, i - from);
+        from = i + 1;
+    }
+    if (from < count) play(bytes + from, count - from);
+    for (size_t m = 0; m < sizeof minutes / sizeof *minutes; m++) {
+        for (unsigned session = 0; session < SESSIONS; session++) good &= holds(session, minutes[m]);
+    }
+    if (history->unread) fprintf(stderr, "%u accepted sheets cannot be read\n", history->unread);
+    return good && !history->unread ? 0 : 1;
+}
