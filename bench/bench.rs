@@ -1,6 +1,8 @@
 //! Times the C entry beside the reference program, both in this process, on the same sheets in turn.
 //! `bench NAME=FILE[:WORD]..`: a file has sheets as `tillrun` reads them; those before a line `---` are played untimed, and
-//! with a word only the sheets that begin with it are timed. Times and instructions are of the calls alone.
+//! with a word only the sheets that begin with it are timed. Times are of the calls alone.
+//! `bench --once NAME=FILE[:WORD]` plays a list once on each side and prints how many sheets are timed; these go through
+//! `timed_proved` and `timed_reference`, where a counter of instructions can be switched on.
 
 #[path = "../tests/reference/till.rs"]
 mod till;
@@ -11,14 +13,12 @@ use till::{Answer, Till};
 extern "C" {
     fn till_start(till: *mut u32);
     fn till_call(till: *mut u32, sheet: *const u8, length: usize, scratch: *mut u32, answer: *mut u32);
-    fn syscall(number: i64, ...) -> i64;
-    fn read(fd: i32, buffer: *mut u64, count: usize) -> isize;
 }
 
 /// The number of turns, of which each side's fastest counts.
 const TURNS: usize = 21;
 /// How long one turn of one side lasts, about.
-const TURN: Duration = Duration::from_millis(8);
+const TURN: Duration = Duration::from_millis(10);
 
 /// A list of sheets from an empty till, and which of them are timed.
 struct List {
@@ -27,39 +27,69 @@ struct List {
     timed: Vec<bool>,
 }
 
-/// A reading of a clock, or of the counter of instructions.
-trait Meter {
-    fn now(&self) -> u64;
-}
-
-struct Clock(Instant);
-
-impl Meter for Clock {
-    fn now(&self) -> u64 {
-        self.0.elapsed().as_nanos() as u64
+impl List {
+    fn timed(&self) -> u64 {
+        self.timed.iter().filter(|timed| **timed).count() as u64
     }
 }
 
-/// Instructions of this process outside the kernel, where the machine counts them.
-struct Counter(i32);
+/// One of the two programs, with its till.
+trait Side {
+    fn start(&mut self);
+    fn call(&mut self, sheet: &[u8]) -> [u32; 4];
+    /// The same call, by another way, so that it can be told from those that are not timed.
+    fn timed(&mut self, sheet: &[u8]) -> [u32; 4];
+}
 
-impl Counter {
-    fn open() -> Option<Counter> {
-        let mut attributes = [0u64; 14];
-        attributes[0] = 112 << 32; // hardware, size
-        attributes[1] = 1; // instructions
-        attributes[5] = 1 << 5 | 1 << 6; // not the kernel's, not the hypervisor's
-        let fd = unsafe { syscall(298, attributes.as_ptr(), 0, -1, -1, 0) };
-        (fd >= 0).then_some(Counter(fd as i32))
+struct Proved {
+    block: [u32; 7548],
+    scratch: [u32; 1536],
+}
+
+impl Side for Proved {
+    fn start(&mut self) {
+        unsafe { till_start(self.block.as_mut_ptr()) }
+    }
+
+    fn call(&mut self, sheet: &[u8]) -> [u32; 4] {
+        let (mut answer, at, length) = ([0; 4], sheet.as_ptr(), sheet.len());
+        unsafe { till_call(self.block.as_mut_ptr(), at, length, self.scratch.as_mut_ptr(), answer.as_mut_ptr()) };
+        answer
+    }
+
+    fn timed(&mut self, sheet: &[u8]) -> [u32; 4] {
+        timed_proved(self, sheet)
     }
 }
 
-impl Meter for Counter {
-    fn now(&self) -> u64 {
-        let mut count = 0;
-        unsafe { read(self.0, &mut count, 8) };
-        count
+impl Side for Till {
+    fn start(&mut self) {
+        *self = Till::new();
     }
+
+    fn call(&mut self, sheet: &[u8]) -> [u32; 4] {
+        match Till::call(self, sheet) {
+            Answer::Done(n) => [1, n, 0, 0],
+            Answer::Counted(open, shut, placed) => [3, open, shut, placed],
+            Answer::Refused(number, step) => [0, number, step, 0],
+        }
+    }
+
+    fn timed(&mut self, sheet: &[u8]) -> [u32; 4] {
+        timed_reference(self, sheet)
+    }
+}
+
+#[inline(never)]
+#[no_mangle]
+fn timed_proved(side: &mut Proved, sheet: &[u8]) -> [u32; 4] {
+    side.call(sheet)
+}
+
+#[inline(never)]
+#[no_mangle]
+fn timed_reference(side: &mut Till, sheet: &[u8]) -> [u32; 4] {
+    Side::call(side, sheet)
 }
 
 /// The sheets of an input, as the paper parts them, and how many stand before the line `---`.
@@ -78,100 +108,77 @@ fn sheets(input: &[u8]) -> (Vec<Vec<u8>>, usize) {
     (all, before)
 }
 
-/// One play of a list by the proved code: what the meter says of the timed calls, and what was answered.
-fn proved(list: &List, meter: &dyn Meter, out: &mut Vec<[u32; 4]>) -> u64 {
-    let (mut block, mut scratch, mut sum) = ([0u32; 3964], [0u32; 1536], 0);
-    out.clear();
-    unsafe { till_start(block.as_mut_ptr()) };
-    for (sheet, timed) in list.sheets.iter().zip(&list.timed) {
-        let mut answer = [0u32; 4];
-        let (at, length) = (sheet.as_ptr(), sheet.len());
-        let begin = meter.now();
-        unsafe { till_call(block.as_mut_ptr(), at, length, scratch.as_mut_ptr(), answer.as_mut_ptr()) };
-        let took = meter.now() - begin;
-        sum += if *timed { took } else { 0 };
-        out.push(answer);
-    }
-    sum
+/// A list of the command line, `NAME=FILE[:WORD]`.
+fn list(word: &str) -> List {
+    let (name, rest) = word.split_once('=').expect("NAME=FILE[:WORD]");
+    let (file, begins) = rest.split_once(':').unwrap_or((rest, ""));
+    let (sheets, before) = sheets(&std::fs::read(file).expect("a file of sheets"));
+    let timed = sheets.iter().enumerate().map(|(n, s)| n >= before && s.starts_with(begins.as_bytes())).collect();
+    List { name: name.to_string(), sheets, timed }
 }
 
-/// The same by the reference program.
-fn reference(list: &List, meter: &dyn Meter, till: &mut Till, out: &mut Vec<[u32; 4]>) -> u64 {
+/// One play of a list: the nanoseconds of the timed calls, and what was answered.
+fn play(list: &List, side: &mut impl Side, out: &mut Vec<[u32; 4]>) -> u64 {
     let mut sum = 0;
     out.clear();
-    *till = Till::new();
+    side.start();
     for (sheet, timed) in list.sheets.iter().zip(&list.timed) {
-        let begin = meter.now();
-        let answer = till.call(sheet);
-        let took = meter.now() - begin;
-        sum += if *timed { took } else { 0 };
-        out.push(match answer {
-            Answer::Done(n) => [1, n, 0, 0],
-            Answer::Counted(open, shut, placed) => [3, open, shut, placed],
-            Answer::Refused(number, step) => [0, number, step, 0],
+        out.push(if *timed {
+            let begin = Instant::now();
+            let answer = side.timed(sheet);
+            sum += begin.elapsed().as_nanos() as u64;
+            answer
+        } else {
+            side.call(sheet)
         });
     }
     sum
 }
 
-/// What a meter says of nothing.
-fn nothing(meter: &dyn Meter) -> u64 {
-    (0..1000).map(|_| meter.now()).zip((0..1000).map(|_| meter.now())).count();
-    let mut least = u64::MAX;
-    for _ in 0..1000 {
-        let begin = meter.now();
-        least = least.min(meter.now() - begin);
-    }
-    least
+/// What the clock says of nothing.
+fn nothing() -> u64 {
+    (0..10_000).map(|_| Instant::now().elapsed().as_nanos() as u64).min().unwrap_or(0)
 }
 
-/// Both sides in turn by a meter, the least of each, without what the meter says of nothing.
-fn measure(list: &List, meter: &dyn Meter, till: &mut Till, turns: usize, plays: u64) -> (f64, f64) {
+/// Nanoseconds of a timed call on either side, in turn, the least of each.
+fn measure(list: &List, proved: &mut Proved, reference: &mut Till) -> (f64, f64) {
     let (mut ours, mut theirs, mut best, mut best_theirs) = (vec![], vec![], u64::MAX, u64::MAX);
-    for _ in 0..turns {
-        best = best.min((0..plays).map(|_| proved(list, meter, &mut ours)).sum::<u64>());
-        best_theirs = best_theirs.min((0..plays).map(|_| reference(list, meter, till, &mut theirs)).sum::<u64>());
+    let begin = Instant::now();
+    play(list, reference, &mut theirs);
+    let plays = 1 + (TURN.as_nanos() / (1 + begin.elapsed().as_nanos())) as u64;
+    for _ in 0..TURNS {
+        best = best.min((0..plays).map(|_| play(list, proved, &mut ours)).sum());
+        best_theirs = best_theirs.min((0..plays).map(|_| play(list, reference, &mut theirs)).sum());
         assert!(ours == theirs, "{}: the answers differ", list.name);
     }
-    let timed = list.timed.iter().filter(|t| **t).count() as u64;
-    let less = nothing(meter) * timed * plays;
-    let each = |n: u64| n.saturating_sub(less) as f64 / (timed * plays) as f64;
+    let calls = list.timed() * plays;
+    let each = |n: u64| n.saturating_sub(nothing() * calls) as f64 / calls as f64;
     (each(best), each(best_theirs))
 }
 
-fn line(list: &List, till: &mut Till, counter: Option<&Counter>) -> (f64, f64) {
-    let clock = Clock(Instant::now());
-    let once = reference(list, &clock, till, &mut vec![]);
-    let plays = 1 + TURN.as_nanos() as u64 / (1 + once);
-    let (ours, theirs) = measure(list, &clock, till, TURNS, plays);
-    let timed = list.timed.iter().filter(|t| **t).count();
-    print!("{:26} {timed:5} sheets {ours:8.0} ns {theirs:8.0} ns  ratio {:4.2}", list.name, ours / theirs);
-    if let Some(counter) = counter {
-        let (ours, theirs) = measure(list, counter, till, 3, 1);
-        print!("   {ours:8.0} {theirs:8.0} instructions, {:4.2}", ours / theirs);
-    }
-    println!();
-    (ours * timed as f64, theirs * timed as f64)
-}
-
 fn main() {
-    let mut till = Box::new(Till::new());
-    let counter = Counter::open();
-    let (mut ours, mut theirs) = (0.0, 0.0);
-    println!("a call through the C entry, the reference program, their ratio");
-    for word in std::env::args().skip(1) {
-        let (name, rest) = word.split_once('=').expect("NAME=FILE[:WORD]");
-        let (file, begins) = rest.split_once(':').unwrap_or((rest, ""));
-        let (all, before) = sheets(&std::fs::read(file).expect("a file of sheets"));
-        let timed = all.iter().enumerate().map(|(n, s)| n >= before && s.starts_with(begins.as_bytes())).collect();
-        let list = List { name: name.to_string(), sheets: all, timed };
-        let (a, b) = line(&list, &mut till, counter.as_ref());
-        if name.starts_with("mix") {
-            ours += a;
-            theirs += b;
+    let mut proved = Box::new(Proved { block: [0; 7548], scratch: [0; 1536] });
+    let mut reference = Box::new(Till::new());
+    let words: Vec<String> = std::env::args().skip(1).collect();
+    if words[0] == "--once" {
+        let list = list(&words[1]);
+        play(&list, &mut *proved, &mut vec![]);
+        play(&list, &mut *reference, &mut vec![]);
+        println!("{}", list.timed());
+        return;
+    }
+    let (mut mix, mut mix_theirs) = (0.0, 0.0);
+    for word in words {
+        let list = list(&word);
+        let (ours, theirs) = measure(&list, &mut proved, &mut reference);
+        if list.name.starts_with("mix") {
+            mix += ours * list.timed() as f64;
+            mix_theirs += theirs * list.timed() as f64;
+        } else {
+            println!("{:22} {:5} sheets {ours:7.0} ns {theirs:7.0} ns  ratio {:4.2}", list.name, list.timed(), ours / theirs);
         }
     }
-    if theirs > 0.0 {
-        println!("the mix together: ratio {:.2}", ours / theirs);
+    if mix_theirs > 0.0 {
+        println!("{:22} ratio {:4.2}", "mix", mix / mix_theirs);
     }
 }

@@ -26,11 +26,14 @@ def m1():
 
 
 def full_till():
-    """512 coupons live; then one is withdrawn and one issued, in turns, all over the till."""
+    """512 coupons live; then one is withdrawn and one issued, in turns, all over the till, until each has changed often."""
     begin = words(M1) + ["issue,s,0,0,9"] * 512
+    live = list(range(1, 513))
     turns = []
-    for n in range(256):
-        turns += [f"withdraw,{1 + (n * 173) % 512}", "issue,s,0,0,9"]
+    for n in range(2048):
+        k = (n * 173) % 512
+        turns += [f"withdraw,{live[k]}", "issue,s,0,0,9"]
+        live[k] = 513 + n
     return begin, turns
 
 
@@ -48,39 +51,41 @@ def booked_15():
     return begin, [book("540,5,540,600", [1, 2 + 2 * n, 3 + 2 * n], M1_STEPS) for n in range(100)]
 
 
-def booked_255():
-    """A goal under 63 affirmations, by way of an offer whose part is under 61 of them; accepted in 255 steps."""
+def booked_256():
+    """A goal under 63 affirmations, by way of an offer whose part is under 61 of them; accepted in 256 steps."""
     begin = words(["a,1,7"] + [f"s,1,{n}" for n in range(63)] + ["o"] + [f"s,1,{n}" for n in range(64, 125)])
-    begin += words(["l,125,64"]) + ["issue,r,126,0,9", "issue,r,64,0,9"] + ["issue,s,0,0,9"] * 40
-    steps = ["sr", "af"] * 63 + ["cp,0", "cp,1", "ol,4", "ll,3,0000000000000000,0,9"] + ["sr", "af"] * 61
-    steps += ["or", "ol,5", "ax,2"]
+    begin += words(["l,125,64", "h,64,0,9"]) + ["issue,r,126,0,9", "issue,r,127,0,9"] + ["issue,s,0,0,9"] * 40
+    steps = ["sr", "af"] * 63 + ["cp,0", "cp,1", "hl,4", "ol,5", "ll,3,0000000000000000,0,9"] + ["sr", "af"] * 61
+    steps += ["or", "ol,6", "ax,2"]
     return begin, [book("5,63,0,9", [1, 2, 3 + n], steps) for n in range(40)]
 
 
 def refused():
-    """Sheets that get 1, 2, 3, 10, 13, 20, 21, 24, 30, 31, 40, 41 and 42 of a till with M1's coupons."""
+    """For each refusal sheets that get it; all but 14, 22 and 23 of a till with M1's coupons."""
     begin = words(M1 + ["t,5,5", "l,3,8"]) + ["issue,r,7,0,9999"] + ["issue,s,3,0,600", "issue,s,4,0,600"]
-    good = list(M1_STEPS)
-    head = "540,5,540,600"
-    bad = [
-        "x" * 16384,  # with its line end 16,385 bytes: 1
-        "word,a,01,7",
-        book(head, [1, 2, 3], good[:-1] + ["ax,64"]),
-        "issue,s,3,9,8",
-        "issue,s,99,0,9",
-        "word,a,1,7",
-        "issue,s,7,0,9",
-        "issue,r,9,0,9",
-        "withdraw,99",
-        book("539,5,540,600", [1, 2, 3], good),
-        book(head, [1, 2, 9], good),
-        book(head, [1, 2, 2], good),
-        book(head, [1, 2, 3], good[:2] + ["tr,0000000000000006"] + good[3:]),
-        book(head, [1, 2, 3], ["cp,0"] * 70),
-        book(head, [1, 2, 3], good[:-1]),
-        book(head, [1, 2, 3], good + ["or"]),
-    ]
-    return begin, bad * 10
+    head, good = "540,5,540,600", list(M1_STEPS)
+    sizes = words(["a,1,7", "t,0,0", "t,1,1", "t,2,2", "t,3,3", "t,4,4"])
+    all_words = words([f"a,{1 + n % 3},{n // 3}" for n in range(200)])
+    atom = words(["a,1,7"])
+    return {
+        1: (begin, ["x" * 16384]),  # with its line end 16,385 bytes
+        2: (begin, ["word,a,01,7", book(head, [1, 2, 3], good[:-1] + ["ax,64"]), "issue,s,99,0", "", "tally,1,1,1"]),
+        3: (begin, ["issue,s,3,9,8", book(head, [1, 2, 3], ["ul,3,9,8"] + good)]),
+        10: (begin, ["issue,s,99,0,9", "word,t,0,99", book("540,99,540,600", [1, 2, 3], good)]),
+        12: (sizes, ["word,t,5,5"]),
+        13: (begin, ["word,a,1,7", "word,l,6,5"]),
+        14: (all_words, ["word,o"]),
+        20: (begin, ["issue,s,7,0,9", book("540,7,540,600", [1, 2, 3], good)]),
+        21: (begin, ["issue,r,9,0,9"]),
+        22: (atom + ["issue,s,0,0,9"] * 512, ["issue,s,0,0,9"]),
+        23: (atom + [s for n in range(999999) for s in ("issue,s,0,0,9", f"withdraw,{n + 1}")], ["issue,s,0,0,9"]),
+        24: (begin, ["withdraw,99", book(head, [1, 2, 9], good)]),
+        30: (begin, [book("539,5,540,600", [1, 2, 3], good)]),
+        31: (begin, [book(head, [1, 2, 2], good)]),
+        40: (begin, [book(head, [1, 2, 3], good[:2] + ["tr,0000000000000006"] + good[3:])]),
+        41: (begin, [book(head, [1, 2, 3], ["cp,0"] * 70)]),
+        42: (begin, [book(head, [1, 2, 3], good[:-1]), book(head, [1, 2, 3], good + ["or"])]),
+    }
 
 
 LISTS = {
@@ -88,16 +93,16 @@ LISTS = {
     "full_till": full_till,
     "tallies": tallies,
     "bookings_15_steps": booked_15,
-    "bookings_255_steps": booked_255,
-    "refused": refused,
+    "bookings_256_steps": booked_256,
 }
 
 
 def main():
     folder = sys.argv[1]
     os.makedirs(folder, exist_ok=True)
-    for name, make in LISTS.items():
-        begin, timed = make()
+    lists = {name: make() for name, make in LISTS.items()}
+    lists |= {f"refused_{number}": (begin, bad * 100) for number, (begin, bad) in refused().items()}
+    for name, (begin, timed) in lists.items():
         with open(os.path.join(folder, name), "w", encoding="ascii") as out:
             out.write("".join(sheet + "\n\n" for sheet in begin) + "---\n")
             out.write("".join(sheet + "\n\n" for sheet in timed))
