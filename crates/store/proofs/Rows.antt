@@ -1,12 +1,14 @@
 -- What each store of numbers does to what can be read: the laws by which the other proofs go, so that none of them sees
 -- an offset. The formula rows and the credential rows do not meet: work on the one leaves the other.
-use mathlib.Core.Path.{_≡_, refl, _∙_}
+use mathlib.Core.Path.{_≡_, refl, ap, _∙_}
 use mathlib.Core.List.{List}
-use mathlib.Core.Bool.{Bool}
+use mathlib.Core.Bool.{Bool, true, false}
+use mathlib.Core.Option.{none, some}
 use Prim.Native.Nat.{ℕ, _+_, _*_, _≤_, _<_}
 use native.Mathlib.Omega.{arith}
 use native.Mathlib.Decide.{decLt}
 use borrow.Author.Tests.{lt-ltb, le-ltb}
+use lib.Dec.{eqb}
 use lib.ListN.{length, getD, set, length-set}
 use lib.Seq.{getD-set-same, getD-set-other}
 use Rattle.request.specs.declared.Kind.{Kind}
@@ -15,9 +17,10 @@ use Rattle.request.specs.Request.{Line}
 use Rattle.steps.specs.declared.Row.{Row}
 use Rattle.ledger.specs.declared.Credential.{Credential}
 use Rattle.ledger.specs.Table.{rowOf}
-use Rattle.store.specs.Layout.{cells, cell, lineCount, liveCount, nextSerial, rowFrom, lineCell, rowAt, sizeAt}
-use Rattle.store.specs.Layout.{plainAt, lineCells, putLine, kindFrom, kindNumber, credentialFrom, credentialAt}
-use Rattle.store.specs.Layout.{credentialCells, putCredential}
+use Rattle.store.specs.Layout.{cells, maxRows, cell, lineCount, liveCount, nextSerial, rowCount, rowFrom}
+use Rattle.store.specs.Layout.{lineCell, rowAt, sizeAt, plainAt, lineCells, putLine, kindFrom, kindNumber}
+use Rattle.store.specs.Layout.{credentialFrom, credentialAt, gapAt, entryAt, credentialCells, putCredential}
+use Rattle.store.specs.Layout.{putGap}
 use Rattle.store.proofs.Cells.{length-putRow, row-same, row-other, put-below, put-above}
 
 -- a row is known by its cells
@@ -41,6 +44,10 @@ credential-ext g h e j = record {
 kind-number : (k : Kind) → kindFrom (kindNumber k) ≡ k
 kind-number Linear = refl
 kind-number Unrestricted = refl
+
+kind-stands : (k : Kind) → eqb (kindNumber k) 2 ≡ false
+kind-stands Linear = refl
+kind-stands Unrestricted = refl
 
 -- the row of a number that names a formula
 pub row-below : (l : List ℕ) (n : ℕ) → n < lineCount l → n < 200 → rowAt l n ≡ rowFrom (lineCell l n)
@@ -90,16 +97,42 @@ module _ (l m : List ℕ) (s : SameLines l m) where
   unfolding plainAt
   same-plain n h = same-cell n 6 h (omega arith)
 
--- m has l's credential rows, their count and the next serial: all that no work on formulas changes
+-- row i of the credentials stands in m as in l
+abbrev pub Stays : List ℕ → List ℕ → ℕ → Type 0
+Stays l m i = (f : ℕ) → f < 5 → cell m 1404 5 i f ≡ cell l 1404 5 i f
+
+module _ (l m : List ℕ) (i : ℕ) (s : Stays l m i) where
+  pub stays-credential : credentialAt m i ≡ credentialAt l i
+  unfolding credentialAt
+  stays-credential = credential-ext (cell m 1404 5 i) (cell l 1404 5 i) s
+
+  pub stays-gap : gapAt m i ≡ gapAt l i
+  unfolding gapAt
+  stays-gap = ap (λ (n : ℕ). eqb n 2) (s 1 (omega arith))
+
+  pub stays-entry : entryAt m i ≡ entryAt l i
+  unfolding entryAt
+  stays-entry = rw (stays-gap, stays-credential)
+
+  pub stays-serial : credentialAt m i .serial ≡ credentialAt l i .serial
+  stays-serial = ap (λ (c : Credential). c .serial) stays-credential
+
+module _ (l : List ℕ) (i : ℕ) where
+  pub entry-gap : gapAt l i ≡ true → entryAt l i ≡ none
+  unfolding entryAt
+  entry-gap e = rw e
+
+  pub entry-there : gapAt l i ≡ false → entryAt l i ≡ some (credentialAt l i)
+  unfolding entryAt
+  entry-there e = rw e
+
+-- m has l's credential rows, their counts and the next serial: all that no work on formulas changes
 pub record SameLive (l m : List ℕ) : Type 0 where
   pub long : length m ≡ cells
   pub count : liveCount m ≡ liveCount l
   pub next : nextSerial m ≡ nextSerial l
-  pub rows : (k : ℕ) → 1404 ≤ k → getD m k 0 ≡ getD l k 0
-
-pub same-credential : (l m : List ℕ) → SameLive l m → (i : ℕ) → credentialAt m i ≡ credentialAt l i
-unfolding credentialAt cell
-same-credential l m s i = credential-ext _ _ (λ f q. s .rows (1404 + i * 5 + f) (omega arith))
+  pub used : rowCount m ≡ rowCount l
+  pub rows : (i : ℕ) → i < maxRows → Stays l m i
 
 -- One of the numbers before the tables is put.
 module _ (l m : List ℕ) (h v : ℕ) where
@@ -110,27 +143,28 @@ module _ (l m : List ℕ) (h v : ℕ) where
     rows = λ k a b. getD-set-other m h k v 0 (omega arith) ∙ s .rows k a b;
   }
 
-pub count-live : (l m : List ℕ) (v : ℕ) → SameLive l m → SameLive l (set m 0 v)
-count-live l m v s = record {
-  long = length-set m 0 v ∙ s .long;
-  count = getD-set-other m 0 1 v 0 (omega arith) ∙ s .count;
-  next = getD-set-other m 0 2 v 0 (omega arith) ∙ s .next;
-  rows = λ k q. getD-set-other m 0 k v 0 (omega arith) ∙ s .rows k q;
-}
-
 pub head-same : (m : List ℕ) (h v : ℕ) → length m ≡ cells → h < 4 → getD (set m h v) h 0 ≡ v
 head-same m h v e q = getD-set-same m h v 0 (omega arith)
 
 pub head-other : (m : List ℕ) (h v k : ℕ) → (k ≡ h → ⊥) → getD (set m h v) k 0 ≡ getD m k 0
 head-other m h v k n = getD-set-other m h k v 0 n
 
-pub head-credential : (m : List ℕ) (h v i : ℕ) → h < 4 → credentialAt (set m h v) i ≡ credentialAt m i
-unfolding credentialAt cell
-head-credential m h v i q = credential-ext _ _ (λ f p. getD-set-other m h (1404 + i * 5 + f) v 0 (omega arith))
+pub head-stays : (m : List ℕ) (h v i : ℕ) → h < 4 → Stays m (set m h v) i
+unfolding cell
+head-stays m h v i q f p = getD-set-other m h (1404 + i * 5 + f) v 0 (omega arith)
 
 pub head-line : (m : List ℕ) (h v i f : ℕ) → h < 4 → lineCell (set m h v) i f ≡ lineCell m i f
 unfolding lineCell cell
 head-line m h v i f q = getD-set-other m h (4 + i * 7 + f) v 0 (omega arith)
+
+pub count-live : (l m : List ℕ) (v : ℕ) → SameLive l m → SameLive l (set m 0 v)
+count-live l m v s = record {
+  long = length-set m 0 v ∙ s .long;
+  count = head-other m 0 v 1 (omega arith) ∙ s .count;
+  next = head-other m 0 v 2 (omega arith) ∙ s .next;
+  used = head-other m 0 v 3 (omega arith) ∙ s .used;
+  rows = λ i q f p. head-stays m 0 v i (omega arith) f p ∙ s .rows i q f p;
+}
 
 -- A formula row is put.
 module _ (m : List ℕ) (i : ℕ) (r : Row) (s : ℕ) (p : Bool) where
@@ -148,26 +182,35 @@ module _ (m : List ℕ) (i : ℕ) (r : Row) (s : ℕ) (p : Bool) where
   line-before k h = put-below m 4 7 i (lineCells r s p) k h
 
   pub line-live : length m ≡ cells → i < 200 → SameLive m (putLine m i r s p)
-  unfolding putLine
+  unfolding putLine cell
   line-live n h = record {
     long = length-putRow m 4 7 i (lineCells r s p) ∙ n;
     count = line-before 1 (omega arith);
     next = line-before 2 (omega arith);
-    rows = λ k q. put-above m 4 7 i (lineCells r s p) k (omega arith);
+    used = line-before 3 (omega arith);
+    rows = λ k a f b. put-above m 4 7 i (lineCells r s p) (1404 + k * 5 + f) (omega arith);
   }
 
 -- A credential is put.
 module _ (m : List ℕ) (i : ℕ) (c : Credential) where
-  pub credential-same : length m ≡ cells → i < 512 → credentialAt (putCredential m i c) i ≡ c
-  unfolding credentialAt putCredential
-  credential-same n h =
-      credential-ext _ (λ f. getD (credentialCells c) f 0)
-      (λ f q. row-same m 1404 5 i (credentialCells c) f (omega arith) (omega arith))
-      ∙ rw (kind-number (c .kind))
+  module _ (n : length m ≡ cells) (h : i < maxRows) where
+    put-cell : (f : ℕ) → f < 5 → cell (putCredential m i c) 1404 5 i f ≡ getD (credentialCells c) f 0
+    unfolding putCredential
+    put-cell f q = row-same m 1404 5 i (credentialCells c) f (omega arith) (omega arith)
 
-  pub credential-other : (k : ℕ) → (k ≡ i → ⊥) → credentialAt (putCredential m i c) k ≡ credentialAt m k
-  unfolding credentialAt putCredential
-  credential-other k h = credential-ext _ _ (λ f q. row-other m 1404 5 i (credentialCells c) refl k f h q)
+    pub credential-same : credentialAt (putCredential m i c) i ≡ c
+    unfolding credentialAt
+    credential-same =
+        credential-ext (cell (putCredential m i c) 1404 5 i) (λ f. getD (credentialCells c) f 0) put-cell
+        ∙ rw (kind-number (c .kind))
+
+    pub credential-there : gapAt (putCredential m i c) i ≡ false
+    unfolding gapAt
+    credential-there = ap (λ (n : ℕ). eqb n 2) (put-cell 1 (omega arith)) ∙ kind-stands (c .kind)
+
+  pub credential-stays : (k : ℕ) → (k ≡ i → ⊥) → Stays m (putCredential m i c) k
+  unfolding putCredential
+  credential-stays k h f q = row-other m 1404 5 i (credentialCells c) refl k f h q
 
   pub credential-before : (k : ℕ) → k < 1404 → getD (putCredential m i c) k 0 ≡ getD m k 0
   unfolding putCredential
@@ -182,4 +225,30 @@ module _ (m : List ℕ) (i : ℕ) (c : Credential) where
     long = credential-long ∙ s .long;
     count = credential-before 0 (omega arith) ∙ s .count;
     rows = λ k a b. credential-before k b ∙ s .rows k a b;
+  }
+
+-- A credential leaves: its serial and the other rows stay.
+module _ (m : List ℕ) (i : ℕ) where
+  pub gap-here : length m ≡ cells → i < maxRows → gapAt (putGap m i) i ≡ true
+  unfolding gapAt putGap cell
+  gap-here n h = ap (λ (x : ℕ). eqb x 2) (getD-set-same m (1404 + i * 5 + 1) 2 0 (omega arith))
+
+  pub gap-stays : (k : ℕ) → (k ≡ i → ⊥) → Stays m (putGap m i) k
+  unfolding putGap cell
+  gap-stays k h f q = getD-set-other m (1404 + i * 5 + 1) (1404 + k * 5 + f) 2 0 (omega arith)
+
+  pub gap-serial : (k : ℕ) → credentialAt (putGap m i) k .serial ≡ credentialAt m k .serial
+  unfolding credentialAt putGap cell
+  gap-serial k = getD-set-other m (1404 + i * 5 + 1) (1404 + k * 5 + 0) 2 0 (omega arith)
+
+  pub gap-before : (k : ℕ) → k < 1404 → getD (putGap m i) k 0 ≡ getD m k 0
+  unfolding putGap
+  gap-before k h = getD-set-other m (1404 + i * 5 + 1) k 2 0 (omega arith)
+
+  pub gap-lines : (l : List ℕ) → SameLines l m → SameLines l (putGap m i)
+  unfolding putGap
+  gap-lines l s = record {
+    long = length-set m (1404 + i * 5 + 1) 2 ∙ s .long;
+    count = gap-before 0 (omega arith) ∙ s .count;
+    rows = λ k a b. gap-before k b ∙ s .rows k a b;
   }

@@ -4,13 +4,19 @@
 --   0           the count of formula lines
 --   1           the count of live credentials
 --   2           the next serial
---   3           unused: the tables start at a multiple of four numbers
+--   3           the count of credential rows in use
 --   4 ..        200 rows of 7: a formula line's (document 01: a wording's) letter, a, b, c, d; then its formula's size
 --               and whether it is plain (1 or 0), kept so that no later request goes through the formula's parts again
---   1404 ..     512 rows of 5: a credential's (a coupon's) serial, kind (0 linear: single-use, 1 unrestricted:
---               standing), formula number (wording), and its interval (window), from and to
+--   1404 ..     1,024 rows of 5: a credential's (a coupon's) serial, kind (0 linear: single-use, 1 unrestricted:
+--               standing, 2 for one that has left: a gap), formula number (wording), and its interval (window), from
+--               and to. Rows stand in the order of their serials, and a row that leaves is only marked, so that no
+--               other one moves; there are twice as many rows as may live, and when all are in use the live ones are
+--               moved together
+--   6524 ..     1,024 hints: at serial mod 1,024 the row where the credential of that serial may stand. A hint is only
+--               a guess that the search tests first: nothing is asked of its value
 use mathlib.Core.List.{List, [], _∷_}
 use mathlib.Core.Bool.{Bool}
+use mathlib.Core.Option.{Option, none, some}
 use Prim.Native.Nat.{ℕ, _+_, _*_}
 use lib.Dec.{eqb, ltb}
 use lib.ListN.{getD, set}
@@ -27,7 +33,11 @@ use Rattle.ledger.specs.Checks.{maxFormulas}
 use Rattle.logic.specs.Choice.{pick}
 
 abbrev pub cells : ℕ
-cells = 3964
+cells = 7548
+
+-- how many credential rows there are
+abbrev pub maxRows : ℕ
+maxRows = 1024
 
 -- A table starts at b and its rows are w numbers wide: cell f of row i, and a row put in its place.
 unfoldable pub cell : List ℕ → ℕ → ℕ → ℕ → ℕ → ℕ
@@ -47,6 +57,9 @@ liveCount l = getD l 1 0
 abbrev pub nextSerial : List ℕ → ℕ
 nextSerial l = getD l 2 0
 
+abbrev pub rowCount : List ℕ → ℕ
+rowCount l = getD l 3 0
+
 abbrev pub putLineCount : List ℕ → ℕ → List ℕ
 putLineCount l n = set l 0 n
 
@@ -55,6 +68,9 @@ putLiveCount l n = set l 1 n
 
 abbrev pub putNext : List ℕ → ℕ → List ℕ
 putNext l n = set l 2 n
+
+abbrev pub putRowCount : List ℕ → ℕ → List ℕ
+putRowCount l n = set l 3 n
 
 -- Formula rows
 
@@ -96,9 +112,21 @@ credentialFrom g = record { serial = g 0; kind = kindFrom (g 1); formula = g 2; 
 unfoldable pub credentialAt : List ℕ → ℕ → Credential
 credentialAt l i = credentialFrom (cell l 1404 5 i)
 
+-- whether the credential of row i has left
+unfoldable pub gapAt : List ℕ → ℕ → Bool
+gapAt l i = eqb (cell l 1404 5 i 1) 2
+
+-- the credential that stands in row i, if it has not left
+unfoldable pub entryAt : List ℕ → ℕ → Option Credential
+entryAt l i = pick (gapAt l i) none (some (credentialAt l i))
+
 abbrev pub credentialCells : Credential → List ℕ
 credentialCells c =
     c .serial ∷ kindNumber (c .kind) ∷ c .formula ∷ c .interval .from ∷ c .interval .to ∷ []
 
 unfoldable pub putCredential : List ℕ → ℕ → Credential → List ℕ
 putCredential l i c = putRow l 1404 5 i (credentialCells c)
+
+-- the credential of row i leaves
+unfoldable pub putGap : List ℕ → ℕ → List ℕ
+putGap l i = set l (1404 + i * 5 + 1) 2

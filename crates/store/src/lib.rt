@@ -15,10 +15,11 @@ ghost use Rattle.ledger.specs.Table.{rowOf};
 ghost use Rattle.ledger.specs.Ledger.{empty, formula, withoutSerial};
 ghost use Rattle.ledger.specs.Checks.{any, sameRow};
 ghost use Rattle.ledger.specs.Calls.{withLine, withLive, withCredential};
-ghost use Rattle.store.specs.Layout.{rowAt, credentialAt};
-ghost use Rattle.store.specs.Store.{lineOf, ledgerOf, Good, StandsFor, Addable, Givable, Finds};
+ghost use Rattle.store.specs.Layout.{rowCount, rowAt, credentialAt};
+ghost use Rattle.store.specs.Store.{lineOf, ledgerOf, Good, StandsFor, Addable, Givable, Occupied, Finds};
+ghost use Rattle.store.specs.Store.{foundAt, Compacted};
 
-pub type Store = [u32; 3964];
+pub type Store = [u32; 7548];
 
 // the letter of 1
 const ONE: u32 = b'o' as u32;
@@ -33,7 +34,7 @@ pub enum Found {
 pub fn start(store: &mut Store)
     ensures { λ _. ⌜ StandsFor (now (store .exit)) empty ⌝ }
 {
-    *store = [0u32; 3964];
+    *store = [0u32; 7548];
     row::put_next(store, 1);
 }
 
@@ -45,6 +46,7 @@ pub fn formula_count(store: &Store) -> u32
 }
 
 pub fn live_count(store: &Store) -> u32
+    requires { ⌜ Good (now store) ⌝ }
     ensures { λ r. ⌜ r ≡ length (ledgerOf (now (store .entry)) .live) ⌝ }
 {
     row::live_count(store)
@@ -123,12 +125,30 @@ pub fn add_row(store: &mut Store, row: Row, size: u32, plain: bool)
     row::put_line_count(store, n + 1);
 }
 
-// The credential at a place.
+// How many credential rows are in use, gaps too.
+pub fn row_count(store: &Store) -> u32
+    ensures { λ r. ⌜ r ≡ rowCount (now (store .entry)) ⌝ }
+{
+    row::row_count(store)
+}
+
+// The credential of a row; one that has left reads as unrestricted.
 pub fn credential_at(store: &Store, i: u32) -> Credential
-    requires { ⌜ Good (now store) × (i < length (ledgerOf (now store) .live)) ⌝ }
+    requires { ⌜ Good (now store) × (i < rowCount (now store)) ⌝ }
     ensures { λ r. ⌜ r ≡ credentialAt (now (store .entry)) i ⌝ }
 {
     row::credential(store, i)
+}
+
+// What is found in a row: nothing in a gap.
+fn found_at(store: &Store, i: u32) -> Found
+    requires { ⌜ i < 1024 ⌝ }
+    ensures { λ r. ⌜ r ≡ foundAt (now (store .entry)) i ⌝ }
+{
+    if row::gap(store, i) {
+        return Found::Nothing;
+    }
+    Found::At(i, row::credential(store, i))
 }
 
 // The live credential of a serial: serials rise, so half of what is left goes with each look.
@@ -137,14 +157,14 @@ pub fn find(store: &Store, serial: u32) -> Found
     ensures { λ r. ⌜ Finds (now (store .entry)) serial r ⌝ }
 {
     let mut low = 0;
-    let mut high = row::live_count(store);
+    let mut high = row::row_count(store);
     while low < high {
         let middle = (low + high) / 2;
-        let found = row::serial(store, middle);
-        if found == serial {
-            return Found::At(middle, row::credential(store, middle));
+        let seen = row::serial(store, middle);
+        if seen == serial {
+            return found_at(store, middle);
         }
-        if found < serial {
+        if seen < serial {
             low = middle + 1;
         } else {
             high = middle;
@@ -153,28 +173,55 @@ pub fn find(store: &Store, serial: u32) -> Found
     Found::Nothing
 }
 
-// The credential at a place leaves, and those after it move down by one.
+// The credential of a row leaves: the row becomes a gap.
 pub fn remove(store: &mut Store, at: u32)
-    requires { ⌜ Good (now store) × (at < length (ledgerOf (now store) .live)) ⌝ }
+    requires { ⌜ Good (now store) × Occupied (now store) at ⌝ }
     ensures { λ _. ⌜ StandsFor (now (store .exit)) (withLive (ledgerOf (now (store .entry)))
         (withoutSerial (ledgerOf (now (store .entry)) .live) (credentialAt (now (store .entry)) at .serial))) ⌝ }
 {
-    let n = row::live_count(store) - 1;
-    let mut i = at;
-    while i < n {
-        let c = row::credential(store, i + 1);
-        row::put_credential(store, i, c);
-        i += 1;
-    }
-    row::put_live_count(store, n);
+    let n = row::live_count(store);
+    row::put_gap(store, at);
+    row::put_live_count(store, n - 1);
 }
 
-// One credential more, with the next serial.
-pub fn give(store: &mut Store, kind: Kind, formula: u32, interval: Interval)
-    requires { ⌜ Givable (now store) formula ⌝ }
+// The live credentials move together, in order, so that no gap is left.
+fn compact(store: &mut Store)
+    requires { ⌜ Good (now store) ⌝ }
+    ensures { λ _. ⌜ Compacted (now (store .entry)) (now (store .exit)) ⌝ }
+{
+    let used = row::row_count(store);
+    let mut i = 0;
+    let mut k = 0;
+    while i < used {
+        let from = i;
+        i += 1;
+        if !row::gap(store, from) {
+            let c = row::credential(store, from);
+            row::put_credential(store, k, c);
+            k += 1;
+        }
+    }
+    row::put_row_count(store, k);
+}
+
+// A row is free: where all are in use, the live credentials move together first.
+fn make_room(store: &mut Store)
+    requires { ⌜ Good (now store) × (length (ledgerOf (now store) .live) < 1024) ⌝ }
+    ensures { λ _. ⌜ StandsFor (now (store .exit)) (ledgerOf (now (store .entry)))
+        × (rowCount (now (store .exit)) < 1024) ⌝ }
+{
+    if row::row_count(store) == 1024 {
+        compact(store);
+    }
+}
+
+// One credential more, in the next row.
+fn append(store: &mut Store, kind: Kind, formula: u32, interval: Interval)
+    requires { ⌜ Givable (now store) formula × (rowCount (now store) < 1024) ⌝ }
     ensures { λ _. ⌜ StandsFor (now (store .exit))
         (withCredential (ledgerOf (now (store .entry))) kind formula interval) ⌝ }
 {
+    let i = row::row_count(store);
     let n = row::live_count(store);
     let serial = row::next(store);
     let c = Credential {
@@ -183,7 +230,18 @@ pub fn give(store: &mut Store, kind: Kind, formula: u32, interval: Interval)
         formula,
         interval,
     };
-    row::put_credential(store, n, c);
+    row::put_credential(store, i, c);
+    row::put_row_count(store, i + 1);
     row::put_live_count(store, n + 1);
     row::put_next(store, serial + 1);
+}
+
+// One credential more, with the next serial.
+pub fn give(store: &mut Store, kind: Kind, formula: u32, interval: Interval)
+    requires { ⌜ Givable (now store) formula ⌝ }
+    ensures { λ _. ⌜ StandsFor (now (store .exit))
+        (withCredential (ledgerOf (now (store .entry))) kind formula interval) ⌝ }
+{
+    make_room(store);
+    append(store, kind, formula, interval);
 }

@@ -7,14 +7,18 @@ use steps::Row;
 ghost use mathlib.Core.Path.{_≡_};
 ghost use Prim.Native.Nat.{_<_};
 ghost use Rattle.logic.specs.Formula.{bit};
-ghost use Rattle.store.specs.Layout.{lineCount, liveCount, nextSerial, putLineCount, putLiveCount, putNext};
+ghost use Rattle.store.specs.Layout.{lineCount, liveCount, nextSerial, rowCount};
+ghost use Rattle.store.specs.Layout.{putLineCount, putLiveCount, putNext, putRowCount};
 ghost use Rattle.store.specs.Layout.{rowFrom, lineCell, sizeAt, plainAt, putLine};
-ghost use Rattle.store.specs.Layout.{kindFrom, kindNumber, credentialAt, putCredential};
+ghost use Rattle.store.specs.Layout.{kindFrom, kindNumber, credentialAt, gapAt, putCredential, putGap};
 
 // where the tables start
 const LINES: usize = 4;
 
 const CREDENTIALS: usize = 1404;
+
+// the kind of a credential that has left
+const GAP: u32 = 2;
 
 pub fn line_count(store: &Store) -> u32
     ensures { λ r. ⌜ r ≡ lineCount (now (store .entry)) ⌝ }
@@ -34,6 +38,12 @@ pub fn next(store: &Store) -> u32
     store[2]
 }
 
+pub fn row_count(store: &Store) -> u32
+    ensures { λ r. ⌜ r ≡ rowCount (now (store .entry)) ⌝ }
+{
+    store[3]
+}
+
 pub fn put_line_count(store: &mut Store, n: u32)
     ensures { λ _. ⌜ now (store .exit) ≡ putLineCount (now (store .entry)) n ⌝ }
 {
@@ -50,6 +60,12 @@ pub fn put_next(store: &mut Store, n: u32)
     ensures { λ _. ⌜ now (store .exit) ≡ putNext (now (store .entry)) n ⌝ }
 {
     store[2] = n;
+}
+
+pub fn put_row_count(store: &mut Store, n: u32)
+    ensures { λ _. ⌜ now (store .exit) ≡ putRowCount (now (store .entry)) n ⌝ }
+{
+    store[3] = n;
 }
 
 pub fn line_row(store: &Store, i: u32) -> Row
@@ -121,14 +137,14 @@ fn kind_number(k: Kind) -> u32
 }
 
 pub fn serial(store: &Store, i: u32) -> u32
-    requires { ⌜ i < 512 ⌝ }
+    requires { ⌜ i < 1024 ⌝ }
     ensures { λ r. ⌜ r ≡ credentialAt (now (store .entry)) i .serial ⌝ }
 {
     store[CREDENTIALS + (i as usize) * 5]
 }
 
 pub fn credential(store: &Store, i: u32) -> Credential
-    requires { ⌜ i < 512 ⌝ }
+    requires { ⌜ i < 1024 ⌝ }
     ensures { λ r. ⌜ r ≡ credentialAt (now (store .entry)) i ⌝ }
 {
     let at = CREDENTIALS + (i as usize) * 5;
@@ -144,8 +160,22 @@ pub fn credential(store: &Store, i: u32) -> Credential
     }
 }
 
+pub fn gap(store: &Store, i: u32) -> bool
+    requires { ⌜ i < 1024 ⌝ }
+    ensures { λ r. ⌜ r ≡ gapAt (now (store .entry)) i ⌝ }
+{
+    store[CREDENTIALS + (i as usize) * 5 + 1] == GAP
+}
+
+pub fn put_gap(store: &mut Store, i: u32)
+    requires { ⌜ i < 1024 ⌝ }
+    ensures { λ _. ⌜ now (store .exit) ≡ putGap (now (store .entry)) i ⌝ }
+{
+    store[CREDENTIALS + (i as usize) * 5 + 1] = GAP;
+}
+
 pub fn put_credential(store: &mut Store, i: u32, c: Credential)
-    requires { ⌜ i < 512 ⌝ }
+    requires { ⌜ i < 1024 ⌝ }
     ensures { λ _. ⌜ now (store .exit) ≡ putCredential (now (store .entry)) i c ⌝ }
 {
     let kind = c.kind;

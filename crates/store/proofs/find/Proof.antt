@@ -3,8 +3,7 @@ use Prim.Native.Nat.{_-_}
 use borrow.Author.Needs.{needs}
 use native.Mathlib.Omega.{arith}
 use mathlib.Core.Path.{sym, _∙_}
-use denote.Ref.{now}
-use Rattle.store.proofs.Views.{Halving, first-half, upper-half, lower-half, found-at, found-nothing}
+use Rattle.store.proofs.Views.{Halving, first-half, upper-half, lower-half, found-row, found-nothing}
 use Rattle.store.proofs.find.Statement.{statement}
 use Rattle.store.proofs.find.Tie as tie
 
@@ -15,31 +14,31 @@ abbrev μ-loop : tie.MeasureT-loop
 μ-loop store serial low₀ high₀ low high = high - low
 
 loop-holds : tie.Need-loop-holds Inv-loop μ-loop
-loop-holds c = first-half _ (c .before .pre) _ (c .live-count .ensures)
+loop-holds c = first-half _ (c .before .pre) _ (c .row-count .ensures)
 
 add-middle : tie.Need-add-middle Inv-loop μ-loop
 add-middle c =
     let at = c .before in
-    omega (arith, at .loop .inv .ends .0, at .loop .inv .ends .1, at .before .before .pre .live)
+    omega (arith, at .loop .inv .ends .0, at .loop .inv .ends .1, at .before .before .pre .ordered .few)
 
 serial-requires : tie.Need-serial-requires Inv-loop μ-loop
 serial-requires c κs =
     let at = c .before in
-    omega (arith, c .loop-test .taken, at .loop .inv .ends .1, at .before .before .pre .live)
+    omega (arith, c .loop-test .taken, at .loop .inv .ends .1, at .before .before .pre .ordered .few)
 
-credential-requires : tie.Need-credential-requires Inv-loop μ-loop
-credential-requires c κs =
+found-at-requires : tie.Need-found-at-requires Inv-loop μ-loop
+found-at-requires c κs =
     let turn = c .before .before in
     let at = turn .before in
-    omega (arith, turn .loop-test .taken, at .loop .inv .ends .1, at .before .before .pre .live)
+    omega (arith, turn .loop-test .taken, at .loop .inv .ends .1, at .before .before .pre .ordered .few)
 
 returns : tie.Need-returns Inv-loop μ-loop
 returns c =
     let look = c .before .before in
     let turn = look .before in
     let at = turn .before in
-    found-at _ (at .before .before .pre) _ _ (c .credential .result)
-    (omega (arith, turn .loop-test .taken, at .loop .inv .ends .1)) (c .credential .ensures)
+    found-row _ (at .before .before .pre) _ _ (c .found-at .ensures)
+    (omega (arith, turn .loop-test .taken, at .loop .inv .ends .1))
     (sym (look .serial .ensures) ∙ c .before .if1 .taken)
 
 loop-again : tie.Need-loop-again Inv-loop μ-loop
@@ -74,7 +73,7 @@ find-spec =
     loop-holds
     add-middle
     serial-requires
-    credential-requires
+    found-at-requires
     returns
     (λ c. search needs)
     (λ c. search needs)
