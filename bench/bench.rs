@@ -80,7 +80,7 @@ fn sheets(input: &[u8]) -> (Vec<Vec<u8>>, usize) {
 
 /// One play of a list by the proved code: what the meter says of the timed calls, and what was answered.
 fn proved(list: &List, meter: &dyn Meter, out: &mut Vec<[u32; 4]>) -> u64 {
-    let (mut block, mut scratch, mut sum) = ([0u32; 3964], [0u32; 1536], 0);
+    let (mut block, mut scratch, mut sum) = ([0u32; 7548], [0u32; 1536], 0);
     out.clear();
     unsafe { till_start(block.as_mut_ptr()) };
     for (sheet, timed) in list.sheets.iter().zip(&list.timed) {
