@@ -12,13 +12,14 @@ use Rattle.ledger.specs.Ledger.{Ledger}
 use Rattle.ledger.proofs.Bounds.{Rises, Below}
 use Rattle.store.specs.Tab.{tab, present}
 use Rattle.store.specs.Layout.{maxRows, liveCount, nextSerial, rowCount, credentialAt, gapAt, entryAt}
-use Rattle.store.specs.Layout.{putCredential, putRowCount}
+use Rattle.store.specs.Layout.{putCredential, putRowCount, putHint}
 use Rattle.store.specs.Store.{ledgerOf, Ordered, Good, Compacted}
 use Rattle.store.proofs.Tabs.{length-tab, tab-ext, tab-append, every-tab, present-next, present-all}
 use Rattle.store.proofs.Search.{rises-between}
 use Rattle.store.proofs.Rows.{SameLines, lines-self, Stays, stays-credential, stays-gap, entry-gap, entry-there}
 use Rattle.store.proofs.Rows.{head-lines, head-same, head-other, head-stays, credential-same, credential-there}
-use Rattle.store.proofs.Rows.{credential-stays, credential-before, credential-lines}
+use Rattle.store.proofs.Rows.{credential-stays, credential-before, credential-lines, hint-before}
+use Rattle.store.proofs.Rows.{hint-lines, hint-stays}
 use Rattle.store.proofs.Live.{stands-live, ledger-live}
 
 -- l is the store at the start, m when row i is next: the live ones of the rows before it stand in the first k rows
@@ -29,7 +30,7 @@ pub record Gathering (l m : List ℕ) (i k : ℕ) : Type 0 where
   pub low : k ≤ i
   pub moved : tab k (credentialAt m) ≡ present (tab i (entryAt l))
   pub full : (j : ℕ) → j < k → gapAt m j ≡ false
-  pub rest : (j : ℕ) → i ≤ j → Stays l m j
+  pub rest : (j : ℕ) → i ≤ j → j < maxRows → Stays l m j
 
 module _ (l : List ℕ) where
   pub gather-start : Good l → Gathering l l 0 0
@@ -41,19 +42,19 @@ module _ (l : List ℕ) where
     low = omega arith;
     moved = refl;
     full = λ j q. absurd (omega arith);
-    rest = λ j q f p. refl;
+    rest = λ j q h f p. refl;
   }
 
   module _ (m : List ℕ) (i k : ℕ) (v : Gathering l m i k) where
     -- a gap is passed
-    pub gather-gap : gapAt m i ≡ true → Gathering l m (i + 1) k
-    gather-gap e = record {
+    pub gather-gap : i < maxRows → gapAt m i ≡ true → Gathering l m (i + 1) k
+    gather-gap h e = record {
       lines = v .lines;
       count = v .count;
       next = v .next;
       low = omega (arith, v .low);
       moved = v .moved ∙ sym (present-next i (entryAt l)
-          ∙ rw (entry-gap l i (sym (stays-gap l m i (v .rest i (omega arith))) ∙ e)) (append-nil _));
+          ∙ rw (entry-gap l i (sym (stays-gap l m i (v .rest i (omega arith) h)) ∙ e)) (append-nil _));
       full = v .full;
       rest = λ j q. v .rest j (omega arith);
     }
@@ -71,8 +72,8 @@ module _ (l : List ℕ) where
 
       entry-moved : entryAt l i ≡ some c
       entry-moved =
-          entry-there l i (sym (stays-gap l m i (v .rest i (omega arith))) ∙ e)
-          ∙ ap some (sym (d ∙ stays-credential l m i (v .rest i (omega arith))))
+          entry-there l i (sym (stays-gap l m i (v .rest i (omega arith) h)) ∙ e)
+          ∙ ap some (sym (d ∙ stays-credential l m i (v .rest i (omega arith) h)))
 
       moved-next : tab (k + 1) (credentialAt m′) ≡ present (tab (i + 1) (entryAt l))
       moved-next =
@@ -90,8 +91,23 @@ module _ (l : List ℕ) where
         low = omega (arith, v .low);
         moved = moved-next;
         full = λ j q. full-next j q (decLt j k);
-        rest = λ j q f p. credential-stays m k c j (omega (arith, v .low)) f p ∙ v .rest j (omega arith) f p;
+        rest = λ j q z f p. credential-stays m k c j (omega (arith, v .low)) f p ∙ v .rest j (omega arith) z f p;
       }
+
+    -- a hint changes nothing
+    pub gather-hint : k ≤ maxRows → (s r : ℕ) → Gathering l (putHint m s r) i k
+    gather-hint h s r =
+        let x = putHint m s r in
+        let z : (j : ℕ) → j < k → Stays m x j = λ j q. hint-stays m s r j (omega arith) in
+        record {
+          lines = hint-lines m s r l (v .lines);
+          count = hint-before m s r 1 (omega arith) ∙ v .count;
+          next = hint-before m s r 2 (omega arith) ∙ v .next;
+          low = v .low;
+          moved = tab-ext k (credentialAt x) (credentialAt m) (λ j q. stays-credential m x j (z j q)) ∙ v .moved;
+          full = λ j q. stays-gap m x j (z j q) ∙ v .full j q;
+          rest = λ j q y f p. hint-stays m s r j y f p ∙ v .rest j q y f p;
+        }
 
   -- when all rows are passed
   module _ (m : List ℕ) (k : ℕ) (g : Good l) (v : Gathering l m (rowCount l) k) where

@@ -25,6 +25,7 @@ use Rattle.ledger.proofs.Credentials.{take-out}
 use Rattle.store.specs.Tab.{tab, present}
 use Rattle.store.specs.Layout.{cells, maxRows, cell, lineCount, liveCount, nextSerial, rowCount, credentialAt}
 use Rattle.store.specs.Layout.{gapAt, entryAt, putRowCount, putLiveCount, putNext, putCredential, putGap}
+use Rattle.store.specs.Layout.{putHint}
 use Rattle.store.specs.Store.{lineOf, ledgerOf, Canonical, Named, Ordered, Good, StandsFor, Givable, Occupied}
 use Rattle.store.proofs.Tabs.{tab-ext, present-next, present-sum}
 use Rattle.store.proofs.Search.{without-row}
@@ -32,7 +33,7 @@ use Rattle.store.proofs.Rows.{SameLines, lines-self, same-row, same-siz
 use Rattle.store.proofs.Rows.{Stays, stays-credential, stays-entry, stays-serial, entry-gap, entry-there}
 use Rattle.store.proofs.Rows.{SameLive, head-other, head-stays, credential-same, credential-there}
 use Rattle.store.proofs.Rows.{credential-stays, credential-lines, gap-here, gap-stays, gap-serial, gap-before}
-use Rattle.store.proofs.Rows.{gap-lines}
+use Rattle.store.proofs.Rows.{gap-lines, hint-lines, hint-live}
 use Rattle.store.proofs.Views.{only-here, occupied-found}
 use Rattle.store.proofs.Names.{without-named, credential-named}
 
@@ -123,6 +124,17 @@ module _ (l m : List ℕ) (s : SameLive l m) (o : Ordered l) where
     );
     below = λ i q. omega (arith, same-serial i q, s .next, s .used, o .below i (omega (arith, s .used)));
   }
+
+-- A hint changes nothing.
+pub hint-stands : (m : List ℕ) (s v : ℕ) {t : Ledger} → StandsFor m t → StandsFor (putHint m s v) t
+unfolding ledgerOf
+hint-stands m s v {t} w =
+    let g = w .good in
+    let b = hint-live m s v (g .long) in
+    let a = hint-lines m s v m (lines-self m (g .long)) in
+    rw (← w .ledger) (stands-live m (putHint m s v) g a (ledgerOf m) (same-ordered m (putHint m s v) b (g .ordered))
+    (ledger-live m (putHint m s v) g a _ _ (same-live m (putHint m s v) b (g .ordered)) (b .next))
+    (g .named) (g .bounded))
 
 -- another store of the same ledger has room for the credential too
 pub still-givable : {l m : List ℕ} {n : ℕ} → Givable l n → StandsFor m (ledgerOf l) → Givable m n
@@ -249,11 +261,12 @@ module _ (l : List ℕ) (k : Kind) (n : ℕ) (w : Interval) (r : Givable l n) (f
       (credential-bounded (ledgerOf l) (r .good .bounded) k n w (r .room) (r .unused))
 
   -- by the stores that make it
-  pub give-done : {m₀ m₁ m₂ m₃ : List ℕ} {i c s : ℕ} → i ≡ rowCount l → c ≡ liveCount l → s ≡ nextSerial l
+  pub give-done : {m₀ m₁ m₂ m₃ m₄ : List ℕ} {i c s : ℕ} → i ≡ rowCount l → c ≡ liveCount l → s ≡ nextSerial l
       → m₀ ≡ putCredential l i (record { serial = s; kind = k; formula = n; interval = w })
       → m₁ ≡ putRowCount m₀ (i + 1) → m₂ ≡ putLiveCount m₁ (c + 1) → m₃ ≡ putNext m₂ (s + 1)
-      → StandsFor m₃ (withCredential (ledgerOf l) k n w)
-  give-done a b d e₀ e₁ e₂ e₃ = rw (e₃, e₂, e₁, e₀, a, b, d) give-stands
+      → m₄ ≡ putHint m₃ s i → StandsFor m₄ (withCredential (ledgerOf l) k n w)
+  give-done a b d e₀ e₁ e₂ e₃ e₄ =
+      rw (e₄, e₃, e₂, e₁, e₀, a, b, d) (hint-stands m (nextSerial l) (rowCount l) give-stands)
 
 -- The store after the credential of a row has left.
 module _ (l : List ℕ) (at : ℕ) (g : Good l) (o : Occupied l at) where

@@ -4,7 +4,7 @@ use mathlib.Core.Path.{_≡_, refl, ap, _∙_}
 use mathlib.Core.List.{List}
 use mathlib.Core.Bool.{Bool, true, false}
 use mathlib.Core.Option.{none, some}
-use Prim.Native.Nat.{ℕ, _+_, _*_, _≤_, _<_}
+use Prim.Native.Nat.{ℕ, _+_, _*_, _%_, _≤_, _<_}
 use native.Mathlib.Omega.{arith}
 use native.Mathlib.Decide.{decLt}
 use borrow.Author.Tests.{lt-ltb, le-ltb}
@@ -20,7 +20,7 @@ use Rattle.ledger.specs.Table.{rowOf}
 use Rattle.store.specs.Layout.{cells, maxRows, cell, lineCount, liveCount, nextSerial, rowCount, rowFrom}
 use Rattle.store.specs.Layout.{lineCell, rowAt, sizeAt, plainAt, lineCells, putLine, kindFrom, kindNumber}
 use Rattle.store.specs.Layout.{credentialFrom, credentialAt, gapAt, entryAt, credentialCells, putCredential}
-use Rattle.store.specs.Layout.{putGap}
+use Rattle.store.specs.Layout.{putGap, putHint}
 use Rattle.store.proofs.Cells.{length-putRow, row-same, row-other, put-below, put-above}
 
 -- a row is known by its cells
@@ -251,4 +251,31 @@ module _ (m : List ℕ) (i : ℕ) where
     long = length-set m (1404 + i * 5 + 1) 2 ∙ s .long;
     count = gap-before 0 (omega arith) ∙ s .count;
     rows = λ k a b. gap-before k b ∙ s .rows k a b;
+  }
+
+-- A hint is put: all else stays.
+module _ (m : List ℕ) (s v : ℕ) where
+  pub hint-before : (k : ℕ) → k < 6524 → getD (putHint m s v) k 0 ≡ getD m k 0
+  unfolding putHint
+  hint-before k h = getD-set-other m (6524 + s % 1024) k v 0 (omega arith)
+
+  pub hint-lines : (l : List ℕ) → SameLines l m → SameLines l (putHint m s v)
+  unfolding putHint
+  hint-lines l w = record {
+    long = length-set m (6524 + s % 1024) v ∙ w .long;
+    count = hint-before 0 (omega arith) ∙ w .count;
+    rows = λ k a b. hint-before k (omega arith) ∙ w .rows k a b;
+  }
+
+  pub hint-stays : (i : ℕ) → i < maxRows → Stays m (putHint m s v) i
+  unfolding cell
+  hint-stays i h f q = hint-before (1404 + i * 5 + f) (omega arith)
+
+  pub hint-live : length m ≡ cells → SameLive m (putHint m s v)
+  hint-live n = record {
+    long = hint-lines m (lines-self m n) .long;
+    count = hint-before 1 (omega arith);
+    next = hint-before 2 (omega arith);
+    used = hint-before 3 (omega arith);
+    rows = hint-stays;
   }

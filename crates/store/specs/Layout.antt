@@ -17,7 +17,7 @@
 use mathlib.Core.List.{List, [], _∷_}
 use mathlib.Core.Bool.{Bool}
 use mathlib.Core.Option.{Option, none, some}
-use Prim.Native.Nat.{ℕ, _+_, _*_}
+use Prim.Native.Nat.{ℕ, _+_, _*_, _%_}
 use lib.Dec.{eqb, ltb}
 use lib.ListN.{getD, set}
 use lib.Seq.{sets}
@@ -130,3 +130,9 @@ putCredential l i c = putRow l 1404 5 i (credentialCells c)
 -- the credential of row i leaves
 unfoldable pub putGap : List ℕ → ℕ → List ℕ
 putGap l i = set l (1404 + i * 5 + 1) 2
+
+-- Hints
+
+-- the credential of serial s may stand in row i
+unfoldable pub putHint : List ℕ → ℕ → ℕ → List ℕ
+putHint l s i = set l (6524 + s % 1024) i

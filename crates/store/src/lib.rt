@@ -152,7 +152,7 @@ fn found_at(store: &Store, i: u32) -> Found
 }
 
 // The live credential of a serial: serials rise, so half of what is left goes with each look.
-pub fn find(store: &Store, serial: u32) -> Found
+fn find_by_halves(store: &Store, serial: u32) -> Found
     requires { ⌜ Good (now store) ⌝ }
     ensures { λ r. ⌜ Finds (now (store .entry)) serial r ⌝ }
 {
@@ -171,6 +171,20 @@ pub fn find(store: &Store, serial: u32) -> Found
         }
     }
     Found::Nothing
+}
+
+// The live credential of a serial: where the hint says, or else by halves.
+pub fn find(store: &Store, serial: u32) -> Found
+    requires { ⌜ Good (now store) ⌝ }
+    ensures { λ r. ⌜ Finds (now (store .entry)) serial r ⌝ }
+{
+    let i = row::hint(store, serial);
+    if i < row::row_count(store) {
+        if row::serial(store, i) == serial {
+            return found_at(store, i);
+        }
+    }
+    find_by_halves(store, serial)
 }
 
 // The credential of a row leaves: the row becomes a gap.
@@ -198,6 +212,7 @@ fn compact(store: &mut Store)
         if !row::gap(store, from) {
             let c = row::credential(store, from);
             row::put_credential(store, k, c);
+            row::put_hint(store, c.serial, k);
             k += 1;
         }
     }
@@ -234,6 +249,7 @@ fn append(store: &mut Store, kind: Kind, formula: u32, interval: Interval)
     row::put_row_count(store, i + 1);
     row::put_live_count(store, n + 1);
     row::put_next(store, serial + 1);
+    row::put_hint(store, serial, i);
 }
 
 // One credential more, with the next serial.

@@ -10,12 +10,14 @@ ghost use Rattle.logic.specs.Formula.{bit};
 ghost use Rattle.store.specs.Layout.{lineCount, liveCount, nextSerial, rowCount};
 ghost use Rattle.store.specs.Layout.{putLineCount, putLiveCount, putNext, putRowCount};
 ghost use Rattle.store.specs.Layout.{rowFrom, lineCell, sizeAt, plainAt, putLine};
-ghost use Rattle.store.specs.Layout.{kindFrom, kindNumber, credentialAt, gapAt, putCredential, putGap};
+ghost use Rattle.store.specs.Layout.{kindFrom, kindNumber, credentialAt, gapAt, putCredential, putGap, putHint};
 
 // where the tables start
 const LINES: usize = 4;
 
 const CREDENTIALS: usize = 1404;
+
+const HINTS: usize = 6524;
 
 // the kind of a credential that has left
 const GAP: u32 = 2;
@@ -187,4 +189,15 @@ pub fn put_credential(store: &mut Store, i: u32, c: Credential)
     store[at + 2] = c.formula;
     store[at + 3] = w.from;
     store[at + 4] = w.to;
+}
+
+// The row where the credential of a serial may stand: any number may be answered.
+pub fn hint(store: &Store, serial: u32) -> u32 {
+    store[HINTS + (serial % 1024) as usize]
+}
+
+pub fn put_hint(store: &mut Store, serial: u32, i: u32)
+    ensures { λ _. ⌜ now (store .exit) ≡ putHint (now (store .entry)) serial i ⌝ }
+{
+    store[HINTS + (serial % 1024) as usize] = i;
 }

@@ -14,13 +14,14 @@ add-put-next c =
 
 returns : tie.Need-returns
 returns c =
-    let put = c .before .before .before .before .before .before in
+    let next = c .before .before in
+    let put = next .before .before .before .before .before .before in
     let at = put .before .before in
     let s = at .before .before .before .before .before .before in
     give-done _ _ _ _ (s .pre .0) (s .pre .1) (at .before .before .before .before .row-count .ensures)
     (at .before .before .live-count .ensures) (at .next .ensures) (put .put-credential .ensures)
-    (c .before .before .before .before .put-row-count .ensures) (c .before .before .put-live-count .ensures)
-    (c .put-next .ensures)
+    (next .before .before .before .before .put-row-count .ensures) (next .before .before .put-live-count .ensures)
+    (next .put-next .ensures) (c .put-hint .ensures)
 
 pub append-spec : {M : Type 1} → statement M
 append-spec =
@@ -35,5 +36,6 @@ append-spec =
     (λ c. search needs)
     (λ c κs. search needs)
     add-put-next
+    (λ c κs. search needs)
     (λ c κs. search needs)
     returns)

@@ -1,10 +1,11 @@
 -- `compact` meets its contract. The loop: the live ones of the first i rows stand in the first k rows.
 use mathlib.Core.Path.{sym, _∙_}
-use Prim.Native.Nat.{_≤_, _-_}
+use Prim.Native.Nat.{_≤_, _<_, _-_}
 use borrow.Author.Needs.{needs}
 use borrow.Author.Tests.{not-true, not-false}
 use native.Mathlib.Omega.{arith}
-use Rattle.store.proofs.Gather.{Gathering, gather-start, gather-gap, gather-move, compact-done}
+use Rattle.store.specs.Layout.{maxRows}
+use Rattle.store.proofs.Gather.{Gathering, gather-start, gather-gap, gather-move, gather-hint, compact-done}
 use Rattle.store.proofs.compact.Statement.{statement}
 use Rattle.store.proofs.compact.Tie as tie
 
@@ -34,25 +35,31 @@ put-credential-requires c κs =
 
 add-k : tie.Need-add-k Inv-loop μ-loop
 add-k c =
-    let at = c .before .before .before .before .before .before .before .before in
+    let at = c .before .before .before .before .before .before .before .before .before .before in
     omega (arith, at .before .row-count .ensures, at .before .before .before .pre .ordered .few, at .loop .inv .1 .low)
 
 loop-again : tie.Need-loop-again Inv-loop μ-loop
 loop-again c =
-    let test = c .before .before .before .before in
+    let put = c .before .before in
+    let test = put .before .before .before .before in
     let at = test .before .before .before .before in
-    let e = sym (test .before .gap .ensures) ∙ not-true _ (test .if1 .taken) in (
+    let e = sym (test .before .gap .ensures) ∙ not-true _ (test .if1 .taken) in
+    let few : at .loop .i < maxRows =
+    omega (arith, at .before .row-count .ensures, at .before .before .before .pre .ordered .few) in
+    let low = at .loop .inv .1 .low in
+    let moved = gather-move _ _ _ _ (at .loop .inv .1) _ few e (put .before .before .credential .ensures) in (
       search needs,
-      rw (c .put-credential .ensures) (gather-move _ _ _ _ (at .loop .inv .1) _
-          (omega (arith, at .before .row-count .ensures, at .before .before .before .pre .ordered .few)) e
-          (c .before .before .credential .ensures)),
+      rw (c .put-hint .ensures, put .put-credential .ensures)
+          (gather-hint _ _ _ _ moved (omega arith) _ _),
     )
 
 loop-again-2 : tie.Need-loop-again-2 Inv-loop μ-loop
 loop-again-2 c =
     let at = c .before .before .before .before in
     let e = sym (c .before .gap .ensures) ∙ not-false _ (c .if1 .left) in
-    (search needs, gather-gap _ _ _ _ (at .loop .inv .1) e)
+    let few : at .loop .i < maxRows =
+    omega (arith, at .before .row-count .ensures, at .before .before .before .pre .ordered .few) in
+    (search needs, gather-gap _ _ _ _ (at .loop .inv .1) few e)
 
 returns : tie.Need-returns Inv-loop μ-loop
 returns c =
@@ -72,6 +79,7 @@ compact-spec =
     gap-requires
     credential-requires
     put-credential-requires
+    (λ c κs. search needs)
     add-k
     (λ c. search needs)
     loop-again
