@@ -1,9 +1,6 @@
-pub mod Sets
-pub mod Cells
 pub mod Tabs
 pub mod Search
 pub mod Lines
-pub mod Rows
 pub mod Views
 pub mod Names
 pub mod Live

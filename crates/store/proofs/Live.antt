@@ -23,17 +23,17 @@ use Rattle.ledger.specs.Calls.{withLive, withCredential}
 use Rattle.ledger.proofs.Bounds.{Bounded, empty-bounded, credential-bounded, without-bounded}
 use Rattle.ledger.proofs.Credentials.{take-out}
 use Rattle.store.specs.Tab.{tab, present}
-use Rattle.store.specs.Layout.{cells, maxRows, cell, lineCount, liveCount, nextSerial, rowCount, credentialAt}
-use Rattle.store.specs.Layout.{gapAt, entryAt, putRowCount, putLiveCount, putNext, putCredential, putGap}
-use Rattle.store.specs.Layout.{putHint}
+use Rattle.cells.specs.Layout.{cells, maxRows, cell, lineCount, liveCount, nextSerial, rowCount, credentialAt}
+use Rattle.cells.specs.Layout.{gapAt, entryAt, putRowCount, putLiveCount, putNext, putCredential, putGap}
+use Rattle.cells.specs.Layout.{putHint}
 use Rattle.store.specs.Store.{lineOf, ledgerOf, Canonical, Named, Ordered, Good, StandsFor, Givable, Occupied}
 use Rattle.store.proofs.Tabs.{tab-ext, present-next, present-sum}
 use Rattle.store.proofs.Search.{without-row}
-use Rattle.store.proofs.Rows.{SameLines, lines-self, same-row, same-size, same-plain, head-lines, head-same}
-use Rattle.store.proofs.Rows.{Stays, stays-credential, stays-entry, stays-serial, entry-gap, entry-there}
-use Rattle.store.proofs.Rows.{SameLive, head-other, head-stays, credential-same, credential-there}
-use Rattle.store.proofs.Rows.{credential-stays, credential-lines, gap-here, gap-stays, gap-serial, gap-before}
-use Rattle.store.proofs.Rows.{gap-lines, hint-lines, hint-live}
+use Rattle.cells.proofs.Rows.{SameLines, lines-self, same-row, same-size, same-plain, head-lines, head-same}
+use Rattle.cells.proofs.Rows.{Stays, stays-credential, stays-entry, stays-serial, entry-gap, entry-there}
+use Rattle.cells.proofs.Rows.{SameLive, head-other, head-stays, credential-same, credential-there}
+use Rattle.cells.proofs.Rows.{credential-stays, credential-lines, gap-here, gap-stays, gap-serial, gap-before}
+use Rattle.cells.proofs.Rows.{gap-lines, hint-lines, hint-live}
 use Rattle.store.proofs.Views.{only-here, occupied-found}
 use Rattle.store.proofs.Names.{without-named, credential-named}
 

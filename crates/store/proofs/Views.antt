@@ -17,11 +17,11 @@ use Rattle.ledger.proofs.Credentials.{take-out}
 use Rattle.logic.specs.Choice.{pick}
 use Rattle.store.specs.declared.Found.{Found}
 use Rattle.store.specs.declared.Found.the-variants.{At, Nothing}
-use Rattle.store.specs.Layout.{lineCount, rowCount, rowAt, credentialAt, gapAt, entryAt}
+use Rattle.cells.specs.Layout.{lineCount, rowCount, rowAt, credentialAt, gapAt, entryAt}
 use Rattle.store.specs.Store.{lineOf, ledgerOf, Good, Occupied, foundAt, Finds}
 use Rattle.store.proofs.Tabs.{length-tab, getD-tab, getD-past}
 use Rattle.store.proofs.Search.{Only, find-none, find-row, any-none, any-at}
-use Rattle.store.proofs.Rows.{row-past, entry-there}
+use Rattle.cells.proofs.Rows.{row-past, entry-there}
 
 module _ (l : List ℕ) where
   pub lines-length : length (ledgerOf l .lines) ≡ lineCount l

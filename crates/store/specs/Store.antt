@@ -24,8 +24,8 @@ use Rattle.store.specs.declared.Found.{Found}
 use Rattle.store.specs.declared.Found.the-variants.{At, Nothing}
 use Rattle.logic.specs.Choice.{pick}
 use Rattle.store.specs.Tab.{tab, present}
-use Rattle.store.specs.Layout.{cells, maxRows, lineCount, liveCount, nextSerial, rowCount, rowAt, sizeAt, plainAt}
-use Rattle.store.specs.Layout.{credentialAt, gapAt, entryAt}
+use Rattle.cells.specs.Layout.{cells, maxRows, lineCount, liveCount, nextSerial, rowCount, rowAt, sizeAt, plainAt}
+use Rattle.cells.specs.Layout.{credentialAt, gapAt, entryAt}
 
 -- the line of a row, by its letter; 1 for any other letter
 unfoldable pub lineOf : Row → Line

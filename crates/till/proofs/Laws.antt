@@ -26,7 +26,7 @@ use Rattle.ledger.specs.Calls.{Reply, openSeats, shutSeats, withLive, withCrede
 use Rattle.ledger.specs.Statements.{Pass, FirstFails}
 use Rattle.ledger.proofs.Firsts.{if-false, if-true, skip, hit, handle-fails, handle-passes}
 use Rattle.store.specs.declared.Found.the-variants.{At, Nothing}
-use Rattle.store.specs.Layout.{credentialAt}
+use Rattle.cells.specs.Layout.{credentialAt}
 use Rattle.store.proofs.Views.{found-serial}
 use Rattle.store.specs.Store.{lineOf, ledgerOf, Good, StandsFor, Givable, Finds}
 use Rattle.logic.specs.Choice.{pick}

@@ -7,7 +7,7 @@ use denote.Ref.{now}
 use Rattle.logic.specs.Formula.{seat, place}
 use Rattle.logic.specs.Interval.{has}
 use Rattle.ledger.specs.Checks.{maxSize}
-use Rattle.store.specs.Layout.{maxRows, rowCount}
+use Rattle.cells.specs.Layout.{maxRows, rowCount}
 use Rattle.figures.proofs.Tallies.{Tallying, only-le, entry-small, tally-start, tally-end, tally-next}
 use Rattle.figures.proofs.tally.Statement.{statement}
 use Rattle.figures.proofs.tally.Tie as tie

@@ -4,7 +4,7 @@ use Prim.Native.Nat.{_≤_, _<_, _-_}
 use borrow.Author.Needs.{needs}
 use borrow.Author.Tests.{not-true, not-false}
 use native.Mathlib.Omega.{arith}
-use Rattle.store.specs.Layout.{maxRows}
+use Rattle.cells.specs.Layout.{maxRows}
 use Rattle.store.proofs.Gather.{Gathering, gather-start, gather-gap, gather-move, gather-hint, compact-done}
 use Rattle.store.proofs.compact.Statement.{statement}
 use Rattle.store.proofs.compact.Tie as tie
