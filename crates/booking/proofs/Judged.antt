@@ -20,7 +20,7 @@ use Rattle.ledger.specs.declared.Credential.{Credential}
 use Rattle.ledger.specs.Ledger.{row, held}
 use Rattle.ledger.specs.Checks.{Check, LabelTable, noLabels, readLabel, writeLabel, hypothesis, bookingSequent}
 use Rattle.ledger.specs.Checks.{verdict, steps}
-use Rattle.store.specs.Layout.{rowAt}
+use Rattle.cells.specs.Layout.{rowAt}
 use Rattle.store.specs.Store.{ledgerOf, Good}
 use Rattle.store.proofs.Views.{rows-are}
 use Rattle.tables.specs.Held.{heldAt, putHeld}

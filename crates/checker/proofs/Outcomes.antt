@@ -11,7 +11,7 @@ use Rattle.steps.specs.Check.{Beginning, full, begun, begin, done, stopped, jud
 use Rattle.steps.specs.Check.{premiseOf, checkOf}
 use Rattle.steps.specs.Check.{Outcome as Result}
 use Rattle.steps.specs.Plans.{planOf}
-use Rattle.store.specs.Layout.{rowAt}
+use Rattle.cells.specs.Layout.{rowAt}
 use Rattle.tables.specs.Held.{heldAt, putHeld}
 use Rattle.tables.specs.declared.StepRow.{StepRow}
 use Rattle.tables.specs.Lines.{stepRowAt, stepOf, stepAt, stepsFrom}

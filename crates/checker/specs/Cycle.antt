@@ -8,7 +8,7 @@ use Rattle.steps.specs.declared.Premise.{Premise}
 use Rattle.steps.specs.declared.Plan.{Plan}
 use Rattle.steps.specs.Check.{Judge, done, stopped, begin, judged, follow, premiseOf}
 use Rattle.steps.specs.Check.{Outcome as Result}
-use Rattle.store.specs.Layout.{rowAt}
+use Rattle.cells.specs.Layout.{rowAt}
 use Rattle.tables.specs.Held.{heldAt, putHeld}
 use Rattle.tables.specs.Lines.{stepsFrom}
 use Rattle.checker.specs.Flat.{outcomeOf}

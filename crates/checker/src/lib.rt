@@ -14,7 +14,7 @@ mod flat;
 ghost use mathlib.Core.Path.{_≡_};
 ghost use Prim.Native.Nat.{_≤_};
 ghost use Rattle.steps.specs.Check.{checkOf};
-ghost use Rattle.store.specs.Layout.{rowAt};
+ghost use Rattle.cells.specs.Layout.{rowAt};
 ghost use Rattle.tables.specs.Held.{heldAt, putHeld};
 ghost use Rattle.tables.specs.Lines.{stepsFrom};
 ghost use Rattle.checker.specs.Flat.{sequentOf, outcomeOf};

@@ -20,7 +20,7 @@ use Rattle.steps.specs.declared.Row.{Row}
 use Rattle.ledger.specs.Table.{form, rowOf, build, formulas}
 use Rattle.ledger.specs.Ledger.{Ledger, formula}
 use Rattle.ledger.proofs.Tables.{lineAt}
-use Rattle.store.specs.Layout.{rowAt}
+use Rattle.cells.specs.Layout.{rowAt}
 use Rattle.store.specs.Store.{ledgerOf, Good}
 use Rattle.store.proofs.Views.{row-is}
 use Rattle.figures.specs.Rows.{fairFor, fairRow}

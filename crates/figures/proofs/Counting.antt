@@ -5,7 +5,7 @@ use Prim.Native.Nat.{ℕ, _+_, _≤_, _<_}
 use lib.ListN.{length, set}
 use Rattle.logic.specs.Formula.{count, seat, place}
 use Rattle.ledger.proofs.Tables.{lineAt}
-use Rattle.store.specs.Layout.{rowAt}
+use Rattle.cells.specs.Layout.{rowAt}
 use Rattle.store.specs.Store.{ledgerOf, Good}
 use Rattle.store.proofs.Views.{row-is}
 use Rattle.figures.specs.Rows.{countRow}

@@ -1,5 +1,5 @@
--- The sums of a tally, credential by credential.
-use mathlib.Core.Path.{_≡_, refl, ap, _∙_}
+-- The sums of a tally, row by row: a gap reads as unrestricted, of which a tally counts nothing.
+use mathlib.Core.Path.{_≡_, refl, sym, ap, _∙_}
 use mathlib.Core.List.{List}
 use mathlib.Core.Bool.{Bool, true, false, not}
 use Prim.Native.Nat.{ℕ, _+_, _-_, _*_, _≤_}
@@ -17,10 +17,10 @@ use Rattle.ledger.specs.Ledger.{Ledger, formula, byKind}
 use Rattle.ledger.specs.Checks.{maxSize}
 use Rattle.ledger.specs.Calls.{only, seatsOf, placesOf, openSeats, shutSeats, placed}
 use Rattle.store.specs.Tab.{tab}
-use Rattle.store.specs.Layout.{credentialAt}
+use Rattle.cells.specs.Layout.{rowCount, credentialAt}
 use Rattle.store.specs.Store.{ledgerOf, Good}
 use Rattle.store.proofs.Tabs.{tab-snoc}
-use Rattle.store.proofs.Views.{live-length}
+use Rattle.store.proofs.Live.{live-sum}
 use Rattle.figures.specs.Column.{entry, Column}
 use Rattle.figures.specs.Figures.{Counted, Tallied}
 use Rattle.figures.proofs.Columns.{early-all}
@@ -33,7 +33,7 @@ opened t s m c = only (has (c .interval) m) (seatsOf t s c)
 abbrev closed : Ledger → ℕ → ℕ → Credential → ℕ
 closed t s m c = only (not (has (c .interval) m)) (seatsOf t s c)
 
--- o, h and p are the sums over the first i credentials
+-- o, h and p are the sums over the first i rows
 pub record Tallying (l : List ℕ) (s m i o h p : ℕ) : Type 0 where
   pub opens : o ≡ sum (opened (ledgerOf l) s m) (tab i (credentialAt l))
   pub shuts : h ≡ sum (closed (ledgerOf l) s m) (tab i (credentialAt l))
@@ -47,6 +47,10 @@ only-le false n = omega arith
 only-not : (b : Bool) (n : ℕ) → n - only b n ≡ only (not b) n
 only-not true n = omega arith
 only-not false n = omega arith
+
+only-zero : (b : Bool) → only b 0 ≡ 0
+only-zero true = refl
+only-zero false = refl
 
 sum-next : {A : Type 0} (f : A → ℕ) (cs : ℕ → A) (i o v : ℕ) → o ≡ sum f (tab i cs) → v ≡ f (cs i)
     → o + v ≡ sum f (tab (i + 1) cs)
@@ -71,15 +75,17 @@ module _ (l : List ℕ) (s m : ℕ) where
   unfolding tab sum
   tally-start = record { opens = refl; shuts = refl; places = refl; small = (omega arith, omega arith, omega arith) }
 
-  pub tally-end : (i o h p : ℕ) → i ≡ length (ledgerOf l .live) → Tallying l s m i o h p
+  pub tally-end : (i o h p : ℕ) → i ≡ rowCount l → Tallying l s m i o h p
       → Tallied l s m (record { «open» = o; shut = h; placed = p })
-  unfolding ledgerOf openSeats shutSeats placed
+  unfolding openSeats shutSeats placed
   tally-end i o h p e t =
-      let n = e ∙ live-length l in
+      let n : (f : Credential → ℕ) → ((c : Credential) → c .kind ≡ Unrestricted → f c ≡ 0)
+      → sum f (tab i (credentialAt l)) ≡ sum f (ledgerOf l .live) =
+      λ f z. ap (λ (k : ℕ). sum f (tab k (credentialAt l))) e ∙ sym (live-sum f z l) in
       record {
-        «open» = t .opens ∙ ap (λ (k : ℕ). sum (opened (ledgerOf l) s m) (tab k (credentialAt l))) n;
-        shut = t .shuts ∙ ap (λ (k : ℕ). sum (closed (ledgerOf l) s m) (tab k (credentialAt l))) n;
-        placed = t .places ∙ ap (λ (k : ℕ). sum (placesOf (ledgerOf l) s) (tab k (credentialAt l))) n;
+        «open» = t .opens ∙ n (opened (ledgerOf l) s m) (λ c q. rw q (only-zero (has (c .interval) m)));
+        shut = t .shuts ∙ n (closed (ledgerOf l) s m) (λ c q. rw q (only-zero (not (has (c .interval) m))));
+        placed = t .places ∙ n (placesOf (ledgerOf l) s) (λ c q. rw q);
       }
 
   module _ (g : Good l) (xs ys : List ℕ) (k : Counted l s (length (ledgerOf l .lines)) xs ys) where

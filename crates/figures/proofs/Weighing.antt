@@ -13,7 +13,7 @@ use Rattle.ledger.specs.Ledger.{formula}
 use Rattle.ledger.specs.Checks.{maxFormulas}
 use Rattle.ledger.proofs.Tables.{lineAt}
 use Rattle.steps.specs.declared.Row.{Row}
-use Rattle.store.specs.Layout.{rowAt}
+use Rattle.cells.specs.Layout.{rowAt}
 use Rattle.store.specs.Store.{ledgerOf, Good}
 use Rattle.store.proofs.Views.{row-is}
 use Rattle.figures.specs.Rows.{levelAt, fairFor, sideRow, upRow, downRow, evenRow}

@@ -150,7 +150,7 @@ pub fn tally(store: &Store, session: u32, minute: u32) -> Figures
     let mut seats = [0u32; 200];
     let mut places = [0u32; 200];
     count_rows(store, session, &mut seats, &mut places);
-    let n = store::live_count(store);
+    let n = store::row_count(store);
     let mut open = 0;
     let mut shut = 0;
     let mut placed = 0;

@@ -11,7 +11,7 @@ use tables::lines;
 ghost use mathlib.Core.Path.{_≡_};
 ghost use Prim.Native.Nat.{_≤_};
 ghost use Rattle.steps.specs.Plans.{planOf};
-ghost use Rattle.store.specs.Layout.{rowAt};
+ghost use Rattle.cells.specs.Layout.{rowAt};
 ghost use Rattle.tables.specs.Held.{heldAt};
 ghost use Rattle.tables.specs.Lines.{stepOf};
 

@@ -15,14 +15,15 @@ use Rattle.ledger.specs.Calls.{withLine}
 use Rattle.ledger.proofs.Tables.{formula-snoc, formula-stays}
 use Rattle.ledger.proofs.Bounds.{Bounded, line-bounded}
 use Rattle.store.specs.Tab.{tab}
-use Rattle.store.specs.Layout.{lineCount, lineCell, rowAt, sizeAt, plainAt, lineCells, putLineCount}
-use Rattle.store.specs.Layout.{putLine, liveCount, credentialAt}
+use Rattle.cells.specs.Layout.{lineCount, lineCell, rowAt, sizeAt, plainAt, lineCells, putLineCount}
+use Rattle.cells.specs.Layout.{putLine}
 use Rattle.store.specs.Store.{lineOf, ledgerOf, Canonical, Named, StandsFor, Addable}
-use Rattle.store.proofs.Tabs.{tab-ext, tab-append}
-use Rattle.store.proofs.Rows.{row-ext, row-below, SameLive, same-credential, count-live, head-same, head-line}
-use Rattle.store.proofs.Rows.{line-same, line-other, line-live}
+use Rattle.store.proofs.Tabs.{tab-append}
+use Rattle.cells.proofs.Rows.{row-ext, row-below, SameLive, count-live, head-same, head-line}
+use Rattle.cells.proofs.Rows.{line-same, line-other, line-live}
 use Rattle.store.proofs.Views.{lines-length}
 use Rattle.store.proofs.Names.{line-named}
+use Rattle.store.proofs.Live.{same-live, same-ordered}
 
 -- what is kept of row i is right
 record Right (m : List ℕ) (i : ℕ) : Type 0 where
@@ -78,13 +79,9 @@ module _ (l : List ℕ) (r : Row) (s : ℕ) (p : Bool) (a : Addable l r s p) whe
       rw count (tab-append n (λ i. lineOf (rowAt l i)) (λ i. lineOf (rowAt m i)) (lineOf r)
       (λ i q. ap lineOf (old-row i q)) (ap lineOf new-row))
 
-  same-live : tab (liveCount m) (credentialAt m) ≡ t .live
-  unfolding ledgerOf
-  same-live = rw (live .count) (tab-ext (liveCount l) _ _ (λ i q. same-credential l m live i))
-
   ledger : ledgerOf m ≡ withLine t (lineOf r)
   unfolding ledgerOf
-  ledger j = record { lines = added-lines j; live = same-live j; next = live .next j }
+  ledger j = record { lines = added-lines j; live = same-live l m live (a .good .ordered) j; next = live .next j }
 
   new-formula : formula (ledgerOf m) n ≡ form (formula t) (lineOf r)
   new-formula =
@@ -124,7 +121,7 @@ module _ (l : List ℕ) (r : Row) (s : ℕ) (p : Bool) (a : Addable l r s p) whe
     good = record {
       long = live .long;
       lines = omega (arith, count, room);
-      live = rw (live .count) (a .good .live);
+      ordered = same-ordered l m live (a .good .ordered);
       canonical = λ k h. right k h .canonical;
       sizes = λ k h. right k h .sized;
       plains = λ k h. right k h .plainly;

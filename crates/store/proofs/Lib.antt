@@ -1,11 +1,8 @@
-pub mod Sets
-pub mod Cells
 pub mod Tabs
 pub mod Search
-pub mod Shift
 pub mod Lines
-pub mod Rows
 pub mod Views
 pub mod Names
 pub mod Live
+pub mod Gather
 pub mod Added

@@ -1,65 +1,100 @@
--- Looking through rows in order, where a row is given by its index: what is found at i when no row before it is wanted.
-use mathlib.Core.Path.{_≡_, refl, ap}
+-- Looking through rows in order, where a row is given by its index: what is found, and what is left without it.
+use mathlib.Core.Path.{_≡_, refl, ap, _∙_}
 use mathlib.Core.List.{List, _∷_}
-use mathlib.Core.Option.{none, some}
+use mathlib.Core.Option.{Option, none, some}
 use mathlib.Core.Bool.{Bool, true, false, _||_}
 use Prim.Native.Nat.{ℕ, zero, suc, _<_}
 use native.Mathlib.Omega.{arith}
 use native.Mathlib.Nat.{le-of-suc-le-suc, not-suc-le-zero}
 use borrow.Author.Tests.{eq-eqb, ne-eqb}
 use Rattle.ledger.specs.declared.Credential.{Credential}
-use Rattle.ledger.specs.Ledger.{find, withoutSerial}
+use Rattle.logic.specs.Choice.{pick}
+use Rattle.ledger.specs.Ledger.{consSome, find, withoutSerial}
 use Rattle.ledger.specs.Checks.{any}
 use Rattle.ledger.proofs.Bounds.{Rises}
-use Rattle.store.specs.Tab.{tab, without}
+use Rattle.store.specs.Tab.{tab, present}
+use Rattle.store.proofs.Tabs.{tab-ext}
 
--- no row before i has the serial
-abbrev pub NoneBefore : (ℕ → Credential) → ℕ → ℕ → Type 0
-NoneBefore f s i = (k : ℕ) → k < i → f k .serial ≡ s → ⊥
+-- A row is what stands there, and whether it is a gap.
+abbrev pub entry : (ℕ → Credential) → (ℕ → Bool) → ℕ → Option Credential
+entry f g k = pick (g k) none (some (f k))
 
-pub find-none : (n : ℕ) (f : ℕ → Credential) (s : ℕ) → NoneBefore f s n → find (tab n f) s ≡ none
-unfolding tab find
-find-none zero f s h = refl
-find-none (suc n) f s h =
-    rw (ne-eqb (f zero .serial) s (h zero (omega arith)), find)
-    (find-none n (λ k. f (suc k)) s (λ k q. h (suc k) (omega arith)))
+-- of the first n rows, gaps too, only row i has the serial
+pub record Only (f : ℕ → Credential) (s n i : ℕ) : Type 0 where
+  pub here : f i .serial ≡ s
+  pub apart : (k : ℕ) → k < n → (k ≡ i → ⊥) → f k .serial ≡ s → ⊥
 
-pub find-at : (n : ℕ) (f : ℕ → Credential) (s i : ℕ) → i < n → NoneBefore f s i → f i .serial ≡ s
-    → find (tab n f) s ≡ some (f i)
-unfolding tab find
-find-at zero f s i q h e = absurd (not-suc-le-zero q)
-find-at (suc n) f s zero q h e = rw (eq-eqb (f zero .serial) s e, find)
-find-at (suc n) f s (suc i) q h e =
-    rw (ne-eqb (f zero .serial) s (h zero (omega arith)), find)
-    (find-at n (λ k. f (suc k)) s i (le-of-suc-le-suc q) (λ k q. h (suc k) (omega arith)) e)
+only-later : (f : ℕ → Credential) (s n i : ℕ) → Only f s (suc n) (suc i) → Only (λ k. f (suc k)) s n i
+only-later f s n i o = record { here = o .here; apart = λ k q h. o .apart (suc k) (omega arith) (omega arith) }
 
--- the one at i is the one taken out
-pub without-at : (n : ℕ) (f : ℕ → Credential) (s i : ℕ) → i < n → NoneBefore f s i → f i .serial ≡ s
-    → withoutSerial (tab n f) s ≡ without i (tab n f)
-unfolding tab withoutSerial
-without-at zero f s i q h e = absurd (not-suc-le-zero q)
-without-at (suc n) f s zero q h e = rw (eq-eqb (f zero .serial) s e, withoutSerial)
-without-at (suc n) f s (suc i) q h e =
-    rw (ne-eqb (f zero .serial) s (h zero (omega arith)), withoutSerial)
-    (ap (λ (r : List Credential). f zero ∷ r)
-    (without-at n (λ k. f (suc k)) s i (le-of-suc-le-suc q) (λ k q. h (suc k) (omega arith)) e))
+-- a first row of another serial is passed
+find-pass : (b : Bool) (c : Credential) (cs : List Credential) (s : ℕ) → (c .serial ≡ s → ⊥)
+    → find (consSome (pick b none (some c)) cs) s ≡ find cs s
+unfolding find
+find-pass true c cs s h = refl
+find-pass false c cs s h = rw (ne-eqb (c .serial) s h, find)
 
--- Where serials rise, no two are equal.
+without-pass : (b : Bool) (c : Credential) (cs : List Credential) (s : ℕ) → (c .serial ≡ s → ⊥)
+    → withoutSerial (consSome (pick b none (some c)) cs) s ≡ consSome (pick b none (some c)) (withoutSerial cs s)
+unfolding withoutSerial
+without-pass true c cs s h = refl
+without-pass false c cs s h = rw (ne-eqb (c .serial) s h, withoutSerial)
+
+module _ (s : ℕ) where
+  pub find-none : (n : ℕ) (f : ℕ → Credential) (g : ℕ → Bool) → ((k : ℕ) → k < n → f k .serial ≡ s → ⊥)
+      → find (present (tab n (entry f g))) s ≡ none
+  unfolding tab present find
+  find-none zero f g h = refl
+  find-none (suc n) f g h =
+      find-pass (g zero) (f zero) _ s (h zero (omega arith))
+      ∙ find-none n (λ k. f (suc k)) (λ k. g (suc k)) (λ k q. h (suc k) (omega arith))
+
+  -- the one of its serial is found, unless it has left
+  pub find-row : (n : ℕ) (f : ℕ → Credential) (g : ℕ → Bool) (i : ℕ) → i < n → Only f s n i
+      → find (present (tab n (entry f g))) s ≡ entry f g i
+  unfolding tab present find
+  find-row zero f g i q o = absurd (not-suc-le-zero q)
+  find-row (suc n) f g zero q o =
+      go (g zero) (find-none n (λ k. f (suc k)) (λ k. g (suc k)) (λ k q. o .apart (suc k) (omega arith) (omega arith)))
+    where
+      go : (b : Bool) → find (present (tab n (entry (λ k. f (suc k)) (λ k. g (suc k))))) s ≡ none
+          → find (consSome (pick b none (some (f zero))) (present (tab n (entry (λ k. f (suc k)) (λ k. g (suc k)))))) s
+          ≡ pick b none (some (f zero))
+      go true e = e
+      go false e = rw (eq-eqb (f zero .serial) s (o .here), find)
+  find-row (suc n) f g (suc i) q o =
+      find-pass (g zero) (f zero) _ s (o .apart zero (omega arith) (omega arith))
+      ∙ find-row n (λ k. f (suc k)) (λ k. g (suc k)) i (le-of-suc-le-suc q) (only-later f s n i o)
+
+  -- the one at i is the one taken out
+  pub without-row : (n : ℕ) (f : ℕ → Credential) (g : ℕ → Bool) (e : ℕ → Option Credential) (i : ℕ) → i < n
+      → Only f s n i → entry f g i ≡ some (f i) → e i ≡ none → ((k : ℕ) → (k ≡ i → ⊥) → e k ≡ entry f g k)
+      → present (tab n e) ≡ withoutSerial (present (tab n (entry f g))) s
+  unfolding tab present withoutSerial
+  without-row zero f g e i q o a b h = absurd (not-suc-le-zero q)
+  without-row (suc n) f g e zero q o a b h =
+      rw (a, b, tab-ext n (λ k. e (suc k)) (entry (λ k. f (suc k)) (λ k. g (suc k))) (λ k q. h (suc k) (omega arith)))
+      (taken (f zero) _ (o .here))
+    where
+      taken : (c : Credential) (cs : List Credential) → c .serial ≡ s → cs ≡ withoutSerial (c ∷ cs) s
+      taken c cs e = rw (eq-eqb (c .serial) s e, withoutSerial)
+  without-row (suc n) f g e (suc i) q o a b h =
+      rw (
+        h zero (omega arith),
+        without-pass (g zero) (f zero) (present (tab n (entry (λ k. f (suc k)) (λ k. g (suc k))))) s
+            (o .apart zero (omega arith) (omega arith)),
+      )
+      (ap (consSome (pick (g zero) none (some (f zero))))
+      (without-row n (λ k. f (suc k)) (λ k. g (suc k)) (λ k. e (suc k)) i (le-of-suc-le-suc q)
+      (only-later f s n i o) a b (λ k d. h (suc k) (omega arith))))
+
+-- Where serials rise, a later one is above an earlier one.
 rises-above : (lo n : ℕ) (f : ℕ → Credential) (i : ℕ) → Rises lo (tab n f) → i < n → lo < f i .serial
 unfolding tab
 rises-above lo zero f i r q = absurd (not-suc-le-zero q)
 rises-above lo (suc n) f zero r q = r .0
 rises-above lo (suc n) f (suc i) r q =
     omega (arith, r .0, rises-above (f zero .serial) n (λ k. f (suc k)) i (r .1) (le-of-suc-le-suc q))
-
-pub rises-apart : (lo n : ℕ) (f : ℕ → Credential) (i : ℕ) → Rises lo (tab n f) → i < n → NoneBefore f (f i .serial) i
-unfolding tab
-rises-apart lo zero f i r q k h e = not-suc-le-zero q
-rises-apart lo (suc n) f zero r q k h e = not-suc-le-zero h
-rises-apart lo (suc n) f (suc i) r q zero h e =
-    omega (arith, rises-above (f zero .serial) n (λ k. f (suc k)) i (r .1) (le-of-suc-le-suc q))
-rises-apart lo (suc n) f (suc i) r q (suc k) h e =
-    rises-apart (f zero .serial) n (λ k. f (suc k)) i (r .1) (le-of-suc-le-suc q) k (le-of-suc-le-suc h) e
 
 pub rises-between : (lo n : ℕ) (f : ℕ → Credential) (i j : ℕ) → Rises lo (tab n f) → i < j → j < n
     → f i .serial < f j .serial

@@ -1,12 +1,15 @@
--- Laws of `tab`.
+-- Laws of `tab` and `present`.
 use Prim.Native.Nat.{ℕ, zero, suc, _+_, _<_, _≤_}
-use mathlib.Core.Path.{_≡_, refl, ap}
+use mathlib.Core.Path.{_≡_, refl, ap, _∙_}
 use mathlib.Core.List.{List, [], _∷_, _++_}
+use mathlib.Core.Option.{Option, none, some}
 use native.Mathlib.Omega.{arith}
 use native.Mathlib.Numerals.{add-one}
 use native.Mathlib.Nat.{le-of-suc-le-suc, not-suc-le-zero}
 use lib.ListN.{length, getD, drop}
-use Rattle.store.specs.Tab.{tab, without}
+use Rattle.logic.specs.Multiset.{Every, sum}
+use Rattle.ledger.specs.Ledger.{consSome}
+use Rattle.store.specs.Tab.{tab, present}
 
 module _ {A : Type 0} where
   pub length-tab : (n : ℕ) (f : ℕ → A) → length (tab n f) ≡ n
@@ -51,16 +54,45 @@ module _ {A : Type 0} where
       → tab (n + 1) g ≡ tab n f ++ (c ∷ [])
   tab-append n f g c same last = rw (add-one, tab-snoc) (cc (tab-ext n g f same))
 
-  -- one fewer: the rows below i stand, and those from i on are the next ones
-  pub tab-without : (n : ℕ) (f g : ℕ → A) (i : ℕ) → i ≤ n
-      → ((k : ℕ) → k < i → g k ≡ f k) → ((k : ℕ) → i ≤ k → k < n → g k ≡ f (suc k))
-      → tab n g ≡ without i (tab (suc n) f)
+  -- what every row has
+  pub every-tab : (P : A → Type 0) (n : ℕ) (f : ℕ → A) → Every P (tab n f) → (i : ℕ) → i < n → P (f i)
   unfolding tab
-  tab-without n f g zero h low high = tab-ext n g (λ k. f (suc k)) (λ k q. high k (omega arith) q)
-  tab-without zero f g (suc i) h low high = absurd (not-suc-le-zero h)
-  tab-without (suc n) f g (suc i) h low high =
-      cc (
-        low zero (omega arith),
-        tab-without n (λ k. f (suc k)) (λ k. g (suc k)) i (le-of-suc-le-suc h)
-            (λ k q. low (suc k) (omega arith)) (λ k p q. high (suc k) (omega arith) (omega arith)),
-      )
+  every-tab P zero f h i q = absurd (not-suc-le-zero q)
+  every-tab P (suc n) f h zero q = h .0
+  every-tab P (suc n) f h (suc i) q = every-tab P n (λ k. f (suc k)) (h .1) i (le-of-suc-le-suc q)
+
+-- What is there of a list.
+module _ {A : Type 0} where
+  pub present-snoc : (os : List (Option A)) (o : Option A)
+      → present (os ++ (o ∷ [])) ≡ present os ++ consSome o []
+  unfolding present
+  present-snoc [] o = refl
+  present-snoc (none ∷ os) o = present-snoc os o
+  present-snoc (some x ∷ os) o = ap {B = List A} (λ r. x ∷ r) (present-snoc os o)
+
+  pub present-next : (n : ℕ) (f : ℕ → Option A) → present (tab (n + 1) f) ≡ present (tab n f) ++ consSome (f n) []
+  present-next n f = rw add-one (ap present (tab-snoc n f) ∙ present-snoc (tab n f) (f n))
+
+  -- where nothing is missing
+  pub present-all : (n : ℕ) (f : ℕ → Option A) (g : ℕ → A) → ((i : ℕ) → i < n → f i ≡ some (g i))
+      → present (tab n f) ≡ tab n g
+  unfolding tab present
+  present-all zero f g h = refl
+  present-all (suc n) f g h =
+      rw (h zero (omega arith)) (ap {B = List A} (λ r. g zero ∷ r)
+      (present-all n (λ k. f (suc k)) (λ k. g (suc k)) (λ i q. h (suc i) (omega arith))))
+
+  -- a sum over what is there, where f sees nothing in the gaps
+  module _ (f : A → ℕ) where
+    sum-present : (o : Option A) (xs : List A) → sum f (consSome o xs) ≡ sum f (consSome o []) + sum f xs
+    unfolding sum
+    sum-present none xs = omega arith
+    sum-present (some x) xs = omega arith
+
+    pub present-sum : (n : ℕ) (e : ℕ → Option A) (g : ℕ → A) → ((i : ℕ) → sum f (consSome (e i) []) ≡ f (g i))
+        → sum f (present (tab n e)) ≡ sum f (tab n g)
+    unfolding tab present sum
+    present-sum zero e g h = refl
+    present-sum (suc n) e g h =
+        sum-present (e zero) _
+        ∙ omega (arith, h zero, present-sum n (λ k. e (suc k)) (λ k. g (suc k)) (λ i. h (suc i)))

@@ -23,8 +23,9 @@ use Rattle.ledger.proofs.Bounds.{Bounded}
 use Rattle.store.specs.declared.Found.{Found}
 use Rattle.store.specs.declared.Found.the-variants.{At, Nothing}
 use Rattle.logic.specs.Choice.{pick}
-use Rattle.store.specs.Tab.{tab}
-use Rattle.store.specs.Layout.{cells, lineCount, liveCount, nextSerial, rowAt, sizeAt, plainAt, credentialAt}
+use Rattle.store.specs.Tab.{tab, present}
+use Rattle.cells.specs.Layout.{cells, maxRows, lineCount, liveCount, nextSerial, rowCount, rowAt, sizeAt, plainAt}
+use Rattle.cells.specs.Layout.{credentialAt, gapAt, entryAt}
 
 -- the line of a row, by its letter; 1 for any other letter
 unfoldable pub lineOf : Row → Line
@@ -44,7 +45,7 @@ lineOf r =
 unfoldable pub ledgerOf : List ℕ → Ledger
 ledgerOf l = record {
   lines = tab (lineCount l) (λ i. lineOf (rowAt l i));
-  live = tab (liveCount l) (credentialAt l);
+  live = present (tab (rowCount l) (entryAt l));
   next = nextSerial l;
 }
 
@@ -56,12 +57,19 @@ Canonical r = rowOf (lineOf r) ≡ r
 abbrev pub Named : Ledger → Type 0
 Named t = Every (λ c. c .formula < length (t .lines)) (t .live)
 
+-- The credential rows in use, gaps too: serials rise from row to row and are below the next; the live ones are counted.
+pub record Ordered (l : List ℕ) : Type 0 where
+  pub few : rowCount l ≤ maxRows
+  pub counted : liveCount l ≡ length (ledgerOf l .live)
+  pub between : (i j : ℕ) → i < j → j < rowCount l → credentialAt l i .serial < credentialAt l j .serial
+  pub below : (i : ℕ) → i < rowCount l → credentialAt l i .serial < nextSerial l
+
 -- A store that calls made: what is kept beside the lines is right, and the ledger has what every ledger that calls gave
 -- has (`bounded`): lines name earlier lines, serials rise and are below the next, sizes are at most 64.
 pub record Good (l : List ℕ) : Type 0 where
   pub long : length l ≡ cells
   pub lines : lineCount l ≤ maxFormulas
-  pub live : liveCount l ≤ maxLive
+  pub ordered : Ordered l
   pub canonical : (i : ℕ) → i < lineCount l → Canonical (rowAt l i)
   pub sizes : (i : ℕ) → i < lineCount l → sizeAt l i ≡ size (formula (ledgerOf l) i)
   pub plains : (i : ℕ) → i < lineCount l → plainAt l i ≡ bit (plain (formula (ledgerOf l) i))
@@ -90,13 +98,26 @@ pub record Givable (l : List ℕ) (n : ℕ) : Type 0 where
   pub unused : ledgerOf l .next ≤ serial .last
   pub there : n < length (ledgerOf l .lines)
 
+-- a live credential stands in row i
+abbrev pub Occupied : List ℕ → ℕ → Type 0
+Occupied l i = (i < rowCount l) × (entryAt l i ≡ some (credentialAt l i))
+
+-- what moving the live credentials of l together leaves: the same ledger, and as many rows as are live
+pub record Compacted (l m : List ℕ) : Type 0 where
+  pub stands : StandsFor m (ledgerOf l)
+  pub rows : rowCount m ≡ length (ledgerOf l .live)
+
+-- what is found in row i
+unfoldable pub foundAt : List ℕ → ℕ → Found
+foundAt l i = pick (gapAt l i) Nothing (At i (credentialAt l i))
+
 -- the credential of an answer of `find`, and where it stands
 abbrev pub credentialOf : Found → Option Credential
 credentialOf (At i c) = some c
 credentialOf Nothing = none
 
 abbrev pub Placed : List ℕ → Found → Type 0
-Placed l (At i c) = (i < length (ledgerOf l .live)) × (credentialAt l i ≡ c)
+Placed l (At i c) = Occupied l i × (credentialAt l i ≡ c)
 Placed l Nothing = Unit {0}
 
 pub record Finds (l : List ℕ) (n : ℕ) (r : Found) : Type 0 where

@@ -1,7 +1,8 @@
--- A list made from a count and a function from the index.
-use mathlib.Core.List.{List, [], _∷_, _++_}
+-- A list made from a count and a function from the index, and what is there of a list.
+use mathlib.Core.List.{List, [], _∷_}
+use mathlib.Core.Option.{Option}
 use Prim.Native.Nat.{ℕ, zero, suc}
-use lib.ListN.{take, drop}
+use Rattle.ledger.specs.Ledger.{consSome}
 
 module _ {A : Type 0} where
   -- f 0, f 1, .. f (n - 1)
@@ -9,6 +10,7 @@ module _ {A : Type 0} where
   tab zero f = []
   tab (suc n) f = f zero ∷ tab n (λ k. f (suc k))
 
-  -- the list without what stands at i
-  abbrev pub without : ℕ → List A → List A
-  without i l = take i l ++ drop (suc i) l
+  -- those that are there, in order
+  unfoldable pub present : List (Option A) → List A
+  present [] = []
+  present (o ∷ os) = consSome o (present os)

@@ -1,12 +1,10 @@
-// The ledger's state (document 01: the till) in one array of numbers, which the caller keeps and lends to every call:
-// specs/Layout.antt says where each number stands, specs/Store.antt which ledger it is and what holds of every store.
+// The ledger's state (document 01: the till) in one array of numbers, which the caller keeps and lends to every call.
+// The crate `cells` knows where each number stands; specs/Store.antt says which ledger an array is, and what holds of
+// every store.
 use ledger::Credential;
 use logic::Interval;
 use request::Kind;
 use steps::Row;
-
-mod row;
-
 ghost use mathlib.Core.Path.{_≡_};
 ghost use Prim.Native.Nat.{_<_};
 ghost use lib.ListN.{length};
@@ -15,10 +13,11 @@ ghost use Rattle.ledger.specs.Table.{rowOf};
 ghost use Rattle.ledger.specs.Ledger.{empty, formula, withoutSerial};
 ghost use Rattle.ledger.specs.Checks.{any, sameRow};
 ghost use Rattle.ledger.specs.Calls.{withLine, withLive, withCredential};
-ghost use Rattle.store.specs.Layout.{rowAt, credentialAt};
-ghost use Rattle.store.specs.Store.{lineOf, ledgerOf, Good, StandsFor, Addable, Givable, Finds};
+ghost use Rattle.cells.specs.Layout.{rowCount, rowAt, credentialAt};
+ghost use Rattle.store.specs.Store.{lineOf, ledgerOf, Good, StandsFor, Addable, Givable, Occupied, Finds};
+ghost use Rattle.store.specs.Store.{foundAt, Compacted};
 
-pub type Store = [u32; 3964];
+pub type Store = cells::Store;
 
 // the letter of 1
 const ONE: u32 = b'o' as u32;
@@ -33,27 +32,28 @@ pub enum Found {
 pub fn start(store: &mut Store)
     ensures { λ _. ⌜ StandsFor (now (store .exit)) empty ⌝ }
 {
-    *store = [0u32; 3964];
-    row::put_next(store, 1);
+    *store = [0u32; 7548];
+    cells::put_next(store, 1);
 }
 
 // How many formula lines and how many live credentials there are, and the serial that the next one gets.
 pub fn formula_count(store: &Store) -> u32
     ensures { λ r. ⌜ r ≡ length (ledgerOf (now (store .entry)) .lines) ⌝ }
 {
-    row::line_count(store)
+    cells::line_count(store)
 }
 
 pub fn live_count(store: &Store) -> u32
+    requires { ⌜ Good (now store) ⌝ }
     ensures { λ r. ⌜ r ≡ length (ledgerOf (now (store .entry)) .live) ⌝ }
 {
-    row::live_count(store)
+    cells::live_count(store)
 }
 
 pub fn next_serial(store: &Store) -> u32
     ensures { λ r. ⌜ r ≡ ledgerOf (now (store .entry)) .next ⌝ }
 {
-    row::next(store)
+    cells::next(store)
 }
 
 // The row of a formula's number; of a number that names none, that of 1.
@@ -61,8 +61,8 @@ pub fn row_at(store: &Store, n: u32) -> Row
     ensures { λ r. ⌜ r ≡ rowAt (now (store .entry)) n ⌝ }
 {
     if n < 200 {
-        if n < row::line_count(store) {
-            return row::line_row(store, n);
+        if n < cells::line_count(store) {
+            return cells::line_row(store, n);
         }
     }
     Row {
@@ -79,14 +79,14 @@ pub fn size_at(store: &Store, n: u32) -> u32
     requires { ⌜ Good (now store) × (n < length (ledgerOf (now store) .lines)) ⌝ }
     ensures { λ r. ⌜ r ≡ size (formula (ledgerOf (now (store .entry))) n) ⌝ }
 {
-    row::size(store, n)
+    cells::size(store, n)
 }
 
 pub fn plain_at(store: &Store, n: u32) -> bool
     requires { ⌜ Good (now store) × (n < length (ledgerOf (now store) .lines)) ⌝ }
     ensures { λ r. ⌜ r ≡ plain (formula (ledgerOf (now (store .entry))) n) ⌝ }
 {
-    row::plain(store, n) == 1
+    cells::plain(store, n) == 1
 }
 
 // Equal letters and equal fields.
@@ -101,7 +101,7 @@ pub fn has_row(store: &Store, row: Row) -> bool
     requires { ⌜ Good (now store) ⌝ }
     ensures { λ r. ⌜ r ≡ any (λ m. sameRow row (rowOf m)) (ledgerOf (now (store .entry)) .lines) ⌝ }
 {
-    let n = row::line_count(store);
+    let n = cells::line_count(store);
     let mut i = 0;
     while i < n {
         let other = row_at(store, i);
@@ -118,33 +118,51 @@ pub fn add_row(store: &mut Store, row: Row, size: u32, plain: bool)
     requires { ⌜ Addable (now store) row size plain ⌝ }
     ensures { λ _. ⌜ StandsFor (now (store .exit)) (withLine (ledgerOf (now (store .entry))) (lineOf row)) ⌝ }
 {
-    let n = row::line_count(store);
-    row::put_line(store, n, row, size, plain);
-    row::put_line_count(store, n + 1);
+    let n = cells::line_count(store);
+    cells::put_line(store, n, row, size, plain);
+    cells::put_line_count(store, n + 1);
 }
 
-// The credential at a place.
+// How many credential rows are in use, gaps too.
+pub fn row_count(store: &Store) -> u32
+    ensures { λ r. ⌜ r ≡ rowCount (now (store .entry)) ⌝ }
+{
+    cells::row_count(store)
+}
+
+// The credential of a row; one that has left reads as unrestricted.
 pub fn credential_at(store: &Store, i: u32) -> Credential
-    requires { ⌜ Good (now store) × (i < length (ledgerOf (now store) .live)) ⌝ }
+    requires { ⌜ Good (now store) × (i < rowCount (now store)) ⌝ }
     ensures { λ r. ⌜ r ≡ credentialAt (now (store .entry)) i ⌝ }
 {
-    row::credential(store, i)
+    cells::credential(store, i)
+}
+
+// What is found in a row: nothing in a gap.
+fn found_at(store: &Store, i: u32) -> Found
+    requires { ⌜ i < 1024 ⌝ }
+    ensures { λ r. ⌜ r ≡ foundAt (now (store .entry)) i ⌝ }
+{
+    if cells::gap(store, i) {
+        return Found::Nothing;
+    }
+    Found::At(i, cells::credential(store, i))
 }
 
 // The live credential of a serial: serials rise, so half of what is left goes with each look.
-pub fn find(store: &Store, serial: u32) -> Found
+fn find_by_halves(store: &Store, serial: u32) -> Found
     requires { ⌜ Good (now store) ⌝ }
     ensures { λ r. ⌜ Finds (now (store .entry)) serial r ⌝ }
 {
     let mut low = 0;
-    let mut high = row::live_count(store);
+    let mut high = cells::row_count(store);
     while low < high {
         let middle = (low + high) / 2;
-        let found = row::serial(store, middle);
-        if found == serial {
-            return Found::At(middle, row::credential(store, middle));
+        let seen = cells::serial(store, middle);
+        if seen == serial {
+            return found_at(store, middle);
         }
-        if found < serial {
+        if seen < serial {
             low = middle + 1;
         } else {
             high = middle;
@@ -153,20 +171,83 @@ pub fn find(store: &Store, serial: u32) -> Found
     Found::Nothing
 }
 
-// The credential at a place leaves, and those after it move down by one.
+// The live credential of a serial: where the hint says, or else by halves.
+pub fn find(store: &Store, serial: u32) -> Found
+    requires { ⌜ Good (now store) ⌝ }
+    ensures { λ r. ⌜ Finds (now (store .entry)) serial r ⌝ }
+{
+    let i = cells::hint(store, serial);
+    if i < cells::row_count(store) {
+        if cells::serial(store, i) == serial {
+            return found_at(store, i);
+        }
+    }
+    find_by_halves(store, serial)
+}
+
+// The credential of a row leaves: the row becomes a gap.
 pub fn remove(store: &mut Store, at: u32)
-    requires { ⌜ Good (now store) × (at < length (ledgerOf (now store) .live)) ⌝ }
+    requires { ⌜ Good (now store) × Occupied (now store) at ⌝ }
     ensures { λ _. ⌜ StandsFor (now (store .exit)) (withLive (ledgerOf (now (store .entry)))
         (withoutSerial (ledgerOf (now (store .entry)) .live) (credentialAt (now (store .entry)) at .serial))) ⌝ }
 {
-    let n = row::live_count(store) - 1;
-    let mut i = at;
-    while i < n {
-        let c = row::credential(store, i + 1);
-        row::put_credential(store, i, c);
+    let n = cells::live_count(store);
+    cells::put_gap(store, at);
+    cells::put_live_count(store, n - 1);
+}
+
+// The live credentials move together, in order, so that no gap is left.
+fn compact(store: &mut Store)
+    requires { ⌜ Good (now store) ⌝ }
+    ensures { λ _. ⌜ Compacted (now (store .entry)) (now (store .exit)) ⌝ }
+{
+    let used = cells::row_count(store);
+    let mut i = 0;
+    let mut k = 0;
+    while i < used {
+        let from = i;
         i += 1;
+        if !cells::gap(store, from) {
+            let c = cells::credential(store, from);
+            cells::put_credential(store, k, c);
+            cells::put_hint(store, c.serial, k);
+            k += 1;
+        }
     }
-    row::put_live_count(store, n);
+    cells::put_row_count(store, k);
+}
+
+// A row is free: where all are in use, the live credentials move together first.
+fn make_room(store: &mut Store)
+    requires { ⌜ Good (now store) × (length (ledgerOf (now store) .live) < 1024) ⌝ }
+    ensures { λ _. ⌜ StandsFor (now (store .exit)) (ledgerOf (now (store .entry)))
+        × (rowCount (now (store .exit)) < 1024) ⌝ }
+{
+    if cells::row_count(store) == 1024 {
+        compact(store);
+    }
+}
+
+// One credential more, in the next row.
+fn append(store: &mut Store, kind: Kind, formula: u32, interval: Interval)
+    requires { ⌜ Givable (now store) formula × (rowCount (now store) < 1024) ⌝ }
+    ensures { λ _. ⌜ StandsFor (now (store .exit))
+        (withCredential (ledgerOf (now (store .entry))) kind formula interval) ⌝ }
+{
+    let i = cells::row_count(store);
+    let n = cells::live_count(store);
+    let serial = cells::next(store);
+    let c = Credential {
+        serial,
+        kind,
+        formula,
+        interval,
+    };
+    cells::put_credential(store, i, c);
+    cells::put_row_count(store, i + 1);
+    cells::put_live_count(store, n + 1);
+    cells::put_next(store, serial + 1);
+    cells::put_hint(store, serial, i);
 }
 
 // One credential more, with the next serial.
@@ -175,15 +256,6 @@ pub fn give(store: &mut Store, kind: Kind, formula: u32, interval: Interval)
     ensures { λ _. ⌜ StandsFor (now (store .exit))
         (withCredential (ledgerOf (now (store .entry))) kind formula interval) ⌝ }
 {
-    let n = row::live_count(store);
-    let serial = row::next(store);
-    let c = Credential {
-        serial,
-        kind,
-        formula,
-        interval,
-    };
-    row::put_credential(store, n, c);
-    row::put_live_count(store, n + 1);
-    row::put_next(store, serial + 1);
+    make_room(store);
+    append(store, kind, formula, interval);
 }

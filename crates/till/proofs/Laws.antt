@@ -24,10 +24,10 @@ use Rattle.ledger.specs.Ledger.{Ledger, formula, withoutSerial, isNone}
 use Rattle.ledger.specs.Checks.{_if_, any, maxLive, missing, noRoom, usedUp, checks, readChecks}
 use Rattle.ledger.specs.Calls.{Reply, openSeats, shutSeats, withLive, withCredential, accept}
 use Rattle.ledger.specs.Statements.{Pass, FirstFails}
-use Rattle.ledger.proofs.Credentials.{take-out}
 use Rattle.ledger.proofs.Firsts.{if-false, if-true, skip, hit, handle-fails, handle-passes}
 use Rattle.store.specs.declared.Found.the-variants.{At, Nothing}
-use Rattle.store.specs.Layout.{credentialAt}
+use Rattle.cells.specs.Layout.{credentialAt}
+use Rattle.store.proofs.Views.{found-serial}
 use Rattle.store.specs.Store.{lineOf, ledgerOf, Good, StandsFor, Givable, Finds}
 use Rattle.logic.specs.Choice.{pick}
 use Rattle.figures.specs.declared.Figures.{Figures}
@@ -77,11 +77,9 @@ pub withdraw-done : (l l′ : List ℕ) (n i : ℕ) (c : Credential) → Finds l
 unfolding checks intervals any accept
 withdraw-done l l′ n i c f s =
     let t = ledgerOf l in
-    let m : credentialAt l i .serial ≡ n =
-    ap (λ (x : Credential). x .serial) (f .placed .1) ∙ take-out (t .live) n (sym (f .found)) .0 in
     accepted l l′ (withdraw n) (Accepted n)
     (if-false 3 false refl, (if-false 24 _ (sym (ap isNone (f .found))), tt)) refl tt
-    (subst (λ (k : ℕ). StandsFor l′ (withLive t (withoutSerial (t .live) k))) m s)
+    (subst (λ (k : ℕ). StandsFor l′ (withLive t (withoutSerial (t .live) k))) (found-serial l n f) s)
 
 -- Tally
 

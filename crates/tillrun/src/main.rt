@@ -82,7 +82,7 @@ fn play(till: &mut Store, begun: &mut [u8], text: &mut [u8], piece: &mut [u8])
 }
 
 fn main() {
-    let mut till = [0u32; 3964];
+    let mut till = [0u32; 7548];
     store::start(&mut till);
     let mut begun = [0u8; 16385];
     let mut text = [0u8; 147456];

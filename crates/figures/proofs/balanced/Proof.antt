@@ -8,7 +8,7 @@ use borrow.Author.Needs.{needs}
 use borrow.Author.Tests.{not-true, not-false}
 use denote.Ref.{now}
 use Rattle.ledger.specs.Ledger.{formula}
-use Rattle.store.specs.Layout.{rowAt}
+use Rattle.cells.specs.Layout.{rowAt}
 use Rattle.store.specs.Store.{ledgerOf}
 use Rattle.figures.specs.Rows.{fairRow}
 use Rattle.figures.proofs.Balancing.{unfair, all-fair}

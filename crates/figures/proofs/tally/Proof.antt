@@ -1,14 +1,13 @@
--- `tally` meets its contract. The loop: the sums are those over the first i credentials.
+-- `tally` meets its contract. The loop: the sums are those over the first i rows.
 use mathlib.Core.Path.{_≡_, refl}
 use Prim.Native.Nat.{ℕ, _≤_, _<_, _-_}
 use native.Mathlib.Omega.{arith}
 use borrow.Author.Needs.{needs}
-use lib.ListN.{length}
 use denote.Ref.{now}
 use Rattle.logic.specs.Formula.{seat, place}
 use Rattle.logic.specs.Interval.{has}
-use Rattle.ledger.specs.Checks.{maxSize, maxLive}
-use Rattle.store.specs.Store.{ledgerOf}
+use Rattle.ledger.specs.Checks.{maxSize}
+use Rattle.cells.specs.Layout.{maxRows, rowCount}
 use Rattle.figures.proofs.Tallies.{Tallying, only-le, entry-small, tally-start, tally-end, tally-next}
 use Rattle.figures.proofs.tally.Statement.{statement}
 use Rattle.figures.proofs.tally.Tie as tie
@@ -28,16 +27,16 @@ credential-at-requires c κs =
     let at = c .before in
     let s = at .before .before .before .before .before in
     let h = c .loop-test .taken in
-    (s .pre, omega (arith, at .before .live-count .ensures))
+    (s .pre, omega (arith, at .before .row-count .ensures))
 
 at-requires : tie.Need-at-requires Inv-loop μ-loop
 at-requires c κs = c .before .before .before .before .before .count-rows .ensures .seats .long
 
--- what a credential adds is at most its formula's size, and there are at most 512
+-- what a credential adds is at most its formula's size, and there are at most 1,024 rows
 record Bounds (v w i : ℕ) : Type 0 where
   held : v ≤ maxSize
   inside : w ≤ v
-  few : i < maxLive
+  few : i < maxRows
 
 bounds : (c : tie.After-when-has Inv-loop μ-loop)
     → Bounds (c .before .when-linear .result) (c .when-has .result)
@@ -55,7 +54,7 @@ bounds c =
           (c .before .when-linear .ensures);
       inside = let m = only-le (has (d .interval) (s .args .minute)) (c .before .when-linear .result) in
           omega (arith, c .when-has .ensures);
-      few = omega (arith, k .before .before .before .live-count .ensures, s .pre .bounded .live);
+      few = omega (arith, k .before .before .before .row-count .ensures, s .pre .ordered .few);
     }
 
 add-open : tie.Need-add-open Inv-loop μ-loop
@@ -111,7 +110,7 @@ returns c =
     let s = at .before .before .before .before .before in
     let l = now (s .args .store) in
     let h = c .loop-test .left in
-    let e : at .loop .i ≡ length (ledgerOf l .live) = omega (arith, at .before .live-count .ensures) in
+    let e : at .loop .i ≡ rowCount l = omega (arith, at .before .row-count .ensures) in
     tally-end l _ _ _ _ _ _ e (at .loop .inv .1)
 
 pub tally-spec : {M : Type 1} → statement M

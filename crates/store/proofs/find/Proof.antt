@@ -1,84 +1,36 @@
--- `find` meets its contract. The loop: serials before `low` are smaller, those from `high` on are larger.
-use Prim.Native.Nat.{_-_}
+-- `find` meets its contract: the row of the hint has the serial, or the search by halves answers.
+use mathlib.Core.Path.{sym, _∙_}
 use borrow.Author.Needs.{needs}
 use native.Mathlib.Omega.{arith}
-use mathlib.Core.Path.{sym, _∙_}
-use denote.Ref.{now}
-use Rattle.store.proofs.Views.{Halving, first-half, upper-half, lower-half, found-at, found-nothing}
+use Rattle.store.proofs.Views.{found-row}
 use Rattle.store.proofs.find.Statement.{statement}
 use Rattle.store.proofs.find.Tie as tie
 
-abbrev Inv-loop : tie.InvT-loop
-Inv-loop store serial low₀ high₀ low high = Halving store serial low high
-
-abbrev μ-loop : tie.MeasureT-loop
-μ-loop store serial low₀ high₀ low high = high - low
-
-loop-holds : tie.Need-loop-holds Inv-loop μ-loop
-loop-holds c = first-half _ (c .before .pre) _ (c .live-count .ensures)
-
-add-middle : tie.Need-add-middle Inv-loop μ-loop
-add-middle c =
-    let at = c .before in
-    omega (arith, at .loop .inv .ends .0, at .loop .inv .ends .1, at .before .before .pre .live)
-
-serial-requires : tie.Need-serial-requires Inv-loop μ-loop
+serial-requires : tie.Need-serial-requires
 serial-requires c κs =
     let at = c .before in
-    omega (arith, c .loop-test .taken, at .loop .inv .ends .1, at .before .before .pre .live)
+    omega (arith, at .row-count .ensures, at .before .before .pre .ordered .few)
 
-credential-requires : tie.Need-credential-requires Inv-loop μ-loop
-credential-requires c κs =
-    let turn = c .before .before in
-    let at = turn .before in
-    omega (arith, turn .loop-test .taken, at .loop .inv .ends .1, at .before .before .pre .live)
+found-at-requires : tie.Need-found-at-requires
+found-at-requires c κs =
+    let at = c .before .before .before in
+    omega (arith, at .row-count .ensures, at .before .before .pre .ordered .few)
 
-returns : tie.Need-returns Inv-loop μ-loop
+returns : tie.Need-returns
 returns c =
-    let look = c .before .before in
-    let turn = look .before in
-    let at = turn .before in
-    found-at _ (at .before .before .pre) _ _ (c .credential .result)
-    (omega (arith, turn .loop-test .taken, at .loop .inv .ends .1)) (c .credential .ensures)
-    (sym (look .serial .ensures) ∙ c .before .if1 .taken)
-
-loop-again : tie.Need-loop-again Inv-loop μ-loop
-loop-again c =
-    let look = c .before .before in
-    let turn = look .before in
-    let at = turn .before in
-    upper-half _ (at .before .before .pre) _ (at .loop .inv) _ (omega (arith, turn .loop-test .taken))
-    (omega (arith, turn .loop-test .taken)) (omega (arith, look .serial .ensures, c .if2 .taken))
-
-loop-again-2 : tie.Need-loop-again-2 Inv-loop μ-loop
-loop-again-2 c =
-    let look = c .before .before in
-    let turn = look .before in
-    let at = turn .before in
-    lower-half _ (at .before .before .pre) _ (at .loop .inv) _ (omega (arith, turn .loop-test .taken))
-    (omega (arith, turn .loop-test .taken))
-    (omega (arith, look .serial .ensures, c .before .if1 .left, c .if2 .left))
-
-returns-2 : tie.Need-returns-2 Inv-loop μ-loop
-returns-2 c =
-    let at = c .before in
-    found-nothing _ (at .before .before .pre) _ (at .loop .inv) (c .loop-test .left)
+    let seen = c .before .before in
+    let at = seen .before .before in
+    found-row _ (at .before .before .pre) _ _ (c .found-at .ensures) (omega (arith, at .row-count .ensures))
+    (sym (seen .serial .ensures) ∙ c .before .if2 .taken)
 
 pub find-spec : {M : Type 1} → statement M
 find-spec =
     tie.close
     (tie.spec
-    Inv-loop
-    μ-loop
     (λ c κs. search needs)
-    loop-holds
-    add-middle
+    (λ c κs. search needs)
     serial-requires
-    credential-requires
+    found-at-requires
     returns
-    (λ c. search needs)
-    (λ c. search needs)
-    loop-again
-    (λ c. search needs)
-    loop-again-2
-    returns-2)
+    (λ c κs. search needs)
+    (λ c. search needs))

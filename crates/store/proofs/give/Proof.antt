@@ -1,42 +1,19 @@
--- `give` meets its contract. The stores are those of `given`.
-use borrow.Author.Needs.{needs}
+-- `give` meets its contract: room is made, and the ledger stays; then the credential is appended.
 use native.Mathlib.Omega.{arith}
-use denote.Ref.{now}
-use Rattle.store.specs.Store.{ledgerOf}
-use Rattle.store.proofs.Views.{live-length}
-use Rattle.store.proofs.Live.{give-done}
+use Rattle.store.proofs.Live.{still-givable}
 use Rattle.store.proofs.give.Statement.{statement}
 use Rattle.store.proofs.give.Tie as tie
 
-put-credential-requires : tie.Need-put-credential-requires
-put-credential-requires c κs =
-    let s = c .before .before .before .before .before in
-    omega (arith, live-length (now (s .args .store)), s .pre .room, c .before .before .before .live-count .ensures)
+make-room-requires : tie.Need-make-room-requires
+make-room-requires c κs = let p = c .before .pre in (p .good, omega (arith, p .room))
 
-add-put-next : tie.Need-add-put-next
-unfolding ledgerOf
-add-put-next c =
-    let at = c .before .before .before .before .before in
-    omega (arith, at .before .before .before .before .pre .unused, at .next .ensures)
+append-requires : tie.Need-append-requires
+append-requires c κs =
+    let at = c .before in
+    (still-givable (at .before .before .pre) (at .make-room .ensures .0), at .make-room .ensures .1)
 
 returns : tie.Need-returns
-returns c =
-    let at = c .before .before .before .before .before .before in
-    give-done _ _ _ _ (at .before .before .before .before .pre) (at .before .before .live-count .ensures)
-    (at .next .ensures)
-    (c .before .before .before .before .put-credential .ensures)
-    (c .before .before .put-live-count .ensures)
-    (c .put-next .ensures)
+returns c = rw (c .before .before .make-room .ensures .0 .ledger) at (c .append .ensures)
 
 pub give-spec : {M : Type 1} → statement M
-give-spec =
-    tie.close
-    (tie.spec
-    (λ c κs. search needs)
-    (λ c κs. search needs)
-    put-credential-requires
-    (λ c. search needs)
-    (λ c κs. search needs)
-    add-put-next
-    (λ c κs. search needs)
-    returns)
+give-spec = tie.close (tie.spec make-room-requires append-requires returns)

@@ -7,7 +7,7 @@ use borrow.Author.Needs.{needs}
 use native.Mathlib.Omega.{arith}
 use denote.Ref.{now}
 use Rattle.ledger.specs.Checks.{sameRow}
-use Rattle.store.specs.Layout.{lineCount, rowAt}
+use Rattle.cells.specs.Layout.{lineCount, rowAt}
 use Rattle.store.proofs.Views.{has-at, has-none}
 use Rattle.store.proofs.has_row.Statement.{statement}
 use Rattle.store.proofs.has_row.Tie as tie

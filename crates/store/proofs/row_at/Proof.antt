@@ -3,9 +3,9 @@ use mathlib.Core.Path.{sym, _∙_}
 use Prim.Native.Nat.{_<_, _≤_}
 use native.Mathlib.Omega.{arith}
 use borrow.Author.Needs.{needs}
-use Rattle.store.specs.Layout.{lineCount}
+use Rattle.cells.specs.Layout.{lineCount}
 use denote.Ref.{now}
-use Rattle.store.proofs.Rows.{row-below, row-past, row-wide}
+use Rattle.cells.proofs.Rows.{row-below, row-past, row-wide}
 use Rattle.store.proofs.row_at.Statement.{statement}
 use Rattle.store.proofs.row_at.Tie as tie
 

@@ -1,0 +1,281 @@
+-- What each store of numbers does to what can be read: the laws by which the other proofs go, so that none of them sees
+-- an offset. The formula rows and the credential rows do not meet: work on the one leaves the other.
+use mathlib.Core.Path.{_≡_, refl, ap, _∙_}
+use mathlib.Core.List.{List}
+use mathlib.Core.Bool.{Bool, true, false}
+use mathlib.Core.Option.{none, some}
+use Prim.Native.Nat.{ℕ, _+_, _*_, _%_, _≤_, _<_}
+use native.Mathlib.Omega.{arith}
+use native.Mathlib.Decide.{decLt}
+use borrow.Author.Tests.{lt-ltb, le-ltb}
+use lib.Dec.{eqb}
+use lib.ListN.{length, getD, set, length-set}
+use lib.Seq.{getD-set-same, getD-set-other}
+use Rattle.request.specs.declared.Kind.{Kind}
+use Rattle.request.specs.declared.Kind.the-variants.{Linear, Unrestricted}
+use Rattle.request.specs.Request.{Line}
+use Rattle.steps.specs.declared.Row.{Row}
+use Rattle.ledger.specs.declared.Credential.{Credential}
+use Rattle.ledger.specs.Table.{rowOf}
+use Rattle.cells.specs.Layout.{cells, maxRows, cell, lineCount, liveCount, nextSerial, rowCount, rowFrom}
+use Rattle.cells.specs.Layout.{lineCell, rowAt, sizeAt, plainAt, lineCells, putLine, kindFrom, kindNumber}
+use Rattle.cells.specs.Layout.{credentialFrom, credentialAt, gapAt, entryAt, credentialCells, putCredential}
+use Rattle.cells.specs.Layout.{putGap, putHint}
+use Rattle.cells.proofs.Cells.{length-putRow, row-same, row-other, put-below, put-above}
+
+-- a row is known by its cells
+pub row-ext : (g h : ℕ → ℕ) → ((f : ℕ) → f < 5 → g f ≡ h f) → rowFrom g ≡ rowFrom h
+row-ext g h e j = record {
+  letter = e 0 (omega arith) j;
+  a = e 1 (omega arith) j;
+  b = e 2 (omega arith) j;
+  c = e 3 (omega arith) j;
+  d = e 4 (omega arith) j;
+}
+
+credential-ext : (g h : ℕ → ℕ) → ((f : ℕ) → f < 5 → g f ≡ h f) → credentialFrom g ≡ credentialFrom h
+credential-ext g h e j = record {
+  serial = e 0 (omega arith) j;
+  kind = kindFrom (e 1 (omega arith) j);
+  formula = e 2 (omega arith) j;
+  interval = record { from = e 3 (omega arith) j; to = e 4 (omega arith) j };
+}
+
+kind-number : (k : Kind) → kindFrom (kindNumber k) ≡ k
+kind-number Linear = refl
+kind-number Unrestricted = refl
+
+kind-stands : (k : Kind) → eqb (kindNumber k) 2 ≡ false
+kind-stands Linear = refl
+kind-stands Unrestricted = refl
+
+-- the row of a number that names a formula
+pub row-below : (l : List ℕ) (n : ℕ) → n < lineCount l → n < 200 → rowAt l n ≡ rowFrom (lineCell l n)
+unfolding rowAt
+row-below l n h q = rw (lt-ltb _ _ q, lt-ltb _ _ h)
+
+-- a number that names none reads as 1
+pub row-wide : (l : List ℕ) (n : ℕ) → 200 ≤ n → rowAt l n ≡ rowOf Line.one
+unfolding rowAt
+row-wide l n q = rw (le-ltb _ _ q)
+
+pub row-past : (l : List ℕ) (n : ℕ) → lineCount l ≤ n → rowAt l n ≡ rowOf Line.one
+unfolding rowAt
+row-past l n h = go (decLt n 200)
+  where
+    go : Dec (n < 200) → rowAt l n ≡ rowOf Line.one
+    go (yes q) = rw (lt-ltb _ _ q, le-ltb _ _ h)
+    go (no q) = row-wide l n (omega arith)
+
+-- m has l's formula rows and their count: all that no work on credentials changes
+pub record SameLines (l m : List ℕ) : Type 0 where
+  pub long : length m ≡ cells
+  pub count : lineCount m ≡ lineCount l
+  pub rows : (k : ℕ) → 4 ≤ k → k < 1404 → getD m k 0 ≡ getD l k 0
+
+pub lines-self : (l : List ℕ) → length l ≡ cells → SameLines l l
+lines-self l h = record { long = h; count = refl; rows = λ k p q. refl }
+
+module _ (l m : List ℕ) (s : SameLines l m) where
+  same-cell : (i f : ℕ) → i < 200 → f < 7 → lineCell m i f ≡ lineCell l i f
+  unfolding lineCell cell
+  same-cell i f h q = s .rows (4 + i * 7 + f) (omega arith) (omega arith)
+
+  pub same-row : (n : ℕ) → rowAt m n ≡ rowAt l n
+  unfolding rowAt
+  same-row n = go (decLt n 200)
+    where
+      go : Dec (n < 200) → rowAt m n ≡ rowAt l n
+      go (yes h) = rw (s .count, row-ext (lineCell m n) (lineCell l n) (λ f q. same-cell n f h (omega arith)))
+      go (no h) = rw (le-ltb n 200 (omega arith))
+
+  pub same-size : (n : ℕ) → n < 200 → sizeAt m n ≡ sizeAt l n
+  unfolding sizeAt
+  same-size n h = same-cell n 5 h (omega arith)
+
+  pub same-plain : (n : ℕ) → n < 200 → plainAt m n ≡ plainAt l n
+  unfolding plainAt
+  same-plain n h = same-cell n 6 h (omega arith)
+
+-- row i of the credentials stands in m as in l
+abbrev pub Stays : List ℕ → List ℕ → ℕ → Type 0
+Stays l m i = (f : ℕ) → f < 5 → cell m 1404 5 i f ≡ cell l 1404 5 i f
+
+module _ (l m : List ℕ) (i : ℕ) (s : Stays l m i) where
+  pub stays-credential : credentialAt m i ≡ credentialAt l i
+  unfolding credentialAt
+  stays-credential = credential-ext (cell m 1404 5 i) (cell l 1404 5 i) s
+
+  pub stays-gap : gapAt m i ≡ gapAt l i
+  unfolding gapAt
+  stays-gap = ap (λ (n : ℕ). eqb n 2) (s 1 (omega arith))
+
+  pub stays-entry : entryAt m i ≡ entryAt l i
+  unfolding entryAt
+  stays-entry = rw (stays-gap, stays-credential)
+
+  pub stays-serial : credentialAt m i .serial ≡ credentialAt l i .serial
+  stays-serial = ap (λ (c : Credential). c .serial) stays-credential
+
+module _ (l : List ℕ) (i : ℕ) where
+  pub entry-gap : gapAt l i ≡ true → entryAt l i ≡ none
+  unfolding entryAt
+  entry-gap e = rw e
+
+  pub entry-there : gapAt l i ≡ false → entryAt l i ≡ some (credentialAt l i)
+  unfolding entryAt
+  entry-there e = rw e
+
+-- m has l's credential rows, their counts and the next serial: all that no work on formulas changes
+pub record SameLive (l m : List ℕ) : Type 0 where
+  pub long : length m ≡ cells
+  pub count : liveCount m ≡ liveCount l
+  pub next : nextSerial m ≡ nextSerial l
+  pub used : rowCount m ≡ rowCount l
+  pub rows : (i : ℕ) → i < maxRows → Stays l m i
+
+-- One of the numbers before the tables is put.
+module _ (l m : List ℕ) (h v : ℕ) where
+  pub head-lines : 0 < h → h < 4 → SameLines l m → SameLines l (set m h v)
+  head-lines p q s = record {
+    long = length-set m h v ∙ s .long;
+    count = getD-set-other m h 0 v 0 (omega arith) ∙ s .count;
+    rows = λ k a b. getD-set-other m h k v 0 (omega arith) ∙ s .rows k a b;
+  }
+
+pub head-same : (m : List ℕ) (h v : ℕ) → length m ≡ cells → h < 4 → getD (set m h v) h 0 ≡ v
+head-same m h v e q = getD-set-same m h v 0 (omega arith)
+
+pub head-other : (m : List ℕ) (h v k : ℕ) → (k ≡ h → ⊥) → getD (set m h v) k 0 ≡ getD m k 0
+head-other m h v k n = getD-set-other m h k v 0 n
+
+pub head-stays : (m : List ℕ) (h v i : ℕ) → h < 4 → Stays m (set m h v) i
+unfolding cell
+head-stays m h v i q f p = getD-set-other m h (1404 + i * 5 + f) v 0 (omega arith)
+
+pub head-line : (m : List ℕ) (h v i f : ℕ) → h < 4 → lineCell (set m h v) i f ≡ lineCell m i f
+unfolding lineCell cell
+head-line m h v i f q = getD-set-other m h (4 + i * 7 + f) v 0 (omega arith)
+
+pub count-live : (l m : List ℕ) (v : ℕ) → SameLive l m → SameLive l (set m 0 v)
+count-live l m v s = record {
+  long = length-set m 0 v ∙ s .long;
+  count = head-other m 0 v 1 (omega arith) ∙ s .count;
+  next = head-other m 0 v 2 (omega arith) ∙ s .next;
+  used = head-other m 0 v 3 (omega arith) ∙ s .used;
+  rows = λ i q f p. head-stays m 0 v i (omega arith) f p ∙ s .rows i q f p;
+}
+
+-- A formula row is put.
+module _ (m : List ℕ) (i : ℕ) (r : Row) (s : ℕ) (p : Bool) where
+  pub line-same : length m ≡ cells → i < 200 → (f : ℕ) → f < 7
+      → lineCell (putLine m i r s p) i f ≡ getD (lineCells r s p) f 0
+  unfolding lineCell putLine
+  line-same n h f q = row-same m 4 7 i (lineCells r s p) f (omega arith) (omega arith)
+
+  pub line-other : (k f : ℕ) → (k ≡ i → ⊥) → f < 7 → lineCell (putLine m i r s p) k f ≡ lineCell m k f
+  unfolding lineCell putLine
+  line-other k f h q = row-other m 4 7 i (lineCells r s p) refl k f h q
+
+  line-before : (k : ℕ) → k < 4 → getD (putLine m i r s p) k 0 ≡ getD m k 0
+  unfolding putLine
+  line-before k h = put-below m 4 7 i (lineCells r s p) k h
+
+  pub line-live : length m ≡ cells → i < 200 → SameLive m (putLine m i r s p)
+  unfolding putLine cell
+  line-live n h = record {
+    long = length-putRow m 4 7 i (lineCells r s p) ∙ n;
+    count = line-before 1 (omega arith);
+    next = line-before 2 (omega arith);
+    used = line-before 3 (omega arith);
+    rows = λ k a f b. put-above m 4 7 i (lineCells r s p) (1404 + k * 5 + f) (omega arith);
+  }
+
+-- A credential is put.
+module _ (m : List ℕ) (i : ℕ) (c : Credential) where
+  module _ (n : length m ≡ cells) (h : i < maxRows) where
+    put-cell : (f : ℕ) → f < 5 → cell (putCredential m i c) 1404 5 i f ≡ getD (credentialCells c) f 0
+    unfolding putCredential
+    put-cell f q = row-same m 1404 5 i (credentialCells c) f (omega arith) (omega arith)
+
+    pub credential-same : credentialAt (putCredential m i c) i ≡ c
+    unfolding credentialAt
+    credential-same =
+        credential-ext (cell (putCredential m i c) 1404 5 i) (λ f. getD (credentialCells c) f 0) put-cell
+        ∙ rw (kind-number (c .kind))
+
+    pub credential-there : gapAt (putCredential m i c) i ≡ false
+    unfolding gapAt
+    credential-there = ap (λ (n : ℕ). eqb n 2) (put-cell 1 (omega arith)) ∙ kind-stands (c .kind)
+
+  pub credential-stays : (k : ℕ) → (k ≡ i → ⊥) → Stays m (putCredential m i c) k
+  unfolding putCredential
+  credential-stays k h f q = row-other m 1404 5 i (credentialCells c) refl k f h q
+
+  pub credential-before : (k : ℕ) → k < 1404 → getD (putCredential m i c) k 0 ≡ getD m k 0
+  unfolding putCredential
+  credential-before k h = put-below m 1404 5 i (credentialCells c) k h
+
+  pub credential-long : length (putCredential m i c) ≡ length m
+  unfolding putCredential
+  credential-long = length-putRow m 1404 5 i (credentialCells c)
+
+  pub credential-lines : (l : List ℕ) → SameLines l m → SameLines l (putCredential m i c)
+  credential-lines l s = record {
+    long = credential-long ∙ s .long;
+    count = credential-before 0 (omega arith) ∙ s .count;
+    rows = λ k a b. credential-before k b ∙ s .rows k a b;
+  }
+
+-- A credential leaves: its serial and the other rows stay.
+module _ (m : List ℕ) (i : ℕ) where
+  pub gap-here : length m ≡ cells → i < maxRows → gapAt (putGap m i) i ≡ true
+  unfolding gapAt putGap cell
+  gap-here n h = ap (λ (x : ℕ). eqb x 2) (getD-set-same m (1404 + i * 5 + 1) 2 0 (omega arith))
+
+  pub gap-stays : (k : ℕ) → (k ≡ i → ⊥) → Stays m (putGap m i) k
+  unfolding putGap cell
+  gap-stays k h f q = getD-set-other m (1404 + i * 5 + 1) (1404 + k * 5 + f) 2 0 (omega arith)
+
+  pub gap-serial : (k : ℕ) → credentialAt (putGap m i) k .serial ≡ credentialAt m k .serial
+  unfolding credentialAt putGap cell
+  gap-serial k = getD-set-other m (1404 + i * 5 + 1) (1404 + k * 5 + 0) 2 0 (omega arith)
+
+  pub gap-before : (k : ℕ) → k < 1404 → getD (putGap m i) k 0 ≡ getD m k 0
+  unfolding putGap
+  gap-before k h = getD-set-other m (1404 + i * 5 + 1) k 2 0 (omega arith)
+
+  pub gap-lines : (l : List ℕ) → SameLines l m → SameLines l (putGap m i)
+  unfolding putGap
+  gap-lines l s = record {
+    long = length-set m (1404 + i * 5 + 1) 2 ∙ s .long;
+    count = gap-before 0 (omega arith) ∙ s .count;
+    rows = λ k a b. gap-before k b ∙ s .rows k a b;
+  }
+
+-- A hint is put: all else stays.
+module _ (m : List ℕ) (s v : ℕ) where
+  pub hint-before : (k : ℕ) → k < 6524 → getD (putHint m s v) k 0 ≡ getD m k 0
+  unfolding putHint
+  hint-before k h = getD-set-other m (6524 + s % 1024) k v 0 (omega arith)
+
+  pub hint-lines : (l : List ℕ) → SameLines l m → SameLines l (putHint m s v)
+  unfolding putHint
+  hint-lines l w = record {
+    long = length-set m (6524 + s % 1024) v ∙ w .long;
+    count = hint-before 0 (omega arith) ∙ w .count;
+    rows = λ k a b. hint-before k (omega arith) ∙ w .rows k a b;
+  }
+
+  pub hint-stays : (i : ℕ) → i < maxRows → Stays m (putHint m s v) i
+  unfolding cell
+  hint-stays i h f q = hint-before (1404 + i * 5 + f) (omega arith)
+
+  pub hint-live : length m ≡ cells → SameLive m (putHint m s v)
+  hint-live n = record {
+    long = hint-lines m (lines-self m n) .long;
+    count = hint-before 1 (omega arith);
+    next = hint-before 2 (omega arith);
+    used = hint-before 3 (omega arith);
+    rows = hint-stays;
+  }

@@ -1,0 +1,21 @@
+-- `put_gap` meets its contract: one store.
+use mathlib.Core.Path.{refl}
+use Rattle.cells.specs.Layout.{putGap}
+use borrow.Author.Needs.{needs}
+use Rattle.cells.proofs.put_gap.Statement.{statement}
+use Rattle.cells.proofs.put_gap.Tie as tie
+
+returns : tie.Need-returns
+unfolding putGap
+returns c = refl
+
+pub put-gap-spec : {M : Type 1} → statement M
+put-gap-spec =
+    tie.close
+    (tie.spec
+    (λ c. search needs)
+    (λ c. search needs)
+    (λ c. search needs)
+    (λ c. search needs)
+    (λ c. search needs)
+    returns)

@@ -1,0 +1,138 @@
+-- The ledger's state as one list of numbers. The caller keeps one block of a fixed length and lends it to every call,
+-- so nothing is copied and nothing is allocated. Each table has rows of one width, so that one law is enough for both.
+--
+--   0           the count of formula lines
+--   1           the count of live credentials
+--   2           the next serial
+--   3           the count of credential rows in use
+--   4 ..        200 rows of 7: a formula line's (document 01: a wording's) letter, a, b, c, d; then its formula's size
+--               and whether it is plain (1 or 0), kept so that no later request goes through the formula's parts again
+--   1404 ..     1,024 rows of 5: a credential's (a coupon's) serial, kind (0 linear: single-use, 1 unrestricted:
+--               standing, 2 for one that has left: a gap), formula number (wording), and its interval (window), from
+--               and to. Rows stand in the order of their serials, and a row that leaves is only marked, so that no
+--               other one moves; there are twice as many rows as may live, and when all are in use the live ones are
+--               moved together
+--   6524 ..     1,024 hints: at serial mod 1,024 the row where the credential of that serial may stand. A hint is only
+--               a guess that the search tests first: nothing is asked of its value
+use mathlib.Core.List.{List, [], _∷_}
+use mathlib.Core.Bool.{Bool}
+use mathlib.Core.Option.{Option, none, some}
+use Prim.Native.Nat.{ℕ, _+_, _*_, _%_}
+use lib.Dec.{eqb, ltb}
+use lib.ListN.{getD, set}
+use lib.Seq.{sets}
+use Rattle.logic.specs.Interval.{span}
+use Rattle.logic.specs.Formula.{bit}
+use Rattle.request.specs.declared.Kind.{Kind}
+use Rattle.request.specs.declared.Kind.the-variants.{Linear, Unrestricted}
+use Rattle.request.specs.Request.{Line}
+use Rattle.steps.specs.declared.Row.{Row}
+use Rattle.ledger.specs.declared.Credential.{Credential}
+use Rattle.ledger.specs.Table.{rowOf}
+use Rattle.ledger.specs.Checks.{maxFormulas}
+use Rattle.logic.specs.Choice.{pick}
+
+abbrev pub cells : ℕ
+cells = 7548
+
+-- how many credential rows there are
+abbrev pub maxRows : ℕ
+maxRows = 1024
+
+-- A table starts at b and its rows are w numbers wide: cell f of row i, and a row put in its place.
+unfoldable pub cell : List ℕ → ℕ → ℕ → ℕ → ℕ → ℕ
+cell l b w i f = getD l (b + i * w + f) 0
+
+unfoldable pub putRow : List ℕ → ℕ → ℕ → ℕ → List ℕ → List ℕ
+putRow l b w i vs = sets l (b + i * w) vs
+
+-- The counts and the next serial
+
+abbrev pub lineCount : List ℕ → ℕ
+lineCount l = getD l 0 0
+
+abbrev pub liveCount : List ℕ → ℕ
+liveCount l = getD l 1 0
+
+abbrev pub nextSerial : List ℕ → ℕ
+nextSerial l = getD l 2 0
+
+abbrev pub rowCount : List ℕ → ℕ
+rowCount l = getD l 3 0
+
+abbrev pub putLineCount : List ℕ → ℕ → List ℕ
+putLineCount l n = set l 0 n
+
+abbrev pub putLiveCount : List ℕ → ℕ → List ℕ
+putLiveCount l n = set l 1 n
+
+abbrev pub putNext : List ℕ → ℕ → List ℕ
+putNext l n = set l 2 n
+
+abbrev pub putRowCount : List ℕ → ℕ → List ℕ
+putRowCount l n = set l 3 n
+
+-- Formula rows
+
+unfoldable pub lineCell : List ℕ → ℕ → ℕ → ℕ
+lineCell l i f = cell l 4 7 i f
+
+abbrev pub rowFrom : (ℕ → ℕ) → Row
+rowFrom g = record { letter = g 0; a = g 1; b = g 2; c = g 3; d = g 4 }
+
+-- the row of a formula's number; a number that names none reads as 1
+unfoldable pub rowAt : List ℕ → ℕ → Row
+rowAt l n =
+    pick (ltb n maxFormulas) (pick (ltb n (lineCount l)) (rowFrom (lineCell l n)) (rowOf Line.one)) (rowOf Line.one)
+
+unfoldable pub sizeAt : List ℕ → ℕ → ℕ
+sizeAt l n = lineCell l n 5
+
+unfoldable pub plainAt : List ℕ → ℕ → ℕ
+plainAt l n = lineCell l n 6
+
+abbrev pub lineCells : Row → ℕ → Bool → List ℕ
+lineCells r size plain = r .letter ∷ r .a ∷ r .b ∷ r .c ∷ r .d ∷ size ∷ bit plain ∷ []
+
+unfoldable pub putLine : List ℕ → ℕ → Row → ℕ → Bool → List ℕ
+putLine l i r size plain = putRow l 4 7 i (lineCells r size plain)
+
+-- Credential rows
+
+abbrev pub kindFrom : ℕ → Kind
+kindFrom n = pick (eqb n 0) Linear Unrestricted
+
+abbrev pub kindNumber : Kind → ℕ
+kindNumber Linear = 0
+kindNumber Unrestricted = 1
+
+abbrev pub credentialFrom : (ℕ → ℕ) → Credential
+credentialFrom g = record { serial = g 0; kind = kindFrom (g 1); formula = g 2; interval = span (g 3) (g 4) }
+
+unfoldable pub credentialAt : List ℕ → ℕ → Credential
+credentialAt l i = credentialFrom (cell l 1404 5 i)
+
+-- whether the credential of row i has left
+unfoldable pub gapAt : List ℕ → ℕ → Bool
+gapAt l i = eqb (cell l 1404 5 i 1) 2
+
+-- the credential that stands in row i, if it has not left
+unfoldable pub entryAt : List ℕ → ℕ → Option Credential
+entryAt l i = pick (gapAt l i) none (some (credentialAt l i))
+
+abbrev pub credentialCells : Credential → List ℕ
+credentialCells c =
+    c .serial ∷ kindNumber (c .kind) ∷ c .formula ∷ c .interval .from ∷ c .interval .to ∷ []
+
+unfoldable pub putCredential : List ℕ → ℕ → Credential → List ℕ
+putCredential l i c = putRow l 1404 5 i (credentialCells c)
+
+-- the credential of row i leaves
+unfoldable pub putGap : List ℕ → ℕ → List ℕ
+putGap l i = set l (1404 + i * 5 + 1) 2
+
+-- Hints
+
+-- the credential of serial s may stand in row i
+unfoldable pub putHint : List ℕ → ℕ → ℕ → List ℕ
+putHint l s i = set l (6524 + s % 1024) i
