@@ -1,4 +1,3 @@
-mod Writing
 mod Streams
 mod Pieces
 mod Parting

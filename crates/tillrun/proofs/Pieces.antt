@@ -13,7 +13,7 @@ use Rattle.store.specs.Store.{StandsFor}
 use Rattle.ledger.specs.Calls.{after, answers}
 use Rattle.tillrun.specs.declared.kiosk.Place.{Place}
 use Rattle.tillrun.specs.Sheets.{splitFrom, split, oneMore}
-use Rattle.tillrun.specs.Printed.{printed, longest, Room}
+use Rattle.print.specs.Printed.{printed, longest, Room}
 use Rattle.tillrun.specs.Kiosk.{most, Kept, Said, Ready, Stands, Took, Ended, Turned, Going}
 use Rattle.tillrun.proofs.Streams.{stands-kept, stands-ended, said-text}
 

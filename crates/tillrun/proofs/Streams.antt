@@ -16,7 +16,7 @@ use Rattle.ledger.specs.Calls.{Reply, told, call, after, answers}
 use Rattle.ledger.proofs.Firsts.{call-long}
 use Rattle.tillrun.specs.declared.kiosk.Place.{Place}
 use Rattle.tillrun.specs.Sheets.{Split, next, splitFrom, split}
-use Rattle.tillrun.specs.Printed.{line, printed}
+use Rattle.print.specs.Printed.{line, printed}
 use Rattle.tillrun.specs.Kiosk.{most, Kept, Said, Stands}
 
 -- Feeding b and then c is feeding b ++ c.

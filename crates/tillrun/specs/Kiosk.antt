@@ -9,7 +9,7 @@ use Rattle.store.specs.Store.{ledgerOf, Good, StandsFor}
 use Rattle.ledger.specs.Calls.{told, call, after, answers}
 use Rattle.tillrun.specs.declared.kiosk.Place.{Place}
 use Rattle.tillrun.specs.Sheets.{split, sheetsOf}
-use Rattle.tillrun.specs.Printed.{line, printed, longest, Room, Wrote}
+use Rattle.print.specs.Printed.{line, printed, longest, Room, Wrote}
 
 -- One byte more than a sheet may have: of an overlong sheet the rest is skipped, and what is kept is refused with 1
 -- just as the whole.

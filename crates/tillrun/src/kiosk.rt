@@ -1,5 +1,4 @@
 // The sheets of a stream of bytes, each answered where it ends (specs/Sheets.antt).
-use crate::print;
 use store::Store;
 ghost use mathlib.Core.Path.{_≡_};
 ghost use mathlib.Core.List.{[], _∷_};

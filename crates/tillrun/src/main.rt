@@ -4,7 +4,6 @@ use kiosk::Place;
 use store::Store;
 
 mod kiosk;
-mod print;
 
 ghost use mathlib.Core.Path.{_≡_};
 ghost use lib.ListN.{length};

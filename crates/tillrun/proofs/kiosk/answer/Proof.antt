@@ -5,8 +5,8 @@ use lib.Seq.{length-take-le}
 use borrow.Author.Needs.{needs}
 use Rattle.ledger.specs.declared.Answer.{Answer}
 use Rattle.ledger.specs.Calls.{told}
-use Rattle.tillrun.specs.Printed.{line}
-use Rattle.tillrun.proofs.Writing.{wrote-as}
+use Rattle.print.specs.Printed.{line}
+use Rattle.print.proofs.Writing.{wrote-as}
 use Rattle.tillrun.proofs.kiosk.answer.Statement.{statement}
 use Rattle.tillrun.proofs.kiosk.answer.Tie as tie
 
