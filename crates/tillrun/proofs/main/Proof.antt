@@ -1,3 +1,4 @@
+use mathlib.Core.Path.{sym}
 use Prim.Native.Nat.{ℕ}
 use lib.ListN.{length-replicate}
 use borrow.Author.Needs.{needs}
@@ -20,8 +21,8 @@ main-spec =
     tie.close
     (tie.spec
     (λ c κs. search needs)
-    (λ c. search needs)
-    (λ c. search needs)
-    (λ c. search needs)
+    (λ c. sym (length-replicate {A = ℕ} 16385 0))
+    (λ c. sym (length-replicate {A = ℕ} 589824 0))
+    (λ c. sym (length-replicate {A = ℕ} 16384 0))
     play-requires
-    (λ c. search needs))
+    (λ c. tt))
