@@ -1,8 +1,8 @@
 -- Empty lines in bytes, and the search for the first.
-use mathlib.Core.Path.{_≡_, refl, sym, ap, subst, _∙_}
+use mathlib.Core.Path.{_≡_, refl, sym, ap, _∙_}
 use mathlib.Core.List.{List, [], _∷_, _++_}
 use mathlib.Core.Bool.{Bool, true, false, _&&_, _||_}
-use Prim.Native.Nat.{ℕ, suc, _+_, _≤_, _<_}
+use Prim.Native.Nat.{ℕ, _+_, _≤_, _<_}
 use native.Mathlib.Numerals.{add-one}
 use native.Mathlib.Omega.{arith}
 use lib.Dec.{eqb, ltb}
@@ -10,7 +10,7 @@ use lib.ListN.{length, take, drop, getD}
 use lib.Seq.{take-all, take-suc, take-add, drop-cons}
 use borrow.Author.Tests.{eqb-true, lt-ltb}
 use Rattle.tillrun.specs.Sheets.{emptyLine, lineBegins}
-use Rattle.tillrun.specs.Kiosk.{EndsAt, NoEnd, Skipped, BothTen}
+use Rattle.tillrun.specs.Kiosk.{EndsAt, NoEnd, BothTen}
 
 -- Tests
 

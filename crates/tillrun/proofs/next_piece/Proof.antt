@@ -14,7 +14,8 @@ returns c =
 
 feed-requires : tie.Need-feed-requires
 feed-requires c κs =
-    let start = c .before .before .before .before .before .before .before .before .before .before .before .before .before .before .before in
+    let read = c .before .before .before .before .before .before .before .before .before .before in
+    let start = read .before .before .before .before .before in
     (ready-for 16384 _ (start .pre .0) (search needs), start .pre .1 .0)
 
 slice-aggregate-write-all : tie.Need-slice-aggregate-write-all

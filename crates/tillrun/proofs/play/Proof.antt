@@ -12,13 +12,12 @@ use Rattle.tillrun.proofs.play.Statement.{statement}
 use Rattle.tillrun.proofs.play.Tie as tie
 
 abbrev Inv-loop : tie.InvT-loop
-Inv-loop till₀ rows₀ begun₀ text₀ piece₀ place₀ more₀ written₀ turns₀ till rows begun text piece place more written turns =
+Inv-loop till₀ rows₀ begun₀ text₀ piece₀ place₀ more₀ written₀ n₀ till rows begun text piece place more written n =
     Going till begun text place 16384 × ((length begun ≡ length begun₀) × ((length text ≡ length text₀)
     × ((length piece ≡ length piece₀) × (Lent rows × (length piece ≡ 16384)))))
 
 abbrev μ-loop : tie.MeasureT-loop
-μ-loop till₀ rows₀ begun₀ text₀ piece₀ place₀ more₀ written₀ turns₀ till rows begun text piece place more written turns =
-    turns
+μ-loop till₀ rows₀ begun₀ text₀ piece₀ place₀ more₀ written₀ n₀ till rows begun text piece place more written n = n
 
 loop-holds : tie.Need-loop-holds Inv-loop μ-loop
 loop-holds c =
@@ -26,6 +25,11 @@ loop-holds c =
       going-start 16384 (pre .0 .till) (pre .0 .begun) (omega (arith, pre .0 .text)),
       (refl, (refl, (refl, (pre .1, pre .0 .piece)))),
     )
+
+next-piece-requires : tie.Need-next-piece-requires Inv-loop μ-loop
+next-piece-requires c κs =
+    let inv = c .before .before .before .before .before .before .before .loop .inv in
+    (inv .0 .ready, inv .1 .1 .1 .1)
 
 loop-less : tie.Need-loop-less Inv-loop μ-loop
 loop-less c =
@@ -64,7 +68,7 @@ play-spec =
     Inv-loop
     μ-loop
     loop-holds
-    (λ c κs. let inv = c .before .before .before .before .before .before .before .loop .inv in (inv .0 .ready, inv .1 .1 .1 .1))
+    next-piece-requires
     (λ c. search needs)
     loop-less
     loop-again
@@ -76,7 +80,9 @@ play-spec =
     (λ c. search needs)
     slice-aggregate-write-all
     (λ c κs. search needs)
-    (λ c. c .before .before .before .before .before .before .before .before .before .before .before .loop .inv .1 .0)
+    (λ c. let end = c .before .before .before .before in
+    end .before .before .before .before .before .before .before .loop .inv .1 .0)
     (λ c. search needs)
-    (λ c. c .before .before .before .before .before .before .before .before .before .before .before .loop .inv .1 .1 .1 .0)
+    (λ c. let end = c .before .before .before .before in
+    end .before .before .before .before .before .before .before .loop .inv .1 .1 .1 .0)
     (λ c. search needs))

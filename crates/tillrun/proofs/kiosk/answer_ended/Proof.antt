@@ -9,7 +9,8 @@ use Rattle.tillrun.proofs.kiosk.answer_ended.Tie as tie
 returns : tie.Need-returns
 returns c =
     let said = c .before .before in
-    (said-whole _ (said .before .before .before .before .if1 .taken) (said .answer .ensures .0), said .answer .ensures .1)
+    let test = said .before .before .before .before in
+    (said-whole _ (test .if1 .taken) (said .answer .ensures .0), said .answer .ensures .1)
 
 slice-aggregate-answer : tie.Need-slice-aggregate-answer
 slice-aggregate-answer c =

@@ -53,6 +53,12 @@ add-i c =
     let n = inside took in
     omega (arith, test .loop-test .taken)
 
+loop-less : tie.Need-loop-less Inv-loop μ-loop
+loop-less c =
+    let took = c .before .before .before .before .before .before in
+    let test = took .before .before .before .before .before .before in
+    omega (arith, test .loop-test .taken, inside took, took .take-sheet .ensures .0 .some)
+
 loop-again : tie.Need-loop-again Inv-loop μ-loop
 loop-again c =
     let took = c .before .before .before .before .before .before in
@@ -80,8 +86,7 @@ feed-spec =
     (λ c. search needs)
     take-sheet-requires
     add-i
-    (λ c. let took = c .before .before .before .before .before .before in
-    omega (arith, took .before .before .before .before .before .before .loop-test .taken, inside took, took .take-sheet .ensures .0 .some))
+    loop-less
     loop-again
     (λ c. c .before .loop .inv .1 .0)
     (λ c. c .before .loop .inv .1 .1 .0)

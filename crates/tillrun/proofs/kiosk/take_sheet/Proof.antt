@@ -26,6 +26,11 @@ answer-ended-requires c κs =
     let start = c .before .before .before .before .before .before .before .before .before .before .before .before in
     (ready-for _ 1 (start .pre .0 .0) (omega (arith, start .pre .0 .0 .text, start .pre .1)), start .pre .0 .1)
 
+add-bytes : tie.Need-add-t22
+add-bytes c =
+    let end = c .before .before .before .before .before .before .before .before .before .before .before in
+    omega (arith, ends end .inside)
+
 returns : tie.Need-returns
 returns c =
     let said = c .before .before .before .before in
@@ -54,7 +59,7 @@ take-sheet-spec =
     (λ c. search needs)
     slice-aggregate-answer-ended
     answer-ended-requires
-    (λ c. let end = c .before .before .before .before .before .before .before .before .before .before .before in omega (arith, ends end .inside))
+    add-bytes
     (λ c. search needs)
     (λ c κs. search needs)
     (λ c. search needs)
