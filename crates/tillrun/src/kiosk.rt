@@ -40,8 +40,8 @@ fn both_ten(x: u8, y: u8) -> u8
     ((x == 10) & (y == 10)) as u8
 }
 
-// Whether an empty line stands in the bytes, where none begins before them. Every byte is looked at and none decides
-// how to go on, so that many are looked at at once.
+// Whether an empty line stands in the bytes, where no line begins before them. No byte decides how to go on, so that the
+// compiler compares many at once.
 fn has_end(bytes: &[u8]) -> bool
     requires { ⌜ (0 < length (now bytes)) × (length (now bytes) ≤ 255) ⌝ }
     ensures { λ r. ⌜ r ≡ emptyLine false (now (bytes .entry)) ⌝ }
@@ -55,7 +55,8 @@ fn has_end(bytes: &[u8]) -> bool
     found > 0
 }
 
-// Goes on by 64 bytes as long as there is no empty line in them.
+// Goes on by 64 bytes as long as no empty line stands in them. The byte after them is looked at twice: a line that ends
+// with one block may be followed by an empty line in the next.
 fn skip(piece: &[u8]) -> usize
     requires { ⌜ 0 < length (now piece) ⌝ }
     ensures { λ r. ⌜ Skipped (now (piece .entry)) r ⌝ }
