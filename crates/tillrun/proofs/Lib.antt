@@ -1,4 +1,4 @@
-mod Writing
+mod Lines
 mod Streams
 mod Pieces
 mod Parting

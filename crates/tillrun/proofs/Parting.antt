@@ -1,7 +1,7 @@
 -- The statements on the sheets of a stream.
 use mathlib.Core.Path.{_≡_, refl, sym, ap, _∙_}
 use mathlib.Core.List.{List, [], _∷_, _++_, append-assoc, append-nil, map}
-use mathlib.Core.Bool.{Bool, true, false, _&&_, _||_}
+use mathlib.Core.Bool.{Bool, true, _&&_}
 use Prim.Native.Nat.{ℕ}
 use lib.Dec.{eqb}
 use lib.ListN.{take}
@@ -11,11 +11,12 @@ use Rattle.logic.proofs.Multisets.{every-snoc}
 use Rattle.ledger.specs.declared.Answer.{Answer}
 use Rattle.ledger.specs.Calls.{Reply, call, answers}
 use Rattle.numbers.proofs.Then.{by-test}
-use Rattle.tillrun.specs.Sheets.{Split, start, next, splitFrom, oneMore}
+use Rattle.tillrun.specs.Sheets.{Split, start, next, splitFrom, oneMore, emptyLine, lineBegins}
 use Rattle.tillrun.specs.Kiosk.{most}
-use Rattle.tillrun.specs.Statements.{emptyLine, lineBegins, Unparted, Sheet, withEmptyLines}
+use Rattle.tillrun.specs.Statements.{Unparted, Sheet, withEmptyLines}
 use Rattle.tillrun.specs.Statements.{ReadBack, AllParts, InPieces, RestSkipped}
-use Rattle.tillrun.proofs.Streams.{split-append, cut, kept, ended}
+use Rattle.tillrun.proofs.Lines.{left-true, right-true, begins-snoc, empty-snoc}
+use Rattle.tillrun.proofs.Streams.{split-append, cut, kept, ended, run, closes}
 
 in-pieces : InPieces
 in-pieces b c = split-append start b c
@@ -27,49 +28,7 @@ rest-skipped t (b ∷ bs) =
     ap (λ (d : Reply). d .answer ∷ answers (d .ledger) (map (take most) bs)) (cut t b)
     ∙ ap (λ (more : List Answer). call t b .answer ∷ more) (rest-skipped (call t b .ledger) bs)
 
--- Tests
-
-left-false : (a b : Bool) → (a || b) ≡ false → a ≡ false
-left-false false b e = refl
-left-false true b e = e
-
-right-false : (a b : Bool) → (a || b) ≡ false → b ≡ false
-right-false false b e = e
-right-false true false e = refl
-right-false true true e = e
-
-left-true : (a b : Bool) → (a && b) ≡ true → a ≡ true
-left-true true b e = refl
-left-true false b e = e
-
-right-true : (a b : Bool) → (a && b) ≡ true → b ≡ true
-right-true true b e = e
-right-true false true e = refl
-right-true false false e = e
-
 -- Sheets that are read back
-
--- bytes without an empty line
-run : (e : List (List ℕ)) (k : List ℕ) (f : Bool) (b : List ℕ) → emptyLine f b ≡ false
-    → splitFrom (record { ended = e; begun = k; fresh = f }) b
-    ≡ record { ended = e; begun = k ++ b; fresh = lineBegins f b }
-unfolding splitFrom emptyLine lineBegins
-run e k f [] h = ap (λ (z : List ℕ). record { ended = e; begun = z; fresh = f }) (sym (append-nil k))
-run e k f (x ∷ b) h =
-    let s : Split = record { ended = e; begun = k; fresh = f } in
-    ap (λ (z : Split). splitFrom z b) (kept s x (left-false (f && eqb x 10) _ h))
-    ∙ run e (k ++ (x ∷ [])) (eqb x 10) b (right-false (f && eqb x 10) _ h)
-    ∙ ap (λ (z : List ℕ). record { ended = e; begun = z; fresh = lineBegins (eqb x 10) b }) (append-assoc k (x ∷ []) b)
-
--- a sheet and its empty line
-one : (e : List (List ℕ)) (s b : List ℕ) → Sheet s
-    → splitFrom (record { ended = e; begun = []; fresh = true }) (s ++ (10 ∷ b))
-    ≡ splitFrom (record { ended = e ++ (s ∷ []); begun = []; fresh = true }) b
-unfolding splitFrom
-one e s b h =
-    split-append _ s (10 ∷ b)
-    ∙ ap (λ (z : Split). splitFrom z (10 ∷ b)) (run e [] true s (h .unparted))
-    ∙ ap (λ (f : Bool). splitFrom (next (record { ended = e; begun = s; fresh = f }) 10) b) (h .lines)
 
 all : (e ss : List (List ℕ)) (r : List ℕ) → Every Sheet ss → Unparted r
     → splitFrom (record { ended = e; begun = []; fresh = true }) (withEmptyLines ss ++ r)
@@ -80,7 +39,7 @@ all e [] r h u =
     ∙ ap (λ (z : List (List ℕ)). record { ended = z; begun = r; fresh = lineBegins true r }) (sym (append-nil e))
 all e (s ∷ ss) r h u =
     ap (splitFrom _) (append-assoc s (10 ∷ withEmptyLines ss) r)
-    ∙ one e s (withEmptyLines ss ++ r) (h .0)
+    ∙ closes e [] true s (withEmptyLines ss ++ r) (h .0 .unparted) (h .0 .lines)
     ∙ all (e ++ (s ∷ [])) ss r (h .1) u
     ∙ ap (λ (z : List (List ℕ)). record { ended = z; begun = r; fresh = lineBegins true r })
     (append-assoc e (s ∷ []) ss)
@@ -96,18 +55,6 @@ unfolding withEmptyLines
 lines-snoc [] s = refl
 lines-snoc (t ∷ ss) s =
     ap (λ (z : List ℕ). t ++ (10 ∷ z)) (lines-snoc ss s) ∙ sym (append-assoc t (10 ∷ withEmptyLines ss) _)
-
-begins-snoc : (f : Bool) (b : List ℕ) (x : ℕ) → lineBegins f (b ++ (x ∷ [])) ≡ eqb x 10
-unfolding lineBegins
-begins-snoc f [] x = refl
-begins-snoc f (y ∷ b) x = begins-snoc (eqb y 10) b x
-
-empty-snoc : (f : Bool) (b : List ℕ) (x : ℕ) → emptyLine f b ≡ false → (lineBegins f b && eqb x 10) ≡ false
-    → emptyLine f (b ++ (x ∷ [])) ≡ false
-unfolding emptyLine lineBegins
-empty-snoc f [] x h e = rw e
-empty-snoc f (y ∷ b) x h e =
-    rw (left-false (f && eqb y 10) _ h) (empty-snoc (eqb y 10) b x (right-false (f && eqb y 10) _ h) e)
 
 -- what has come of the bytes b
 record Parted (s : Split) (b : List ℕ) : Type 0 where

@@ -1,65 +1,130 @@
 -- What the functions leave: one law for each way out.
 use mathlib.Core.Path.{_≡_, refl, sym, ap, subst, _∙_}
 use mathlib.Core.List.{List, [], _∷_, _++_, append-assoc, append-nil}
-use mathlib.Core.Bool.{true, false, _&&_}
-use Prim.Native.Nat.{ℕ, _+_, _*_, _≤_, _<_}
+use mathlib.Core.Bool.{Bool, true}
+use Prim.Native.Nat.{ℕ, suc, _+_, _-_, _*_, _≤_, _<_}
 use native.Mathlib.Omega.{arith}
 use native.Mathlib.Numerals.{add-one}
-use lib.Dec.{eqb}
-use lib.ListN.{length, take, set, getD, length-append, length-set}
-use lib.Seq.{take-all, take-suc, take-suc-set, take-append-le, length-take-le}
+use lib.ListN.{length, take, drop, set, getD, length-append, length-drop}
+use lib.Seq.{take-all, take-suc, take-suc-set, take-take, take-add, take-append-add, length-take-le}
 use Rattle.ledger.specs.Ledger.{empty}
-use Rattle.store.specs.Store.{StandsFor}
-use Rattle.ledger.specs.Calls.{after, answers}
+use Rattle.store.specs.Store.{ledgerOf, StandsFor}
+use Rattle.ledger.specs.Calls.{Reply, told, call, after, answers}
+use Rattle.print.specs.Printed.{line, printed, longest, Room}
+use Rattle.print.proofs.Writing.{wrote-as}
 use Rattle.tillrun.specs.declared.kiosk.Place.{Place}
+use Rattle.tillrun.specs.declared.kiosk.Taken.{Taken}
 use Rattle.tillrun.specs.Sheets.{splitFrom, split, oneMore}
-use Rattle.tillrun.specs.Printed.{printed, longest, Room}
-use Rattle.tillrun.specs.Kiosk.{most, Kept, Said, Ready, Stands, Took, Ended, Turned, Going}
-use Rattle.tillrun.proofs.Streams.{stands-kept, stands-ended, said-text}
+use Rattle.tillrun.specs.Kiosk.{most, EndsAt, NoEnd, Kept, Said, Ready, Stands, Took, TookSome}
+use Rattle.tillrun.specs.Kiosk.{Ended, Turned, Going}
+use Rattle.tillrun.proofs.Streams.{cut, stands-kept, stands-ended, said-text}
 
--- A byte
+-- Bytes that are kept
 
-pub keep-room : (k : List ℕ) (h x : ℕ) → length k ≡ most → h < most → Kept k h x (set k h x) (h + 1)
-keep-room k h x e l = record {
-  long = length-set k h x ∙ e;
+-- none yet
+pub copy-none : (k : List ℕ) (h : ℕ) (x : List ℕ) → take (h + 0) k ≡ take h k ++ take 0 x
+copy-none k h x = let s : h + 0 ≡ h = omega arith in ap (λ (j : ℕ). take j k) s ∙ sym (append-nil (take h k))
+
+-- each that is copied
+pub copy-next : (k₀ k : List ℕ) (h i : ℕ) (x : List ℕ) → length k ≡ most → h + i < most → i < length x
+    → take (h + i) k ≡ take h k₀ ++ take i x
+    → take (h + (i + 1)) (set k (h + i) (getD x i 0)) ≡ take h k₀ ++ take (i + 1) x
+copy-next k₀ k h i x e l n m =
+    let s : h + (i + 1) ≡ suc (h + i) = omega arith in
+    ap (λ (j : ℕ). take j (set k (h + i) (getD x i 0))) s
+    ∙ take-suc-set k (h + i) (getD x i 0) (omega arith)
+    ∙ ap (λ (z : List ℕ). z ++ (getD x i 0 ∷ [])) m
+    ∙ append-assoc (take h k₀) (take i x) (getD x i 0 ∷ [])
+    ∙ ap (λ (z : List ℕ). take h k₀ ++ z) (sym (rw (add-one, take-suc x i 0 n)))
+
+-- all, for which there is room
+pub copied : (k₀ k : List ℕ) (h i : ℕ) (x : List ℕ) → length k₀ ≡ most → length k ≡ most → h + length x ≤ most
+    → i ≡ length x → take (h + i) k ≡ take h k₀ ++ take i x → Kept k₀ h x k (h + i)
+copied k₀ k h i x e₀ e l n m = record {
+  long = e;
   few = omega arith;
   bytes =
-      rw (add-one, take-suc-set k h x (omega arith))
-      (sym (take-all most (take h k ++ (x ∷ []))
-      (omega (arith, length-append (take h k) (x ∷ []), length-take-le h k (omega arith)))));
+      m ∙ ap (λ (z : List ℕ). take h k₀ ++ z) (take-all i x (omega arith))
+      ∙ sym (take-all most (take h k₀ ++ x)
+      (omega (arith, length-append (take h k₀) x, length-take-le h k₀ (omega arith))));
 }
 
-pub keep-full : (k : List ℕ) (h x : ℕ) → length k ≡ most → h ≤ most → most ≤ h → Kept k h x k h
-keep-full k h x e l f =
-    let n = length-take-le h k (omega arith) in
-    record {
-      long = e;
-      few = l;
-      bytes =
-          sym (take-append-le most (take h k) (x ∷ []) (omega arith) ∙ take-all most (take h k) (omega arith));
-    }
+-- or as many as there is room for
+pub keep-first : {k : List ℕ} {h : ℕ} (n : ℕ) (x : List ℕ) {k′ : List ℕ} {h′ : ℕ} → length k ≡ most → h + n ≡ most
+    → Kept k h (take n x) k′ h′ → Kept k h x k′ h′
+keep-first {k} {h} n x e s m = record {
+  long = m .long;
+  few = m .few;
+  bytes =
+      let q = length-take-le h k (omega arith) in
+      let t : most ≡ length (take h k) + n = omega arith in
+      let all : (y : List ℕ) → take most (take h k ++ y) ≡ take h k ++ take n y =
+      λ y. ap (λ (j : ℕ). take j (take h k ++ y)) t ∙ take-append-add (take h k) y n in
+      m .bytes ∙ all (take n x) ∙ ap (λ (z : List ℕ). take h k ++ z) (take-take n n x (omega arith)) ∙ sym (all x);
+}
 
-module _ {l k o : List ℕ} {p : Place} (x : ℕ) (d : Ready l k o p 1) where
-  pub took-kept : {k′ : List ℕ} {h : ℕ} → (p .fresh && eqb x 10) ≡ false → Kept k (p .held) x k′ h
-      → Took l k o p (x ∷ []) l k′ o (record { held = h; fresh = eqb x 10; text = p .text })
-  took-kept e m = record {
-    ready = record { good = d .good; begun = m .long; held = m .few; text = omega (arith, d .text) };
-    short = omega arith;
-    stands = λ w b s. stands-kept s x e m;
+-- The answer to a sheet
+
+pub said-as : {l b b′ o : List ℕ} {at : ℕ} {l′ o′ : List ℕ} {r : ℕ} → call (ledgerOf l) b ≡ call (ledgerOf l) b′
+    → Said l b o at l′ o′ r → Said l b′ o at l′ o′ r
+said-as e m = record {
+  good = m .good;
+  ledger = m .ledger ∙ ap (λ (d : Reply). d .ledger) e;
+  wrote = wrote-as (ap (λ (d : Reply). line (told (d .answer))) e) (m .wrote);
+  short = m .short;
+}
+
+-- none is held
+pub said-whole : {l x o : List ℕ} (k : List ℕ) {at h : ℕ} {l′ o′ : List ℕ} {r : ℕ} → h ≡ 0
+    → Said l x o at l′ o′ r → Said l (take h k ++ x) o at l′ o′ r
+said-whole {l} {x} k e m = said-as (ap (λ (h : ℕ). call (ledgerOf l) (take h k ++ x)) (sym e)) m
+
+-- the last bytes are put after those that are held
+pub said-kept : {l k x o : List ℕ} {at h : ℕ} {k′ : List ℕ} {h′ : ℕ} {l′ o′ : List ℕ} {r : ℕ} → Kept k h x k′ h′
+    → Said l (take h′ k′) o at l′ o′ r → Said l (take h k ++ x) o at l′ o′ r
+said-kept {l} {k} {x} {h = h} m s = said-as (ap (call (ledgerOf l)) (m .bytes) ∙ cut (ledgerOf l) (take h k ++ x)) s
+
+-- The first bytes of a piece
+
+module _ {l k o : List ℕ} {p : Place} (x : List ℕ) (d : Ready l k o p (length x)) (some : 0 < length x) where
+  pub took-open : {k′ : List ℕ} {h : ℕ} {f : Bool} → NoEnd x (p .fresh) f → Kept k (p .held) x k′ h
+      → TookSome l k o p x l k′ o (record { place = record { held = h; fresh = f; text = p .text }; bytes = length x })
+  took-open {k′} {h} {f} n m = record {
+    some = some;
+    inside = omega arith;
+    took = subst
+        (λ (z : List ℕ). Took l k o p z l k′ o (record { held = h; fresh = f; text = p .text }))
+        (sym (take-all (length x) x (omega arith)))
+        (record {
+          ready = record { good = d .good; begun = m .long; held = m .few; text = omega (arith, d .text) };
+          short = omega arith;
+          stands = λ w b s.
+              subst
+              (λ (g : Bool). Stands w l k′ o (record { held = h; fresh = g; text = p .text }) (b ++ x))
+              (sym (n .lines)) (stands-kept s x (n .none) m);
+        });
   }
 
-  pub took-ended : {l′ o′ : List ℕ} {r : ℕ} → (p .fresh && eqb x 10) ≡ true
-      → Said l (take (p .held) k) o (p .text) l′ o′ r
-      → Took l k o p (x ∷ []) l′ k o′ (record { held = 0; fresh = true; text = r })
-  took-ended e m = record {
-    ready = record {
-      good = m .good;
-      begun = d .begun;
-      held = omega arith;
-      text = omega (arith, d .text, m .short, m .wrote .long);
+  pub took-ended : {k′ l′ o′ : List ℕ} {e r : ℕ} → length k′ ≡ most → EndsAt x (p .fresh) e
+      → Said l (take (p .held) k ++ take e x) o (p .text) l′ o′ r
+      → TookSome l k o p x l′ k′ o′ (record { place = record { held = 0; fresh = true; text = r }; bytes = e + 1 })
+  took-ended {k′} {l′} {o′} {e} {r} q n m = record {
+    some = omega arith;
+    inside = omega (arith, n .inside);
+    took = record {
+      ready = record {
+        good = m .good;
+        begun = q;
+        held = omega arith;
+        text = omega (arith, d .text, m .short, m .wrote .long);
+      };
+      short = omega (arith, m .short, length-take-le (e + 1) x (omega (arith, n .inside)));
+      stands = λ w b s.
+          subst
+          (λ (z : List ℕ). Stands w l′ k′ o′ (record { held = 0; fresh = true; text = r }) (b ++ z))
+          (ap (λ (y : ℕ). take e x ++ (y ∷ [])) (sym (n .ten)) ∙ sym (rw (add-one, take-suc x e 0 (n .inside))))
+          (stands-ended s (take e x) m (n .none) (n .lines));
     };
-    short = omega (arith, m .short);
-    stands = λ w b s. stands-ended s m x e;
   }
 
 -- Bytes after bytes
@@ -84,11 +149,20 @@ took-then {x = x} {y = y} {l₂ = l₂} {k₂ = k₂} {o₂ = o₂} {p₂ = p₂
       subst (Stands w l₂ k₂ o₂ p₂) (append-assoc b x y) (v .stands w (b ++ x) (u .stands w b s));
 }
 
-pub took-next : {l k o : List ℕ} {p : Place} (x : List ℕ) (i : ℕ) {l₁ k₁ o₁ : List ℕ} {p₁ : Place}
-    {l₂ k₂ o₂ : List ℕ} {p₂ : Place} → i < length x → Took l k o p (take i x) l₁ k₁ o₁ p₁
-    → Took l₁ k₁ o₁ p₁ (getD x i 0 ∷ []) l₂ k₂ o₂ p₂ → Took l k o p (take (i + 1) x) l₂ k₂ o₂ p₂
-took-next {l} {k} {o} {p} x i {l₂ = l₂} {k₂ = k₂} {o₂ = o₂} {p₂ = p₂} h u v =
-    subst (λ (z : List ℕ). Took l k o p z l₂ k₂ o₂ p₂) (sym (rw (add-one, take-suc x i 0 h))) (took-then u v)
+-- the bytes of x from i on
+pub length-rest : (x : List ℕ) (i : ℕ) → length (take (length x - i) (drop i x)) ≡ length x - i
+length-rest x i = length-take-le (length x - i) (drop i x) (omega (arith, length-drop i x))
+
+pub took-next : {l k o : List ℕ} {p : Place} (x : List ℕ) (i : ℕ) {l₁ k₁ o₁ : List ℕ} {p₁ : Place} {l₂ k₂ o₂ : List ℕ}
+    {t : Taken} → Took l k o p (take i x) l₁ k₁ o₁ p₁
+    → TookSome l₁ k₁ o₁ p₁ (take (length x - i) (drop i x)) l₂ k₂ o₂ t
+    → Took l k o p (take (i + t .bytes) x) l₂ k₂ o₂ (t .place)
+took-next {l} {k} {o} {p} x i {l₂ = l₂} {k₂ = k₂} {o₂ = o₂} {t = t} u v =
+    subst (λ (z : List ℕ). Took l k o p z l₂ k₂ o₂ (t .place))
+    (ap (λ (z : List ℕ). take i x ++ z)
+    (take-take (t .bytes) (length x - i) (drop i x) (omega (arith, v .inside, length-rest x i)))
+    ∙ sym (take-add i (t .bytes) x))
+    (took-then u (v .took))
 
 pub took-all : {l k o : List ℕ} {p : Place} (x : List ℕ) (i : ℕ) {l₁ k₁ o₁ : List ℕ} {p₁ : Place} → length x ≤ i
     → Took l k o p (take i x) l₁ k₁ o₁ p₁ → Took l k o p x l₁ k₁ o₁ p₁
@@ -123,7 +197,8 @@ module _ {l k o : List ℕ} {p : Place} (d : Ready l k o p 1) where
     whole = λ w b s.
         let n = length-take-le (p .held) k (omega (arith, d .held, d .begun)) in
         let q = some-begun (split b .begun) (λ z. f (sym n ∙ ap length (s .begun ∙ z))) in
-        said-text s m
+        said-text s [] (said-as (ap (call (ledgerOf l)) (sym (append-nil (take (p .held) k)))) m)
+        ∙ ap (λ (z : List ℕ). printed (answers empty (split b .ended ++ (z ∷ [])))) (append-nil (split b .begun))
         ∙ ap (λ (z : List (List ℕ)). printed (answers empty (split b .ended ++ z))) (sym q);
   }
 

@@ -1,33 +1,59 @@
 -- What the program's state stands for: a till, the first bytes of the sheet that has begun, and the text that waits to
 -- be written.
 use mathlib.Core.Path.{_≡_}
-use mathlib.Core.List.{List, [], _∷_, _++_}
-use Prim.Native.Nat.{ℕ, _+_, _*_, _≤_}
-use lib.ListN.{length, take}
+use mathlib.Core.Bool.{Bool, true, false, _&&_}
+use mathlib.Core.List.{List, _++_}
+use Prim.Native.Nat.{ℕ, _+_, _*_, _≤_, _<_}
+use lib.Dec.{eqb}
+use lib.ListN.{length, take, getD}
 use Rattle.ledger.specs.Ledger.{empty}
 use Rattle.store.specs.Store.{ledgerOf, Good, StandsFor}
 use Rattle.ledger.specs.Calls.{told, call, after, answers}
 use Rattle.tillrun.specs.declared.kiosk.Place.{Place}
-use Rattle.tillrun.specs.Sheets.{split, sheetsOf}
-use Rattle.tillrun.specs.Printed.{line, printed, longest, Room, Wrote}
+use Rattle.tillrun.specs.declared.kiosk.Taken.{Taken}
+use Rattle.tillrun.specs.declared.kiosk.End.{End}
+use Rattle.tillrun.specs.declared.kiosk.End.the-variants.{At, Open}
+use Rattle.tillrun.specs.Sheets.{split, sheetsOf, emptyLine, lineBegins}
+use Rattle.print.specs.Printed.{line, printed, longest, Room, Wrote}
 
 -- One byte more than a sheet may have: of an overlong sheet the rest is skipped, and what is kept is refused with 1
 -- just as the whole.
 abbrev pub most : ℕ
 most = 16385
 
--- the byte x after the first h of k, unless these are `most`
-pub record Kept (k : List ℕ) (h x : ℕ) (k′ : List ℕ) (h′ : ℕ) : Type 0 where
+-- The first empty line of the bytes x is their byte e; before them a line begins or not.
+pub record EndsAt (x : List ℕ) (fresh : Bool) (e : ℕ) : Type 0 where
+  pub inside : e < length x
+  pub ten : getD x e 0 ≡ 10
+  pub lines : lineBegins fresh (take e x) ≡ true
+  pub none : emptyLine fresh (take e x) ≡ false
+
+-- there is none, and whether a line begins after them
+pub record NoEnd (x : List ℕ) (fresh after : Bool) : Type 0 where
+  pub none : emptyLine fresh x ≡ false
+  pub lines : after ≡ lineBegins fresh x
+
+abbrev pub EndIs : List ℕ → Bool → End → Type 0
+EndIs x fresh (At e) = EndsAt x fresh e
+EndIs x fresh (Open after) = NoEnd x fresh after
+
+-- 1 where two bytes are both 10, else 0
+abbrev pub BothTen : ℕ → ℕ → ℕ → Type 0
+BothTen x y r = r ≡ elim (eqb x 10 && eqb y 10) [
+  | true ↦ 1
+  | false ↦ 0
+]
+
+-- no empty line stands in the bytes x up to their byte n, where no line begins before them
+pub record Skipped (x : List ℕ) (n : ℕ) : Type 0 where
+  pub inside : n < length x
+  pub none : emptyLine false (take (n + 1) x) ≡ false
+
+-- the bytes x after the first h of k, `most` of them at most
+pub record Kept (k : List ℕ) (h : ℕ) (x k′ : List ℕ) (h′ : ℕ) : Type 0 where
   pub long : length k′ ≡ most
   pub few : h′ ≤ most
-  pub bytes : take h′ k′ ≡ take most (take h k ++ (x ∷ []))
-
--- what an answer asks: a good till, the first h bytes of k, and room after the first `at` of o
-pub record Asked (l k o : List ℕ) (h at : ℕ) : Type 0 where
-  pub good : Good l
-  pub begun : length k ≡ most
-  pub held : h ≤ most
-  pub text : Room o at longest
+  pub bytes : take h′ k′ ≡ take most (take h k ++ x)
 
 -- the sheet b answered, and its line put after the first `at` bytes of o
 pub record Said (l b o : List ℕ) (at : ℕ) (l′ o′ : List ℕ) (r : ℕ) : Type 0 where
@@ -56,6 +82,12 @@ pub record Took (l k o : List ℕ) (p : Place) (x l′ k′ o′ : List ℕ) (p�
   pub short : p′ .text ≤ p .text + longest * length x
   pub stands : (w b : List ℕ) → Stands w l k o p b → Stands w l′ k′ o′ p′ (b ++ x)
 
+-- the first bytes of x were taken, one at least
+pub record TookSome (l k o : List ℕ) (p : Place) (x l′ k′ o′ : List ℕ) (t : Taken) : Type 0 where
+  pub some : 0 < t .bytes
+  pub inside : t .bytes ≤ length x
+  pub took : Took l k o p (take (t .bytes) x) l′ k′ o′ (t .place)
+
 -- The input has ended: what has been written and what waits are the answers to its sheets.
 pub record Ended (l k o : List ℕ) (p : Place) (o′ : List ℕ) (r : ℕ) : Type 0 where
   pub text : Room o′ r 0
@@ -70,7 +102,7 @@ pub record Turned (l k o : List ℕ) (p : Place) (l′ k′ o′ : List ℕ) (p�
 
 -- how many bytes are read at once
 abbrev pub piece : ℕ
-piece = 4096
+piece = 16384
 
 -- an empty till, and the buffers: for the first bytes of a sheet, for the answers to a piece, for a piece
 pub record Opened (l k o x : List ℕ) : Type 0 where

@@ -1,4 +1,3 @@
 pub mod Sheets
-pub mod Printed
 pub mod Kiosk
 pub mod Statements

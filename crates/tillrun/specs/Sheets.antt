@@ -1,6 +1,6 @@
 -- The sheets of a stream of bytes: "A second program, `tillrun`, reads standard input, sheets parted by an empty line".
 use mathlib.Core.List.{List, [], _∷_, _++_}
-use mathlib.Core.Bool.{Bool, true, false, _&&_}
+use mathlib.Core.Bool.{Bool, true, false, _&&_, _||_}
 use Prim.Native.Nat.{ℕ}
 use lib.Dec.{eqb}
 
@@ -35,3 +35,13 @@ oneMore (x ∷ xs) = (x ∷ xs) ∷ []
 
 abbrev pub sheetsOf : List ℕ → List (List ℕ)
 sheetsOf b = split b .ended ++ oneMore (split b .begun)
+
+-- whether an empty line stands in bytes, before which a line begins or not
+unfoldable pub emptyLine : Bool → List ℕ → Bool
+emptyLine fresh [] = false
+emptyLine fresh (x ∷ xs) = (fresh && eqb x 10) || emptyLine (eqb x 10) xs
+
+-- whether a line begins after them
+unfoldable pub lineBegins : Bool → List ℕ → Bool
+lineBegins fresh [] = fresh
+lineBegins fresh (x ∷ xs) = lineBegins (eqb x 10) xs

@@ -1,25 +1,14 @@
 -- What is proved of the sheets of a stream (in proofs/Parting.antt).
 use mathlib.Core.Path.{_≡_}
 use mathlib.Core.List.{List, [], _∷_, _++_, map}
-use mathlib.Core.Bool.{Bool, true, false, _&&_, _||_}
+use mathlib.Core.Bool.{true, false}
 use Prim.Native.Nat.{ℕ}
-use lib.Dec.{eqb}
 use lib.ListN.{take}
 use Rattle.logic.specs.Multiset.{Every}
 use Rattle.ledger.specs.Ledger.{Ledger}
 use Rattle.ledger.specs.Calls.{answers}
-use Rattle.tillrun.specs.Sheets.{splitFrom, split, oneMore, sheetsOf}
+use Rattle.tillrun.specs.Sheets.{splitFrom, split, oneMore, sheetsOf, emptyLine, lineBegins}
 use Rattle.tillrun.specs.Kiosk.{most}
-
--- whether an empty line stands in bytes, before which a line begins or not
-unfoldable pub emptyLine : Bool → List ℕ → Bool
-emptyLine fresh [] = false
-emptyLine fresh (x ∷ xs) = (fresh && eqb x 10) || emptyLine (eqb x 10) xs
-
--- whether a line begins after them
-unfoldable pub lineBegins : Bool → List ℕ → Bool
-lineBegins fresh [] = fresh
-lineBegins fresh (x ∷ xs) = lineBegins (eqb x 10) xs
 
 -- bytes without an empty line, and those of them that an empty line can follow
 abbrev pub Unparted : List ℕ → Type 0

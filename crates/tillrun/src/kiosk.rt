@@ -1,12 +1,15 @@
 // The sheets of a stream of bytes, each answered where it ends (specs/Sheets.antt).
-use crate::print;
 use store::Store;
 ghost use mathlib.Core.Path.{_≡_};
-ghost use mathlib.Core.List.{[], _∷_};
-ghost use Prim.Native.Nat.{_≤_};
+ghost use mathlib.Core.Bool.{false};
+ghost use mathlib.Core.List.{_++_};
+ghost use Prim.Native.Nat.{_+_, _≤_, _<_};
 ghost use lib.ListN.{length, take};
+ghost use Rattle.store.specs.Store.{Good};
 ghost use Rattle.booking.specs.Booking.{Lent};
-ghost use Rattle.tillrun.specs.Kiosk.{most, Asked, Kept, Said, Ready, Took, Ended};
+ghost use Rattle.print.specs.Printed.{longest, Room};
+ghost use Rattle.tillrun.specs.Sheets.{emptyLine};
+ghost use Rattle.tillrun.specs.Kiosk.{most, BothTen, Skipped, EndIs, Kept, Said, Ready, Took, TookSome, Ended};
 
 // Lent to each call for a booking's step lines.
 pub type Rows = [u32; 1536];
@@ -18,96 +21,213 @@ pub struct Place {
     pub text: usize,
 }
 
-// One more byte of the sheet; past 16,385 it is dropped.
-fn keep(begun: &mut [u8], held: usize, x: u8) -> usize
-    requires { ⌜ (length (now begun) ≡ most) × (held ≤ most) ⌝ }
-    ensures { λ r. ⌜ Kept (now (begun .entry)) held x (now (begun .exit)) r ⌝ }
-{
-    if held < 16385 {
-        begun[held] = x;
-        return held + 1;
-    }
-    held
+// Where the first empty line stands; or that there is none, and whether a line begins after the bytes.
+enum End {
+    At(usize),
+    Open(bool),
 }
 
-// Answers the sheet and puts the answer's line into the text.
-fn answer(
-    till: &mut Store,
-    rows: &mut Rows,
-    begun: &[u8],
-    text: &mut [u8],
-    held: usize,
-    at: usize,
-) -> usize
-    requires { ⌜ Asked (now till) (now begun) (now text) held at × Lent (now rows) ⌝ }
-    ensures { λ r. ⌜ Said (now (till .entry)) (take held (now (begun .entry))) (now (text .entry)) at
+// A place, and how many bytes of the piece are taken.
+struct Taken {
+    place: Place,
+    bytes: usize,
+}
+
+// 1 if both are byte 10, the second an empty line.
+fn both_ten(x: u8, y: u8) -> u8
+    ensures { λ r. ⌜ BothTen x y r ⌝ }
+{
+    ((x == 10) & (y == 10)) as u8
+}
+
+// Whether an empty line stands in the bytes, where no line begins before them. No byte decides how to go on, so that the
+// compiler compares many at once.
+fn has_end(bytes: &[u8]) -> bool
+    requires { ⌜ (0 < length (now bytes)) × (length (now bytes) ≤ 255) ⌝ }
+    ensures { λ r. ⌜ r ≡ emptyLine false (now (bytes .entry)) ⌝ }
+{
+    let mut found = 0u8;
+    let mut i = 0;
+    while i + 1 < bytes.len() {
+        found += both_ten(bytes[i], bytes[i + 1]);
+        i += 1;
+    }
+    found > 0
+}
+
+// Goes on by 64 bytes as long as no empty line stands in them. The byte after them is looked at twice: a line that ends
+// with one block may be followed by an empty line in the next.
+fn skip(piece: &[u8]) -> usize
+    requires { ⌜ 0 < length (now piece) ⌝ }
+    ensures { λ r. ⌜ Skipped (now (piece .entry)) r ⌝ }
+{
+    let mut i = 0;
+    while i + 64 < piece.len() {
+        let next = i + 65;
+        if has_end(&piece[i..next]) {
+            return i;
+        }
+        i += 64;
+    }
+    i
+}
+
+// Looks for the first empty line: a byte 10 where a line begins.
+fn sheet_end(piece: &[u8], fresh: bool) -> End
+    requires { ⌜ 0 < length (now piece) ⌝ }
+    ensures { λ r. ⌜ EndIs (now (piece .entry)) fresh r ⌝ }
+{
+    if fresh & (piece[0] == 10) {
+        return End::At(0);
+    }
+    let mut i = skip(piece);
+    while i + 1 < piece.len() {
+        if (piece[i] == 10) & (piece[i + 1] == 10) {
+            return End::At(i + 1);
+        }
+        i += 1;
+    }
+    End::Open(piece[i] == 10)
+}
+
+// The bytes after those held, for which there is room.
+fn copy(begun: &mut [u8], held: usize, bytes: &[u8]) -> usize
+    requires { ⌜ (length (now begun) ≡ most) × (held + length (now bytes) ≤ most) ⌝ }
+    ensures { λ r. ⌜ Kept (now (begun .entry)) held (now (bytes .entry)) (now (begun .exit)) r ⌝ }
+{
+    let mut i = 0;
+    while i < bytes.len() {
+        begun[held + i] = bytes[i];
+        i += 1;
+    }
+    held + i
+}
+
+// The bytes after those held; past 16,385 they are dropped.
+fn keep(begun: &mut [u8], held: usize, bytes: &[u8]) -> usize
+    requires { ⌜ (length (now begun) ≡ most) × (held ≤ most) ⌝ }
+    ensures { λ r. ⌜ Kept (now (begun .entry)) held (now (bytes .entry)) (now (begun .exit)) r ⌝ }
+{
+    let room = 16385 - held;
+    if bytes.len() <= room {
+        return copy(begun, held, bytes);
+    }
+    copy(begun, held, &bytes[..room])
+}
+
+// Answers a sheet and puts the answer's line into the text.
+fn answer(till: &mut Store, rows: &mut Rows, sheet: &[u8], text: &mut [u8], at: usize) -> usize
+    requires { ⌜ Good (now till) × (Lent (now rows) × Room (now text) at longest) ⌝ }
+    ensures { λ r. ⌜ Said (now (till .entry)) (now (sheet .entry)) (now (text .entry)) at
         (now (till .exit)) (now (text .exit)) r ⌝ }
     ensures { λ _. ⌜ Lent (now (rows .exit)) ⌝ }
 {
-    let a = booking::call(till, &begun[..held], rows);
+    let a = booking::call(till, sheet, rows);
     print::put_answer(text, at, a)
 }
 
-// Takes one byte.
-fn take_byte(
+// Answers the sheet whose first bytes are held and whose last are these. One of which none are held is answered where
+// it lies.
+fn answer_ended(
     till: &mut Store,
     rows: &mut Rows,
     begun: &mut [u8],
     text: &mut [u8],
     place: Place,
-    x: u8,
-) -> Place
+    bytes: &[u8],
+) -> usize
     requires { ⌜ Ready (now till) (now begun) (now text) place 1 × Lent (now rows) ⌝ }
-    ensures { λ r. ⌜ Took (now (till .entry)) (now (begun .entry)) (now (text .entry)) place (x ∷ [])
+    ensures { λ r. ⌜ Said (now (till .entry)) (take (place .held) (now (begun .entry)) ++ now (bytes .entry))
+        (now (text .entry)) (place .text) (now (till .exit)) (now (text .exit)) r ⌝ }
+    ensures { λ _. ⌜ Lent (now (rows .exit)) ⌝ }
+{
+    if place.held == 0 {
+        return answer(till, rows, bytes, text, place.text);
+    }
+    let held = keep(begun, place.held, bytes);
+    answer(till, rows, &begun[..held], text, place.text)
+}
+
+// Takes the bytes of a piece up to its first empty line, or all.
+fn take_sheet(
+    till: &mut Store,
+    rows: &mut Rows,
+    begun: &mut [u8],
+    text: &mut [u8],
+    place: Place,
+    piece: &[u8],
+) -> Taken
+    requires { ⌜ Ready (now till) (now begun) (now text) place (length (now piece)) × Lent (now rows) ⌝ }
+    requires { ⌜ 0 < length (now piece) ⌝ }
+    ensures { λ r. ⌜ TookSome (now (till .entry)) (now (begun .entry)) (now (text .entry)) place (now (piece .entry))
         (now (till .exit)) (now (begun .exit)) (now (text .exit)) r ⌝ }
     ensures { λ _. ⌜ Lent (now (rows .exit)) ⌝ }
 {
-    if place.fresh & (x == 10) {
-        let end = answer(till, rows, begun, text, place.held, place.text);
-        return Place {
-            held: 0,
-            fresh: true,
-            text: end,
-        };
-    }
-    let held = keep(begun, place.held, x);
-    Place {
-        held,
-        fresh: x == 10,
-        text: place.text,
+    let end = sheet_end(piece, place.fresh);
+    match end {
+        End::At(e) => {
+            let written = answer_ended(till, rows, begun, text, place, &piece[..e]);
+            Taken {
+                place: Place {
+                    held: 0,
+                    fresh: true,
+                    text: written,
+                },
+                bytes: e + 1,
+            }
+        }
+        End::Open(fresh) => {
+            let held = keep(begun, place.held, piece);
+            Taken {
+                place: Place {
+                    held,
+                    fresh,
+                    text: place.text,
+                },
+                bytes: piece.len(),
+            }
+        }
     }
 }
 
 // Takes a piece of the input.
 pub fn feed(
     till: &mut Store,
+    rows: &mut Rows,
     begun: &mut [u8],
     text: &mut [u8],
     place: Place,
     piece: &[u8],
 ) -> Place
-    requires { ⌜ Ready (now till) (now begun) (now text) place (length (now piece)) ⌝ }
+    requires { ⌜ Ready (now till) (now begun) (now text) place (length (now piece)) × Lent (now rows) ⌝ }
     ensures { λ r. ⌜ Took (now (till .entry)) (now (begun .entry)) (now (text .entry)) place (now (piece .entry))
         (now (till .exit)) (now (begun .exit)) (now (text .exit)) r ⌝ }
+    ensures { λ _. ⌜ Lent (now (rows .exit)) ⌝ }
 {
-    let mut rows = [0u32; 1536];
     let mut p = place;
     let mut i = 0;
     while i < piece.len() {
-        p = take_byte(till, &mut rows, begun, text, p, piece[i]);
-        i += 1;
+        let t = take_sheet(till, rows, begun, text, p, &piece[i..]);
+        p = t.place;
+        i += t.bytes;
     }
     p
 }
 
 // The input has ended: bytes that no empty line has ended are one more sheet.
-pub fn finish(till: &mut Store, begun: &[u8], text: &mut [u8], place: Place) -> usize
-    requires { ⌜ Ready (now till) (now begun) (now text) place 1 ⌝ }
+pub fn finish(
+    till: &mut Store,
+    rows: &mut Rows,
+    begun: &[u8],
+    text: &mut [u8],
+    place: Place,
+) -> usize
+    requires { ⌜ Ready (now till) (now begun) (now text) place 1 × Lent (now rows) ⌝ }
     ensures { λ r. ⌜ Ended (now (till .entry)) (now (begun .entry)) (now (text .entry)) place (now (text .exit)) r ⌝ }
 {
-    if place.held == 0 {
+    let held = place.held;
+    if held == 0 {
         return place.text;
     }
-    let mut rows = [0u32; 1536];
-    answer(till, &mut rows, begun, text, place.held, place.text)
+    answer(till, rows, &begun[..held], text, place.text)
 }

@@ -1,13 +1,14 @@
 // `tillrun` (document 01, "Kiosk"): reads sheets from standard input and prints their answers, starting with an empty
 // till. What is read in one piece is answered and written before more input is waited for.
 use kiosk::Place;
+use kiosk::Rows;
 use store::Store;
 
 mod kiosk;
-mod print;
 
 ghost use mathlib.Core.Path.{_≡_};
 ghost use lib.ListN.{length};
+ghost use Rattle.booking.specs.Booking.{Lent};
 ghost use Rattle.tillrun.specs.Kiosk.{Ready, Turned, Opened};
 
 // A place, whether to go on, and whether the answers could be written.
@@ -20,16 +21,17 @@ struct Turn {
 // Reads once, answers what came and writes the answers.
 fn next_piece(
     till: &mut Store,
+    rows: &mut Rows,
     begun: &mut [u8],
     text: &mut [u8],
     piece: &mut [u8],
     place: Place,
 ) -> Turn
-    requires { ⌜ Ready (now till) (now begun) (now text) place 4096 ⌝ }
-    requires { ⌜ length (now piece) ≡ 4096 ⌝ }
+    requires { ⌜ Ready (now till) (now begun) (now text) place 16384 ⌝ }
+    requires { ⌜ Lent (now rows) × (length (now piece) ≡ 16384) ⌝ }
     ensures { λ r. ⌜ Turned (now (till .entry)) (now (begun .entry)) (now (text .entry)) place
-        (now (till .exit)) (now (begun .exit)) (now (text .exit)) (r .place) 4096 ⌝ }
-    ensures { λ _. ⌜ length (now (piece .exit)) ≡ 4096 ⌝ }
+        (now (till .exit)) (now (begun .exit)) (now (text .exit)) (r .place) 16384 ⌝ }
+    ensures { λ _. ⌜ Lent (now (rows .exit)) × (length (now (piece .exit)) ≡ 16384) ⌝ }
 {
     let got = libc::read(0, piece);
     let n = io::count(got, piece);
@@ -40,7 +42,7 @@ fn next_piece(
             written: true,
         };
     }
-    let next = kiosk::feed(till, begun, text, place, &piece[..n]);
+    let next = kiosk::feed(till, rows, begun, text, place, &piece[..n]);
     let end = next.text;
     let more = io::write_all(1, &text[..end]);
     Turn {
@@ -56,8 +58,8 @@ fn next_piece(
 
 // Plays the input to its end. A proved loop has to end, and nothing says that the input does, so the loop counts its
 // turns down from a number that no run uses up. Where the answers cannot be written, the sheet that has begun is left.
-fn play(till: &mut Store, begun: &mut [u8], text: &mut [u8], piece: &mut [u8])
-    requires { ⌜ Opened (now till) (now begun) (now text) (now piece) ⌝ }
+fn play(till: &mut Store, rows: &mut Rows, begun: &mut [u8], text: &mut [u8], piece: &mut [u8])
+    requires { ⌜ Opened (now till) (now begun) (now text) (now piece) × Lent (now rows) ⌝ }
 {
     let mut place = Place {
         held: 0,
@@ -68,7 +70,7 @@ fn play(till: &mut Store, begun: &mut [u8], text: &mut [u8], piece: &mut [u8])
     let mut written = true;
     let mut turns = u64::MAX;
     while turns > 0 && more {
-        let t = next_piece(till, begun, text, piece, place);
+        let t = next_piece(till, rows, begun, text, piece, place);
         place = t.place;
         more = t.more;
         written = t.written;
@@ -77,7 +79,7 @@ fn play(till: &mut Store, begun: &mut [u8], text: &mut [u8], piece: &mut [u8])
     if !written {
         return;
     }
-    let end = kiosk::finish(till, begun, text, place);
+    let end = kiosk::finish(till, rows, begun, text, place);
     io::write_all(1, &text[..end]);
 }
 
@@ -85,7 +87,8 @@ fn main() {
     let mut till = [0u32; 7548];
     store::start(&mut till);
     let mut begun = [0u8; 16385];
-    let mut text = [0u8; 147456];
-    let mut piece = [0u8; 4096];
-    play(&mut till, &mut begun, &mut text, &mut piece);
+    let mut text = [0u8; 589824];
+    let mut piece = [0u8; 16384];
+    let mut rows = [0u32; 1536];
+    play(&mut till, &mut rows, &mut begun, &mut text, &mut piece);
 }

@@ -1,20 +1,11 @@
-use mathlib.Core.Path.{sym, ap}
-use native.Mathlib.Omega.{arith}
-use denote.Ref.{now}
-use lib.Seq.{length-take-le}
+use mathlib.Core.Path.{ap}
 use borrow.Author.Needs.{needs}
 use Rattle.ledger.specs.declared.Answer.{Answer}
 use Rattle.ledger.specs.Calls.{told}
-use Rattle.tillrun.specs.Printed.{line}
-use Rattle.tillrun.proofs.Writing.{wrote-as}
+use Rattle.print.specs.Printed.{line}
+use Rattle.print.proofs.Writing.{wrote-as}
 use Rattle.tillrun.proofs.kiosk.answer.Statement.{statement}
 use Rattle.tillrun.proofs.kiosk.answer.Tie as tie
-
-slice-aggregate-call : tie.Need-slice-aggregate-call
-slice-aggregate-call c =
-    let start = c .before .before .before .before in
-    sym (length-take-le (start .args .held) (now (start .args .begun))
-    (omega (arith, start .pre .0 .begun, start .pre .0 .held)))
 
 returns : tie.Need-returns
 returns c =
@@ -30,6 +21,4 @@ returns c =
     )
 
 pub answer-spec : {M : Type 1} → statement M
-answer-spec =
-    tie.close
-    (tie.spec slice-aggregate-call (λ c κs. search needs) (λ c κs. search needs) (λ c. search needs) returns)
+answer-spec = tie.close (tie.spec (λ c κs. search needs) (λ c κs. search needs) (λ c. search needs) returns)

@@ -11,7 +11,7 @@ use Rattle.request.specs.Write.{digits, joined}
 use Rattle.request.proofs.Digits.{digits-more, digits-length}
 use Rattle.ledger.specs.declared.Answer.the-variants.{Accepted, Counted, Refused}
 use Rattle.ledger.specs.Calls.{told}
-use Rattle.tillrun.specs.Printed.{line, Room, Wrote}
+use Rattle.print.specs.Printed.{line, Room, Wrote}
 
 pub wrote-byte : (o : List ℕ) (at x : ℕ) → Room o at 1 → Wrote o at (x ∷ []) (set o at x) (at + 1)
 wrote-byte o at x r = record {

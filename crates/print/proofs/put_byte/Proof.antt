@@ -1,7 +1,7 @@
 use borrow.Author.Needs.{needs}
-use Rattle.tillrun.proofs.Writing.{wrote-byte}
-use Rattle.tillrun.proofs.print.put_byte.Statement.{statement}
-use Rattle.tillrun.proofs.print.put_byte.Tie as tie
+use Rattle.print.proofs.Writing.{wrote-byte}
+use Rattle.print.proofs.put_byte.Statement.{statement}
+use Rattle.print.proofs.put_byte.Tie as tie
 
 pub put-byte-spec : {M : Type 1} → statement M
 put-byte-spec =

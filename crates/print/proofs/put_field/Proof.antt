@@ -1,8 +1,8 @@
 use native.Mathlib.Omega.{arith}
 use borrow.Author.Needs.{needs}
-use Rattle.tillrun.proofs.Writing.{wrote-then, digits-few}
-use Rattle.tillrun.proofs.print.put_field.Statement.{statement}
-use Rattle.tillrun.proofs.print.put_field.Tie as tie
+use Rattle.print.proofs.Writing.{wrote-then, digits-few}
+use Rattle.print.proofs.put_field.Statement.{statement}
+use Rattle.print.proofs.put_field.Tie as tie
 
 pub put-field-spec : {M : Type 1} → statement M
 put-field-spec =

@@ -1,7 +1,7 @@
 use borrow.Author.Needs.{needs}
-use Rattle.tillrun.proofs.Writing.{wrote-then}
-use Rattle.tillrun.proofs.print.put_word.Statement.{statement}
-use Rattle.tillrun.proofs.print.put_word.Tie as tie
+use Rattle.print.proofs.Writing.{wrote-then}
+use Rattle.print.proofs.put_word.Statement.{statement}
+use Rattle.print.proofs.put_word.Tie as tie
 
 pub put-word-spec : {M : Type 1} → statement M
 put-word-spec =

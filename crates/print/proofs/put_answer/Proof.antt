@@ -3,10 +3,10 @@ use native.Mathlib.Omega.{arith}
 use borrow.Author.Needs.{needs}
 use Rattle.ledger.specs.declared.Answer.{Answer}
 use Rattle.ledger.specs.Calls.{told}
-use Rattle.tillrun.specs.Printed.{line}
-use Rattle.tillrun.proofs.Writing.{wrote-then, wrote-as, line-accepted, line-counted, line-refused}
-use Rattle.tillrun.proofs.print.put_answer.Statement.{statement}
-use Rattle.tillrun.proofs.print.put_answer.Tie as tie
+use Rattle.print.specs.Printed.{line}
+use Rattle.print.proofs.Writing.{wrote-then, wrote-as, line-accepted, line-counted, line-refused}
+use Rattle.print.proofs.put_answer.Statement.{statement}
+use Rattle.print.proofs.put_answer.Tie as tie
 
 -- the line, by the case of the answer
 by-case : {a e : Answer} → a ≡ e → line (told e) ≡ line (told a)

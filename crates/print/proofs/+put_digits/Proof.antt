@@ -7,13 +7,13 @@ use borrow.Author.Needs.{needs}
 use borrow.Fn.Kinds.{In}
 use borrow.Fn.PlainCycle.{Measures, is, falls, and}
 use Rattle.request.proofs.Digits.{digits-one}
-use Rattle.tillrun.proofs.Writing.{wrote-then, wrote-as, digits-high, digits-room}
-use Rattle.tillrun.proofs.print.put_digits.Reads as put-digits
-use Rattle.tillrun.proofs.print.put_digits.Kinds as put-digits-kinds
-use Rattle.tillrun.proofs.print.+put_digits.Lts-put_digits as put-digits-lts
-use Rattle.tillrun.proofs.print.put_byte.Reads as put-byte-reads
-use Rattle.tillrun.proofs.print.+put_digits.{statement}
-use Rattle.tillrun.proofs.print.+put_digits.Tie.{close}
+use Rattle.print.proofs.Writing.{wrote-then, wrote-as, digits-high, digits-room}
+use Rattle.print.proofs.put_digits.Reads as put-digits
+use Rattle.print.proofs.put_digits.Kinds as put-digits-kinds
+use Rattle.print.proofs.+put_digits.Lts-put_digits as put-digits-lts
+use Rattle.print.proofs.put_byte.Reads as put-byte-reads
+use Rattle.print.proofs.+put_digits.{statement}
+use Rattle.print.proofs.+put_digits.Tie.{close}
 
 abbrev μ-put-digits : Measures 1 put-digits-kinds.ps ℕ
 μ-put-digits κs a = a .1 .1 .0

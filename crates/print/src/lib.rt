@@ -5,7 +5,7 @@ ghost use Prim.Native.Nat.{_+_, _≤_};
 ghost use lib.ListN.{length};
 ghost use Rattle.request.specs.Write.{digits};
 ghost use Rattle.ledger.specs.Calls.{told};
-ghost use Rattle.tillrun.specs.Printed.{line, longest, Room, Wrote};
+ghost use Rattle.print.specs.Printed.{line, longest, Room, Wrote};
 
 fn put_byte(text: &mut [u8], at: usize, x: u8) -> usize
     requires { ⌜ Room (now text) at 1 ⌝ }
