@@ -13,14 +13,12 @@ use Rattle.ledger.specs.Ledger.{Ledger, formula}
 use Rattle.ledger.specs.Calls.{withCredential}
 use Rattle.ledger.proofs.Bounds.{credential-bounded}
 use Rattle.store.specs.Tab.{tab, present}
-use Rattle.cells.specs.Layout.{maxRows, liveCount, nextSerial, rowCount, credentialAt}
-use Rattle.cells.specs.Layout.{entryAt, putRowCount, putLiveCount, putNext, putCredential}
-use Rattle.cells.specs.Layout.{putHint}
+use Rattle.cells.specs.Layout.{maxRows, liveCount, nextSerial, rowCount, credentialAt, entryAt, putRowCount}
+use Rattle.cells.specs.Layout.{putLiveCount, putNext, putCredential, putHint}
 use Rattle.store.specs.Store.{ledgerOf, Ordered, StandsFor, Givable}
 use Rattle.store.proofs.Tabs.{tab-ext, present-next}
-use Rattle.cells.proofs.Rows.{SameLines, lines-self, head-lines, head-same}
-use Rattle.cells.proofs.Rows.{Stays, stays-credential, stays-entry, stays-serial, entry-there}
-use Rattle.cells.proofs.Rows.{head-other, head-stays, credential-same, credential-there}
+use Rattle.cells.proofs.Rows.{SameLines, lines-self, head-lines, head-same, Stays, stays-credential, stays-entry}
+use Rattle.cells.proofs.Rows.{stays-serial, entry-there, head-other, head-stays, credential-same, credential-there}
 use Rattle.cells.proofs.Rows.{credential-stays, credential-lines}
 use Rattle.store.proofs.Names.{credential-named}
 use Rattle.store.proofs.Live.{stands-live, ledger-live, hint-stands}

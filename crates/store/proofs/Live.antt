@@ -16,15 +16,11 @@ use Rattle.ledger.specs.Table.{nth, formulas}
 use Rattle.ledger.specs.Ledger.{Ledger, empty, formula, consSome}
 use Rattle.ledger.proofs.Bounds.{Bounded, empty-bounded}
 use Rattle.store.specs.Tab.{tab, present}
-use Rattle.cells.specs.Layout.{cells, lineCount, liveCount, nextSerial, rowCount, credentialAt}
-use Rattle.cells.specs.Layout.{gapAt, entryAt}
-use Rattle.cells.specs.Layout.{putHint}
+use Rattle.cells.specs.Layout.{cells, lineCount, liveCount, nextSerial, rowCount, credentialAt, gapAt, entryAt, putHint}
 use Rattle.store.specs.Store.{lineOf, ledgerOf, Canonical, Named, Ordered, Good, StandsFor}
 use Rattle.store.proofs.Tabs.{tab-ext, present-sum}
-use Rattle.cells.proofs.Rows.{SameLines, lines-self, same-row, same-size, same-plain, gap-kind}
-use Rattle.cells.proofs.Rows.{stays-entry, stays-serial}
-use Rattle.cells.proofs.Rows.{SameLive}
-use Rattle.cells.proofs.Rows.{hint-lines, hint-live}
+use Rattle.cells.proofs.Rows.{SameLines, lines-self, same-row, same-size, same-plain, gap-kind, stays-entry}
+use Rattle.cells.proofs.Rows.{stays-serial, SameLive, hint-lines, hint-live}
 
 -- The empty ledger.
 pub empty-stands : (l : List ℕ) → length l ≡ cells → lineCount l ≡ 0 → liveCount l ≡ 0 → nextSerial l ≡ 1

@@ -11,15 +11,11 @@ use Rattle.ledger.specs.Calls.{withLive}
 use Rattle.ledger.proofs.Bounds.{without-bounded}
 use Rattle.ledger.proofs.Credentials.{take-out}
 use Rattle.store.specs.Tab.{tab, present}
-use Rattle.cells.specs.Layout.{liveCount, nextSerial, rowCount, credentialAt}
-use Rattle.cells.specs.Layout.{gapAt, entryAt, putLiveCount, putGap}
+use Rattle.cells.specs.Layout.{liveCount, nextSerial, rowCount, credentialAt, gapAt, entryAt, putLiveCount, putGap}
 use Rattle.store.specs.Store.{ledgerOf, Ordered, Good, StandsFor, Occupied}
 use Rattle.store.proofs.Search.{without-row}
-use Rattle.cells.proofs.Rows.{SameLines, lines-self, head-lines, head-same}
-use Rattle.cells.proofs.Rows.{Stays, stays-entry, stays-serial, entry-gap}
-use Rattle.cells.proofs.Rows.{head-other, head-stays}
-use Rattle.cells.proofs.Rows.{gap-here, gap-stays, gap-serial, gap-before}
-use Rattle.cells.proofs.Rows.{gap-lines}
+use Rattle.cells.proofs.Rows.{SameLines, lines-self, head-lines, head-same, Stays, stays-entry, stays-serial, entry-gap}
+use Rattle.cells.proofs.Rows.{head-other, head-stays, gap-here, gap-stays, gap-serial, gap-before, gap-lines}
 use Rattle.store.proofs.Views.{only-here, occupied-found}
 use Rattle.store.proofs.Names.{without-named}
 use Rattle.store.proofs.Live.{stands-live, ledger-live}
