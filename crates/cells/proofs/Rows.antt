@@ -7,7 +7,7 @@ use mathlib.Core.Option.{none, some}
 use Prim.Native.Nat.{ℕ, _+_, _*_, _%_, _≤_, _<_}
 use native.Mathlib.Omega.{arith}
 use native.Mathlib.Decide.{decLt}
-use borrow.Author.Tests.{lt-ltb, le-ltb}
+use borrow.Author.Tests.{eqb-true, lt-ltb, le-ltb}
 use lib.Dec.{eqb}
 use lib.ListN.{length, getD, set, length-set}
 use lib.Seq.{getD-set-same, getD-set-other}
@@ -121,6 +121,11 @@ module _ (l : List ℕ) (i : ℕ) where
   pub entry-gap : gapAt l i ≡ true → entryAt l i ≡ none
   unfolding entryAt
   entry-gap e = rw e
+
+  -- a gap reads as unrestricted
+  pub gap-kind : gapAt l i ≡ true → credentialAt l i .kind ≡ Unrestricted
+  unfolding gapAt credentialAt
+  gap-kind e = rw (eqb-true (cell l 1404 5 i 1) 2 e)
 
   pub entry-there : gapAt l i ≡ false → entryAt l i ≡ some (credentialAt l i)
   unfolding entryAt

@@ -15,12 +15,11 @@ use Rattle.ledger.specs.Calls.{withLine}
 use Rattle.ledger.proofs.Tables.{formula-snoc, formula-stays}
 use Rattle.ledger.proofs.Bounds.{Bounded, line-bounded}
 use Rattle.store.specs.Tab.{tab}
-use Rattle.cells.specs.Layout.{lineCount, lineCell, rowAt, sizeAt, plainAt, lineCells, putLineCount}
-use Rattle.cells.specs.Layout.{putLine}
+use Rattle.cells.specs.Layout.{lineCount, lineCell, rowAt, sizeAt, plainAt, lineCells, putLineCount, putLine}
 use Rattle.store.specs.Store.{lineOf, ledgerOf, Canonical, Named, StandsFor, Addable}
 use Rattle.store.proofs.Tabs.{tab-append}
-use Rattle.cells.proofs.Rows.{row-ext, row-below, SameLive, count-live, head-same, head-line}
-use Rattle.cells.proofs.Rows.{line-same, line-other, line-live}
+use Rattle.cells.proofs.Rows.{row-ext, row-below, SameLive, count-live, head-same, head-line, line-same, line-other}
+use Rattle.cells.proofs.Rows.{line-live}
 use Rattle.store.proofs.Views.{lines-length}
 use Rattle.store.proofs.Names.{line-named}
 use Rattle.store.proofs.Live.{same-live, same-ordered}

@@ -11,15 +11,15 @@ use Rattle.ledger.specs.declared.Credential.{Credential}
 use Rattle.ledger.specs.Ledger.{Ledger}
 use Rattle.ledger.proofs.Bounds.{Rises, Below}
 use Rattle.store.specs.Tab.{tab, present}
-use Rattle.cells.specs.Layout.{maxRows, liveCount, nextSerial, rowCount, credentialAt, gapAt, entryAt}
-use Rattle.cells.specs.Layout.{putCredential, putRowCount, putHint}
+use Rattle.cells.specs.Layout.{maxRows, liveCount, nextSerial, rowCount, credentialAt, gapAt, entryAt, putCredential}
+use Rattle.cells.specs.Layout.{putRowCount, putHint}
 use Rattle.store.specs.Store.{ledgerOf, Ordered, Good, Compacted}
 use Rattle.store.proofs.Tabs.{length-tab, tab-ext, tab-append, every-tab, present-next, present-all}
 use Rattle.store.proofs.Search.{rises-between}
 use Rattle.cells.proofs.Rows.{SameLines, lines-self, Stays, stays-credential, stays-gap, entry-gap, entry-there}
 use Rattle.cells.proofs.Rows.{head-lines, head-same, head-other, head-stays, credential-same, credential-there}
-use Rattle.cells.proofs.Rows.{credential-stays, credential-before, credential-lines, hint-before}
-use Rattle.cells.proofs.Rows.{hint-lines, hint-stays}
+use Rattle.cells.proofs.Rows.{credential-stays, credential-before, credential-lines, hint-before, hint-lines}
+use Rattle.cells.proofs.Rows.{hint-stays}
 use Rattle.store.proofs.Live.{stands-live, ledger-live}
 
 -- l is the store at the start, m when row i is next: the live ones of the rows before it stand in the first k rows

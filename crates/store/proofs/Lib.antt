@@ -4,5 +4,7 @@ pub mod Lines
 pub mod Views
 pub mod Names
 pub mod Live
+pub mod Given
+pub mod Removed
 pub mod Gather
 pub mod Added

@@ -2,7 +2,7 @@
 use borrow.Author.Needs.{needs}
 use native.Mathlib.Omega.{arith}
 use Rattle.store.specs.Store.{ledgerOf}
-use Rattle.store.proofs.Live.{give-done}
+use Rattle.store.proofs.Given.{give-done}
 use Rattle.store.proofs.append.Statement.{statement}
 use Rattle.store.proofs.append.Tie as tie
 

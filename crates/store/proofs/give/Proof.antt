@@ -1,6 +1,6 @@
 -- `give` meets its contract: room is made, and the ledger stays; then the credential is appended.
 use native.Mathlib.Omega.{arith}
-use Rattle.store.proofs.Live.{still-givable}
+use Rattle.store.proofs.Given.{still-givable}
 use Rattle.store.proofs.give.Statement.{statement}
 use Rattle.store.proofs.give.Tie as tie
 

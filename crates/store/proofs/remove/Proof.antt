@@ -1,7 +1,7 @@
 -- `remove` meets its contract. The stores are the mark and the count.
 use borrow.Author.Needs.{needs}
 use native.Mathlib.Omega.{arith}
-use Rattle.store.proofs.Live.{some-live, remove-done}
+use Rattle.store.proofs.Removed.{some-live, remove-done}
 use Rattle.store.proofs.remove.Statement.{statement}
 use Rattle.store.proofs.remove.Tie as tie
 
