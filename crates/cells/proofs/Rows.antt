@@ -246,6 +246,10 @@ module _ (m : List ℕ) (i : ℕ) where
   unfolding credentialAt putGap cell
   gap-serial k = getD-set-other m (1404 + i * 5 + 1) (1404 + k * 5 + 0) 2 0 (omega arith)
 
+  pub gap-of : (k : ℕ) → credentialAt (putGap m i) k .formula ≡ credentialAt m k .formula
+  unfolding credentialAt putGap cell
+  gap-of k = getD-set-other m (1404 + i * 5 + 1) (1404 + k * 5 + 2) 2 0 (omega arith)
+
   pub gap-before : (k : ℕ) → k < 1404 → getD (putGap m i) k 0 ≡ getD m k 0
   unfolding putGap
   gap-before k h = getD-set-other m (1404 + i * 5 + 1) k 2 0 (omega arith)

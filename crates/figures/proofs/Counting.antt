@@ -1,49 +1,58 @@
--- The columns of seats and places, row by row.
-use mathlib.Core.Path.{_≡_, refl, sym, ap₂, subst, fun-ext, _∙_}
+-- The column of seats and places, row by row.
+use mathlib.Core.Path.{_≡_, refl, sym, ap, ap₂, subst, fun-ext, _∙_}
 use mathlib.Core.List.{List}
-use Prim.Native.Nat.{ℕ, _+_, _≤_, _<_}
+use Prim.Native.Nat.{ℕ, _+_, _*_, _≤_, _<_}
+use native.Mathlib.Omega.{arith}
 use lib.ListN.{length, set}
-use Rattle.logic.specs.Formula.{count, seat, place}
+use Rattle.logic.specs.Formula.{count}
+use Rattle.logic.specs.Multiset.{Every}
+use Rattle.logic.proofs.Multisets.{every-map}
+use Rattle.ledger.specs.Table.{names}
+use Rattle.ledger.specs.Checks.{maxSize, maxFormulas}
 use Rattle.ledger.proofs.Tables.{lineAt}
 use Rattle.cells.specs.Layout.{rowAt}
 use Rattle.store.specs.Store.{ledgerOf, Good}
 use Rattle.store.proofs.Views.{row-is}
-use Rattle.figures.specs.Rows.{countRow}
-use Rattle.figures.specs.Column.{entry, early, Column, Small}
-use Rattle.figures.specs.Figures.{Blank, Counted}
-use Rattle.figures.proofs.Rows.{count-row}
-use Rattle.figures.proofs.Limits.{count-le}
-use Rattle.figures.proofs.Columns.{column-start, column-next, column-small}
+use Rattle.figures.specs.Rows.{partsOf, both, bothRow}
+use Rattle.figures.specs.Column.{entry, early}
+use Rattle.figures.specs.Figures.{Blank, Counted, Countable}
+use Rattle.figures.proofs.Rows.{parts-row, both-row}
+use Rattle.figures.proofs.Limits.{both-le}
+use Rattle.figures.proofs.Columns.{column-start, column-next, early-small}
 
-module _ (l : List ℕ) where
-  start : (q s : ℕ) (xs : List ℕ) → Blank xs → Column (ledgerOf l) (count q s) 0 0 xs
-  unfolding count
-  start q s xs e = subst (Column (ledgerOf l) (count q s) 0 0) (sym e) (column-start (ledgerOf l) (count q s) 0 refl)
-
-  pub counted-start : (s : ℕ) (xs ys : List ℕ) → Blank xs → Blank ys → Counted l s 0 xs ys
-  counted-start s xs ys e f = record { seats = start seat s xs e; places = start place s ys f }
+module _ (l : List ℕ) (s : ℕ) where
+  pub counted-start : (xs : List ℕ) → Blank xs → Counted l s 0 xs
+  unfolding both count
+  counted-start xs e = subst (Counted l s 0) (sym e) (column-start (ledgerOf l) (both s) 0 refl)
 
   module _ (g : Good l) where
-    pub count-small : (q s i : ℕ) (xs : List ℕ) → i ≤ length (ledgerOf l .lines)
-        → Column (ledgerOf l) (count q s) 0 i xs → Small xs
-    count-small q s i xs h c = column-small (ledgerOf l) (count q s) (count-le q s) (g .bounded .sizes) i xs h c
+    pub counted-small : (i : ℕ) (xs : List ℕ) → i ≤ length (ledgerOf l .lines) → Counted l s i xs
+        → (k : ℕ) → entry xs k ≤ 131073 * maxSize
+    counted-small i xs h c k =
+        omega (
+          arith,
+          c .holds k,
+          both-le s (early (ledgerOf l) i k),
+          early-small (ledgerOf l) (g .bounded .sizes) i k h,
+        )
 
-    next : (q s i : ℕ) (xs : List ℕ) (v : ℕ) → i < length (ledgerOf l .lines)
-        → Column (ledgerOf l) (count q s) 0 i xs → v ≡ countRow q s (entry xs) (rowAt l i)
-        → Column (ledgerOf l) (count q s) 0 (i + 1) (set xs i v)
-    next q s i xs v h c e =
-        column-next (ledgerOf l) (count q s) 0 i xs v (g .bounded .lines) h c
-        (e ∙ ap₂ (countRow q s) (fun-ext (c .holds)) (sym (row-is l g i))
-        ∙ sym (count-row (early (ledgerOf l) i) q s (lineAt (ledgerOf l) i)))
+    module _ (i : ℕ) (xs : List ℕ) (h : i < length (ledgerOf l .lines)) (c : Counted l s i xs) where
+      -- a row's parts are formulas of the ledger
+      pub countable : Countable xs (rowAt l i)
+      countable = record {
+        long = c .long;
+        small = counted-small i xs (omega arith) c;
+        there = subst (Every (λ k. k < maxFormulas)) (sym (parts-row (lineAt (ledgerOf l) i)) ∙ ap partsOf (row-is l g i))
+            (every-map {P = λ k. k < length (ledgerOf l .lines)} {Q = λ k. k < maxFormulas}
+            (λ k q. omega (arith, g .bounded .lines)) (names (lineAt (ledgerOf l) i)) (g .bounded .tabled .refs i));
+      }
 
-    pub counted-next : (s i : ℕ) (xs ys : List ℕ) (v w : ℕ) → i < length (ledgerOf l .lines) → Counted l s i xs ys
-        → v ≡ countRow seat s (entry xs) (rowAt l i) → w ≡ countRow place s (entry ys) (rowAt l i)
-        → Counted l s (i + 1) (set xs i v) (set ys i w)
-    counted-next s i xs ys v w h c e f = record {
-      seats = next seat s i xs v h (c .seats) e;
-      places = next place s i ys w h (c .places) f;
-    }
+      pub counted-next : (v : ℕ) → v ≡ bothRow s (entry xs) (rowAt l i) → Counted l s (i + 1) (set xs i v)
+      counted-next v e =
+          column-next (ledgerOf l) (both s) 0 i xs v (g .bounded .lines) h c
+          (e ∙ ap₂ (bothRow s) (fun-ext (c .holds)) (sym (row-is l g i))
+          ∙ sym (both-row (early (ledgerOf l) i) s (lineAt (ledgerOf l) i)))
 
   -- every formula is counted
-  pub counted-all : (s i j : ℕ) (xs ys : List ℕ) → i ≡ j → Counted l s i xs ys → Counted l s j xs ys
-  counted-all s i j xs ys e c = subst (λ (k : ℕ). Counted l s k xs ys) e c
+  pub counted-all : (i j : ℕ) (xs : List ℕ) → i ≡ j → Counted l s i xs → Counted l s j xs
+  counted-all i j xs e c = subst (λ (k : ℕ). Counted l s k xs) e c

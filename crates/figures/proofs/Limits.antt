@@ -1,17 +1,12 @@
--- No count and no weight is over the size, and a sum over parts is small.
+-- No count and no weight is over the size.
 use mathlib.Core.Bool.{Bool, true, false, _&&_, _||_}
-use mathlib.Core.List.{List}
-use Prim.Native.Nat.{ℕ, _+_, _≤_}
+use Prim.Native.Nat.{ℕ, _+_, _*_, _≤_}
 use native.Mathlib.Omega.{arith}
 use lib.Dec.{eqb}
 use Rattle.logic.specs.Formula.{Formula, atom, one, tensor, with, plus, lolli, implies, bang, at, says, superset}
-use Rattle.logic.specs.Formula.{size, count, bit}
+use Rattle.logic.specs.Formula.{size, count, seat, place, bit}
 use Rattle.logic.specs.Counts.{up, down}
-use Rattle.logic.specs.Multiset.{sum}
-use Rattle.figures.specs.declared.parts.Parts.{Parts}
-use Rattle.figures.specs.declared.parts.Parts.the-variants.{Nothing, One, Two}
-use Rattle.figures.specs.Parts.{numbers}
-use Rattle.figures.specs.Column.{entry, Small}
+use Rattle.figures.specs.Rows.{both}
 
 pub bit-le : (b : Bool) → bit b ≤ 1
 bit-le true = omega arith
@@ -45,8 +40,6 @@ weight-le s (at a i) = omega (arith, weight-le s a)
 weight-le s (says k a) = omega (arith, weight-le s a)
 weight-le s (superset i j) = omega arith
 
-pub parts-small : (xs : List ℕ) → Small xs → (p : Parts) → sum (entry xs) (numbers p) ≤ 128
-unfolding sum
-parts-small xs h Nothing = omega arith
-parts-small xs h (One i) = omega (arith, h .small i)
-parts-small xs h (Two i j) = omega (arith, h .small i, h .small j)
+pub both-le : (s : ℕ) (a : Formula) → both s a ≤ 131073 * size a
+unfolding both
+both-le s a = omega (arith, count-le seat s a, count-le place s a)

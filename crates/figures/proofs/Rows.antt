@@ -1,14 +1,18 @@
 -- The row functions give the values of the formula of a line, over the formulas T of the numbers that it names.
 use mathlib.Core.Path.{_≡_, refl, sym}
 use mathlib.Core.Bool.{Bool, true, false, _&&_}
-use Prim.Native.Nat.{ℕ}
+use Prim.Native.Nat.{ℕ, _+_, _*_}
 use native.Mathlib.Omega.{arith}
-use Rattle.logic.specs.Formula.{Formula, size, count, plain}
+use lib.Dec.{eqb}
+use borrow.Author.Tests.{eqb-true}
+use Rattle.logic.specs.Choice.{pick}
+use Rattle.logic.specs.Formula.{Formula, size, count, plain, seat, place, bit}
 use Rattle.logic.specs.Counts.{up, down, even, all}
 use Rattle.logic.specs.Multiset.{sum}
 use Rattle.request.specs.Request.{Line}
 use Rattle.ledger.specs.Table.{form, names, rowOf}
-use Rattle.figures.specs.Rows.{partsOf, sizeRow, plainRow, countRow, sideRow, upRow, downRow, levelRow, evenRow}
+use Rattle.figures.specs.Rows.{partsOf, sizeRow, plainRow, both, atomBoth, bothRow, sideRow, upRow, downRow}
+use Rattle.figures.specs.Rows.{levelRow, evenRow}
 
 pub and-true : (x : Bool) → (x && true) ≡ x
 and-true true = refl
@@ -35,6 +39,22 @@ parts-row (Line.bang i) = refl
 parts-row (Line.at i w) = refl
 parts-row (Line.says k i) = refl
 parts-row (Line.superset v w) = refl
+
+-- an atom's seats and places
+atom-both : (s p t : ℕ)
+    → bit (eqb p seat && eqb t s) + 131072 * bit (eqb p place && eqb t s) ≡ atomBoth s p t
+atom-both s p t = go (eqb t s) (eqb p seat) (eqb p place) refl refl
+  where
+    go : (a b c : Bool) → eqb p seat ≡ b → eqb p place ≡ c
+        → bit (b && a) + 131072 * bit (c && a) ≡ pick a (pick b 1 (pick c 131072 0)) 0
+    go true true true e f = absurd (omega (arith, eqb-true p seat e, eqb-true p place f))
+    go true true false e f = omega arith
+    go true false true e f = omega arith
+    go true false false e f = omega arith
+    go false true true e f = omega arith
+    go false true false e f = omega arith
+    go false false true e f = omega arith
+    go false false false e f = omega arith
 
 module _ (T : ℕ → Formula) where
   pub size-row : (l : Line) → size (form T l) ≡ sizeRow (λ k. size (T k)) (rowOf l)
@@ -65,19 +85,19 @@ module _ (T : ℕ → Formula) where
   plain-row (Line.says k i) = sym (and-true _)
   plain-row (Line.superset v w) = refl
 
-  pub count-row : (q s : ℕ) (l : Line) → count q s (form T l) ≡ countRow q s (λ k. count q s (T k)) (rowOf l)
-  unfolding count countRow partsOf sum
-  count-row q s (Line.atom p t) = omega arith
-  count-row q s Line.one = refl
-  count-row q s (Line.tensor i j) = omega arith
-  count-row q s (Line.with i j) = omega arith
-  count-row q s (Line.plus i j) = omega arith
-  count-row q s (Line.lolli i j) = omega arith
-  count-row q s (Line.implies i j) = omega arith
-  count-row q s (Line.bang i) = omega arith
-  count-row q s (Line.at i w) = omega arith
-  count-row q s (Line.says k i) = omega arith
-  count-row q s (Line.superset v w) = refl
+  pub both-row : (s : ℕ) (l : Line) → both s (form T l) ≡ bothRow s (λ k. both s (T k)) (rowOf l)
+  unfolding both bothRow count partsOf sum
+  both-row s (Line.atom p t) = atom-both s p t
+  both-row s Line.one = refl
+  both-row s (Line.tensor i j) = omega arith
+  both-row s (Line.with i j) = omega arith
+  both-row s (Line.plus i j) = omega arith
+  both-row s (Line.lolli i j) = omega arith
+  both-row s (Line.implies i j) = omega arith
+  both-row s (Line.bang i) = omega arith
+  both-row s (Line.at i w) = omega arith
+  both-row s (Line.says k i) = omega arith
+  both-row s (Line.superset v w) = refl
 
   module _ (s : ℕ) where
     pub up-row : (l : Line) → up s (form T l) ≡ upRow s (λ k. up s (T k)) (λ k. down s (T k)) (rowOf l)

@@ -1,13 +1,14 @@
--- The sums of a tally, row by row: a gap reads as unrestricted, of which a tally counts nothing.
+-- The sums of a tally, row by row: a gap reads as unrestricted, of which a tally counts nothing. Seats and places are
+-- added up in one number.
 use mathlib.Core.Path.{_≡_, refl, sym, ap, _∙_}
-use mathlib.Core.List.{List}
+use mathlib.Core.List.{List, [], _∷_}
 use mathlib.Core.Bool.{Bool, true, false, not}
-use Prim.Native.Nat.{ℕ, _+_, _-_, _*_, _≤_}
+use Prim.Native.Nat.{ℕ, _+_, _*_, _/_, _%_, _≤_}
 use native.Mathlib.Omega.{arith}
 use native.Mathlib.Numerals.{add-one}
 use lib.ListN.{length}
 use Rattle.logic.specs.Interval.{has}
-use Rattle.logic.specs.Formula.{count, seat, place}
+use Rattle.logic.specs.Formula.{size, count, seat}
 use Rattle.logic.specs.Multiset.{sum}
 use Rattle.logic.proofs.Multisets.{snoc-sum}
 use Rattle.request.specs.declared.Kind.{Kind}
@@ -16,98 +17,157 @@ use Rattle.ledger.specs.declared.Credential.{Credential}
 use Rattle.ledger.specs.Ledger.{Ledger, formula, byKind}
 use Rattle.ledger.specs.Checks.{maxSize}
 use Rattle.ledger.specs.Calls.{only, seatsOf, placesOf, openSeats, shutSeats, placed}
-use Rattle.store.specs.Tab.{tab}
 use Rattle.cells.specs.Layout.{rowCount, credentialAt}
+use Rattle.store.specs.Tab.{tab}
 use Rattle.store.specs.Store.{ledgerOf, Good}
-use Rattle.store.proofs.Tabs.{tab-snoc}
+use Rattle.store.proofs.Tabs.{length-tab, tab-snoc}
 use Rattle.store.proofs.Live.{live-sum}
-use Rattle.figures.specs.Column.{entry, Column}
-use Rattle.figures.specs.Figures.{Counted, Tallied}
+use Rattle.figures.specs.Rows.{both}
+use Rattle.figures.specs.Column.{entry}
+use Rattle.figures.specs.Figures.{Counted}
 use Rattle.figures.proofs.Columns.{early-all}
-use Rattle.figures.proofs.Counting.{count-small}
+use Rattle.figures.proofs.Limits.{count-le}
+use Rattle.figures.proofs.Counting.{counted-small}
 
--- what a credential adds
+-- Sums
+
+module _ {A : Type 0} where
+  sum-next : (f : A → ℕ) (cs : ℕ → A) (i o v : ℕ) → o ≡ sum f (tab i cs) → v ≡ f (cs i)
+      → o + v ≡ sum f (tab (i + 1) cs)
+  sum-next f cs i o v e h = rw (add-one i, tab-snoc i cs, snoc-sum f (tab i cs) (cs i)) (omega arith)
+
+  sum-plus : (h f g : A → ℕ) → ((a : A) → h a ≡ f a + g a) → (cs : List A) → sum h cs ≡ sum f cs + sum g cs
+  unfolding sum
+  sum-plus h f g e [] = refl
+  sum-plus h f g e (c ∷ cs) = omega (arith, e c, sum-plus h f g e cs)
+
+  -- two sums in one number
+  sum-both : (h f g : A → ℕ) → ((a : A) → h a ≡ f a + 131072 * g a) → (cs : List A)
+      → sum h cs ≡ sum f cs + 131072 * sum g cs
+  unfolding sum
+  sum-both h f g e [] = refl
+  sum-both h f g e (c ∷ cs) = omega (arith, e c, sum-both h f g e cs)
+
+  sum-le : (f : A → ℕ) (n : ℕ) → ((a : A) → f a ≤ 64) → (cs : List A) → length cs ≡ n → sum f cs ≤ 64 * n
+  unfolding sum
+  sum-le f n b [] e = omega arith
+  sum-le f n b (c ∷ cs) e = omega (arith, b c, sum-le f (length cs) b cs refl, e)
+
+-- What a credential adds
+
+abbrev bothOf : Ledger → ℕ → Credential → ℕ
+bothOf t s c = byKind (c .kind) (both s (formula t (c .formula))) 0
+
+abbrev insideOf : Ledger → ℕ → ℕ → Credential → ℕ
+insideOf t s m c = only (has (c .interval) m) (bothOf t s c)
+
 abbrev opened : Ledger → ℕ → ℕ → Credential → ℕ
 opened t s m c = only (has (c .interval) m) (seatsOf t s c)
 
 abbrev closed : Ledger → ℕ → ℕ → Credential → ℕ
 closed t s m c = only (not (has (c .interval) m)) (seatsOf t s c)
 
--- o, h and p are the sums over the first i rows
-pub record Tallying (l : List ℕ) (s m i o h p : ℕ) : Type 0 where
-  pub opens : o ≡ sum (opened (ledgerOf l) s m) (tab i (credentialAt l))
-  pub shuts : h ≡ sum (closed (ledgerOf l) s m) (tab i (credentialAt l))
-  pub places : p ≡ sum (placesOf (ledgerOf l) s) (tab i (credentialAt l))
-  pub small : (o ≤ 64 * i) × (h ≤ 64 * i) × (p ≤ 64 * i)
+abbrev placedInside : Ledger → ℕ → ℕ → Credential → ℕ
+placedInside t s m c = only (has (c .interval) m) (placesOf t s c)
 
 pub only-le : (b : Bool) (n : ℕ) → only b n ≤ n
 only-le true n = omega arith
 only-le false n = omega arith
 
-only-not : (b : Bool) (n : ℕ) → n - only b n ≡ only (not b) n
-only-not true n = omega arith
-only-not false n = omega arith
-
 only-zero : (b : Bool) → only b 0 ≡ 0
 only-zero true = refl
 only-zero false = refl
 
-sum-next : {A : Type 0} (f : A → ℕ) (cs : ℕ → A) (i o v : ℕ) → o ≡ sum f (tab i cs) → v ≡ f (cs i)
-    → o + v ≡ sum f (tab (i + 1) cs)
-sum-next f cs i o v e h = rw (add-one i, tab-snoc i cs, snoc-sum f (tab i cs) (cs i)) (omega arith)
+only-both : (b : Bool) (x y z : ℕ) → x ≡ y + 131072 * z → only b x ≡ only b y + 131072 * only b z
+only-both true x y z e = e
+only-both false x y z e = omega arith
 
--- the entry of a credential's formula in a column of counts
-module _ (l : List ℕ) (g : Good l) (q s : ℕ) (xs : List ℕ)
-    (c : Column (ledgerOf l) (count q s) 0 (length (ledgerOf l .lines)) xs) (k : Kind) (n a v : ℕ) (e : a ≡ entry xs n)
-    (h : v ≡ byKind k a 0) where
-  pub entry-small : v ≤ maxSize
-  entry-small = go k h
+only-parts : (b : Bool) (n : ℕ) → n ≡ only b n + only (not b) n
+only-parts true n = omega arith
+only-parts false n = omega arith
+
+module _ (t : Ledger) (s : ℕ) where
+  both-of : (c : Credential) → bothOf t s c ≡ seatsOf t s c + 131072 * placesOf t s c
+  unfolding both
+  both-of c = go (c .kind)
     where
-      go : (k : Kind) → v ≡ byKind k a 0 → v ≤ maxSize
-      go Linear h = omega (arith, count-small l g q s (length (ledgerOf l .lines)) xs (omega arith) c .small n)
-      go Unrestricted h = omega arith
+      go : (k : Kind) → byKind k (both s (formula t (c .formula))) 0
+          ≡ byKind k (count seat s (formula t (c .formula))) 0 + 131072 * byKind k (count 2 s (formula t (c .formula))) 0
+      go Linear = refl
+      go Unrestricted = refl
 
-  entry-is : v ≡ byKind k (count q s (formula (ledgerOf l) n)) 0
-  entry-is = h ∙ ap (λ (x : ℕ). byKind k x 0) (e ∙ c .holds n ∙ ap (count q s) (early-all (ledgerOf l) n))
+  seats-le : ((n : ℕ) → size (formula t n) ≤ maxSize) → (c : Credential) → seatsOf t s c ≤ 64
+  seats-le h c = go (c .kind)
+    where
+      go : (k : Kind) → byKind k (count seat s (formula t (c .formula))) 0 ≤ 64
+      go Linear = omega (arith, count-le seat s (formula t (c .formula)), h (c .formula))
+      go Unrestricted = omega arith
+
+-- a and b are the sums over the first i rows: of all, and of those whose interval has the minute
+pub record Tallying (l : List ℕ) (s m i a b : ℕ) : Type 0 where
+  pub alls : a ≡ sum (bothOf (ledgerOf l) s) (tab i (credentialAt l))
+  pub insides : b ≡ sum (insideOf (ledgerOf l) s m) (tab i (credentialAt l))
+  pub small : (a ≤ 8388672 * i) × (b ≤ 8388672 * i)
+
+-- the figures in them, once all rows are passed
+pub record Summed (l : List ℕ) (s m a b : ℕ) : Type 0 where
+  pub opens : b % 131072 ≡ openSeats (ledgerOf l) s m
+  pub seats : a % 131072 ≡ openSeats (ledgerOf l) s m + shutSeats (ledgerOf l) s m
+  pub places : a / 131072 ≡ placed (ledgerOf l) s
+  pub few : openSeats (ledgerOf l) s m + shutSeats (ledgerOf l) s m ≤ 65536
 
 module _ (l : List ℕ) (s m : ℕ) where
-  pub tally-start : Tallying l s m 0 0 0 0
+  pub tally-start : Tallying l s m 0 0 0
   unfolding tab sum
-  tally-start = record { opens = refl; shuts = refl; places = refl; small = (omega arith, omega arith, omega arith) }
+  tally-start = record { alls = refl; insides = refl; small = (omega arith, omega arith) }
 
-  pub tally-end : (i o h p : ℕ) → i ≡ rowCount l → Tallying l s m i o h p
-      → Tallied l s m (record { «open» = o; shut = h; placed = p })
-  unfolding openSeats shutSeats placed
-  tally-end i o h p e t =
-      let n : (f : Credential → ℕ) → ((c : Credential) → c .kind ≡ Unrestricted → f c ≡ 0)
-      → sum f (tab i (credentialAt l)) ≡ sum f (ledgerOf l .live) =
-      λ f z. ap (λ (k : ℕ). sum f (tab k (credentialAt l))) e ∙ sym (live-sum f z l) in
-      record {
-        «open» = t .opens ∙ n (opened (ledgerOf l) s m) (λ c q. rw q (only-zero (has (c .interval) m)));
-        shut = t .shuts ∙ n (closed (ledgerOf l) s m) (λ c q. rw q (only-zero (not (has (c .interval) m))));
-        placed = t .places ∙ n (placesOf (ledgerOf l) s) (λ c q. rw q);
-      }
+  module _ (g : Good l) where
+    module _ (xs : List ℕ) (k : Counted l s (length (ledgerOf l .lines)) xs) where
+      pub entry-small : (kind : Kind) (n e v : ℕ) → e ≡ entry xs n → v ≡ byKind kind e 0 → v ≤ 8388672
+      entry-small Linear n e v x y = omega (arith, counted-small l s g (length (ledgerOf l .lines)) xs (omega arith) k n)
+      entry-small Unrestricted n e v x y = omega arith
 
-  module _ (g : Good l) (xs ys : List ℕ) (k : Counted l s (length (ledgerOf l .lines)) xs ys) where
-    pub tally-next : {c : Credential} {i o h p a b v w y : ℕ} → c ≡ credentialAt l i
-        → a ≡ entry xs (c .formula) → v ≡ byKind (c .kind) a 0
-        → w ≡ only (has (c .interval) m) v
-        → b ≡ entry ys (c .formula) → y ≡ byKind (c .kind) b 0
-        → Tallying l s m i o h p → Tallying l s m (i + 1) (o + w) (h + (v - w)) (p + y)
-    tally-next {c} {i} {o} {h} {p} {a} {b} {v} {w} {y} ec ea ev ew eb ey t =
-        let ss = entry-is l g seat s xs (k .seats) (c .kind) (c .formula) a v ea ev in
-        let ps = entry-is l g place s ys (k .places) (c .kind) (c .formula) b y eb ey in
-        let sm = entry-small l g seat s xs (k .seats) (c .kind) (c .formula) a v ea ev in
-        let pm = entry-small l g place s ys (k .places) (c .kind) (c .formula) b y eb ey in
-        let le = only-le (has (c .interval) m) v in
-        let d = t .small in
-        record {
-          opens = sum-next (opened (ledgerOf l) s m) (credentialAt l) i o w (t .opens)
-              (ew ∙ ap (only (has (c .interval) m)) ss ∙ ap (opened (ledgerOf l) s m) ec);
-          shuts = sum-next (closed (ledgerOf l) s m) (credentialAt l) i h (v - w) (t .shuts)
-              (ap (λ (x : ℕ). v - x) ew ∙ only-not (has (c .interval) m) v ∙ ap (only (not (has (c .interval) m))) ss
-              ∙ ap (closed (ledgerOf l) s m) ec);
-          places = sum-next (placesOf (ledgerOf l) s) (credentialAt l) i p y (t .places)
-              (ps ∙ ap (placesOf (ledgerOf l) s) ec);
-          small = (omega arith, omega arith, omega arith);
-        }
+      pub tally-next : {c : Credential} {i a b e v w : ℕ} → c ≡ credentialAt l i → e ≡ entry xs (c .formula)
+          → v ≡ byKind (c .kind) e 0 → w ≡ only (has (c .interval) m) v
+          → Tallying l s m i a b → Tallying l s m (i + 1) (a + v) (b + w)
+      tally-next {c} {i} {a} {b} {e} {v} {w} ec ee ev ew t =
+          let vs : v ≡ bothOf (ledgerOf l) s c =
+          ev ∙ ap (λ (x : ℕ). byKind (c .kind) x 0) (ee ∙ k .holds (c .formula)
+          ∙ ap (both s) (early-all (ledgerOf l) (c .formula))) in
+          let small = entry-small (c .kind) (c .formula) e v ee ev in
+          let le = only-le (has (c .interval) m) v in
+          let d = t .small in
+          record {
+            alls = sum-next (bothOf (ledgerOf l) s) (credentialAt l) i a v (t .alls)
+                (vs ∙ ap (bothOf (ledgerOf l) s) ec);
+            insides = sum-next (insideOf (ledgerOf l) s m) (credentialAt l) i b w (t .insides)
+                (ew ∙ ap (only (has (c .interval) m)) vs ∙ ap (insideOf (ledgerOf l) s m) ec);
+            small = (omega arith, omega arith);
+          }
+
+    -- a tally over all rows is one over the live credentials
+    rows : (f : Credential → ℕ) → ((c : Credential) → c .kind ≡ Unrestricted → f c ≡ 0)
+        → sum f (tab (rowCount l) (credentialAt l)) ≡ sum f (ledgerOf l .live)
+    rows f z = sym (live-sum f z l)
+
+    pub summed : {i a b : ℕ} → i ≡ rowCount l → Tallying l s m i a b → Summed l s m a b
+    unfolding openSeats shutSeats placed
+    summed {i} {a} {b} e t =
+        let u = ledgerOf l in
+        let cs = tab (rowCount l) (credentialAt l) in
+        let x : a ≡ sum (bothOf u s) cs = t .alls ∙ ap (λ (n : ℕ). sum (bothOf u s) (tab n (credentialAt l))) e in
+        let y : b ≡ sum (insideOf u s m) cs =
+        t .insides ∙ ap (λ (n : ℕ). sum (insideOf u s m) (tab n (credentialAt l))) e in
+        let p = sum-both (bothOf u s) (seatsOf u s) (placesOf u s) (both-of u s) cs in
+        let q =
+        sum-both (insideOf u s m) (opened u s m) (placedInside u s m)
+        (λ c. only-both (has (c .interval) m) _ _ _ (both-of u s c)) cs in
+        let r =
+        sum-plus (seatsOf u s) (opened u s m) (closed u s m) (λ c. only-parts (has (c .interval) m) (seatsOf u s c)) cs in
+        let small = sum-le (seatsOf u s) (rowCount l) (seats-le u s (g .bounded .sizes)) cs
+        (length-tab (rowCount l) (credentialAt l)) in
+        let few = g .ordered .few in
+        let o = rows (opened u s m) (λ c h. rw h (only-zero (has (c .interval) m))) in
+        let h = rows (closed u s m) (λ c h. rw h (only-zero (not (has (c .interval) m)))) in
+        let w = rows (placesOf u s) (λ c h. rw h) in
+        record { opens = omega arith; seats = omega arith; places = omega arith; few = omega arith }

@@ -1,17 +1,18 @@
 -- What the functions ask and answer.
 use mathlib.Core.Path.{_≡_}
 use mathlib.Core.List.{List}
-use Prim.Native.Nat.{ℕ}
-use lib.ListN.{replicate}
-use Rattle.logic.specs.Formula.{count, seat, place}
+use Prim.Native.Nat.{ℕ, _*_, _≤_, _<_}
+use lib.ListN.{length, replicate}
+use Rattle.logic.specs.Multiset.{Every}
 use Rattle.steps.specs.declared.Row.{Row}
 use Rattle.ledger.specs.Table.{names}
-use Rattle.ledger.specs.Checks.{maxFormulas}
+use Rattle.ledger.specs.Checks.{maxSize, maxFormulas}
 use Rattle.ledger.specs.Calls.{openSeats, shutSeats, placed}
 use Rattle.ledger.proofs.Tables.{There}
 use Rattle.store.specs.Store.{lineOf, ledgerOf, Canonical, Good}
 use Rattle.figures.specs.declared.Figures.{Figures}
-use Rattle.figures.specs.Column.{Column}
+use Rattle.figures.specs.Column.{entry, Column}
+use Rattle.figures.specs.Rows.{partsOf, both}
 
 -- the row of a line whose numbers the store has, so that it stands for a formula
 pub record Formable (l : List ℕ) (r : Row) : Type 0 where
@@ -24,9 +25,17 @@ abbrev pub Blank : List ℕ → Type 0
 Blank xs = xs ≡ replicate maxFormulas 0
 
 -- the seats and the places of session s in the first i formulas
-pub record Counted (l : List ℕ) (s i : ℕ) (xs ys : List ℕ) : Type 0 where
-  pub seats : Column (ledgerOf l) (count seat s) 0 i xs
-  pub places : Column (ledgerOf l) (count place s) 0 i ys
+abbrev pub Counted : List ℕ → ℕ → ℕ → List ℕ → Type 0
+Counted l s i xs = Column (ledgerOf l) (both s) 0 i xs
+
+-- a column of these has an entry for each of the numbers, and none above what a formula can have
+pub record Addable (xs ns : List ℕ) : Type 0 where
+  pub long : length xs ≡ maxFormulas
+  pub small : (k : ℕ) → entry xs k ≤ 131073 * maxSize
+  pub there : Every (λ k. k < maxFormulas) ns
+
+abbrev pub Countable : List ℕ → Row → Type 0
+Countable xs r = Addable xs (partsOf r)
 
 pub record Tallied (l : List ℕ) (s m : ℕ) (r : Figures) : Type 0 where
   pub «open» : r .«open» ≡ openSeats (ledgerOf l) s m

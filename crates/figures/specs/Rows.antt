@@ -1,10 +1,10 @@
 -- A formula's values by its row, from the values of its parts: by the row's letter, as the code goes.
 use mathlib.Core.List.{List, [], _∷_}
 use mathlib.Core.Bool.{Bool, true, false, _&&_, _||_}
-use Prim.Native.Nat.{ℕ, _+_}
+use Prim.Native.Nat.{ℕ, _+_, _*_}
 use Prim.Native.Char.{code}
 use lib.Dec.{eqb}
-use Rattle.logic.specs.Formula.{Formula, bit}
+use Rattle.logic.specs.Formula.{Formula, count, seat, place}
 use Rattle.logic.specs.Weight.{counted}
 use Rattle.logic.specs.Counts.{level, even, all}
 use Rattle.logic.specs.Multiset.{sum}
@@ -41,12 +41,15 @@ sizeRow f r = 1 + sum f (partsOf r)
 unfoldable pub plainRow : (ℕ → Bool) → Row → Bool
 plainRow f r = among (r .letter) plains && all f (partsOf r)
 
--- the row is the atom of predicate q and session s
-abbrev pub isAtom : ℕ → ℕ → Row → Bool
-isAtom q s r = eqb (r .letter) (code "a") && (eqb (r .a) q && eqb (r .b) s)
+-- seats and places of session s, counted in one number: places in steps of 131,072
+unfoldable pub both : ℕ → Formula → ℕ
+both s a = count seat s a + 131072 * count place s a
 
-unfoldable pub countRow : ℕ → ℕ → (ℕ → ℕ) → Row → ℕ
-countRow q s f r = bit (isAtom q s r) + sum f (partsOf r)
+abbrev pub atomBoth : ℕ → ℕ → ℕ → ℕ
+atomBoth s p t = pick (eqb t s) (pick (eqb p seat) 1 (pick (eqb p place) 131072 0)) 0
+
+unfoldable pub bothRow : ℕ → (ℕ → ℕ) → Row → ℕ
+bothRow s f r = pick (eqb (r .letter) (code "a")) (atomBoth s (r .a) (r .b)) (sum f (partsOf r))
 
 -- what is added (up) and what is taken away (down): an atom weighs w, own and other give the parts' values on the same
 -- side and on the other

@@ -3,13 +3,14 @@ use crate::parts;
 use crate::parts::Parts;
 use steps::Row;
 ghost use mathlib.Core.Path.{_≡_};
+ghost use Prim.Native.Nat.{_<_};
 ghost use lib.ListN.{length, getD};
-ghost use Rattle.logic.specs.Formula.{bit};
 ghost use Rattle.logic.specs.Multiset.{sum};
 ghost use Rattle.ledger.specs.Checks.{maxFormulas};
-ghost use Rattle.figures.specs.Column.{entry, Small};
+ghost use Rattle.figures.specs.Column.{entry};
 ghost use Rattle.figures.specs.Parts.{numbers};
-ghost use Rattle.figures.specs.Rows.{isAtom, countRow};
+ghost use Rattle.figures.specs.Rows.{atomBoth, bothRow};
+ghost use Rattle.figures.specs.Figures.{Addable, Countable};
 
 pub type Column = [u32; 200];
 
@@ -21,36 +22,48 @@ pub fn at(column: &Column, n: u32) -> u32
     if n < 200 { column[n as usize] } else { 0 }
 }
 
+// The entry of a formula that the ledger has.
+pub fn known(column: &Column, n: u32) -> u32
+    requires { ⌜ (length (now column) ≡ maxFormulas) × (n < maxFormulas) ⌝ }
+    ensures { λ r. ⌜ r ≡ entry (now (column .entry)) n ⌝ }
+{
+    column[n as usize]
+}
+
 // The sum over a formula's parts.
-pub fn added(parts: Parts, column: &Column) -> u32
-    requires { ⌜ Small (now column) ⌝ }
+fn added(parts: Parts, column: &Column) -> u32
+    requires { ⌜ Addable (now column) (numbers parts) ⌝ }
     ensures { λ r. ⌜ r ≡ sum (entry (now (column .entry))) (numbers parts) ⌝ }
 {
     match parts {
         Parts::Nothing => 0,
-        Parts::One(i) => at(column, i),
-        Parts::Two(i, j) => at(column, i) + at(column, j),
+        Parts::One(i) => known(column, i),
+        Parts::Two(i, j) => known(column, i) + known(column, j),
     }
 }
 
-// 1 for the row of the predicate's and session's atom, else 0.
-fn atoms(row: Row, predicate: u32, session: u32) -> u32
-    ensures { λ r. ⌜ r ≡ bit (isAtom predicate session row) ⌝ }
+// 1 for the session's seat, 131,072 for its place, else 0.
+fn atom(predicate: u32, of: u32, session: u32) -> u32
+    ensures { λ r. ⌜ r ≡ atomBoth session predicate of ⌝ }
 {
-    if row.letter == parts::ATOM {
-        if row.a == predicate {
-            if row.b == session {
-                return 1;
-            }
+    if of == session {
+        if predicate == parts::SEAT {
+            return 1;
+        }
+        if predicate == parts::PLACE {
+            return 131072;
         }
     }
     0
 }
 
-// The atoms of a predicate and a session in the row's formula; the column has those of the formulas before it.
-pub fn count_row(row: Row, predicate: u32, session: u32, column: &Column) -> u32
-    requires { ⌜ Small (now column) ⌝ }
-    ensures { λ r. ⌜ r ≡ countRow predicate session (entry (now (column .entry))) row ⌝ }
+// The seats and the places of a session in the row's formula; the column has those of the formulas before it.
+pub fn count_row(row: Row, session: u32, column: &Column) -> u32
+    requires { ⌜ Countable (now column) row ⌝ }
+    ensures { λ r. ⌜ r ≡ bothRow session (entry (now (column .entry))) row ⌝ }
 {
-    atoms(row, predicate, session) + added(parts::parts_of(row), column)
+    if row.letter == parts::ATOM {
+        return atom(row.a, row.b, session);
+    }
+    added(parts::parts_of(row), column)
 }

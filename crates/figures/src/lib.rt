@@ -103,19 +103,17 @@ pub fn balanced(store: &Store, n: u32) -> bool
 }
 
 // The seats and the places of a session in every formula, row by row.
-fn count_rows(store: &Store, session: u32, seats: &mut Column, places: &mut Column)
-    requires { ⌜ Good (now store) × (Blank (now seats) × Blank (now places)) ⌝ }
+fn count_rows(store: &Store, session: u32, counts: &mut Column)
+    requires { ⌜ Good (now store) × Blank (now counts) ⌝ }
     ensures { λ _. ⌜ Counted (now (store .entry)) session (length (ledgerOf (now (store .entry)) .lines))
-        (now (seats .exit)) (now (places .exit)) ⌝ }
+        (now (counts .exit)) ⌝ }
 {
     let n = store::formula_count(store);
     let mut i = 0;
     while i < n {
-        let row = store::row_at(store, i);
-        let s = column::count_row(row, parts::SEAT, session, seats);
-        let p = column::count_row(row, parts::PLACE, session, places);
-        seats[i as usize] = s;
-        places[i as usize] = p;
+        let row = store::line_at(store, i);
+        let both = column::count_row(row, session, counts);
+        counts[i as usize] = both;
         i += 1;
     }
 }
@@ -142,28 +140,28 @@ fn when_has(interval: Interval, minute: u32, n: u32) -> u32
     0
 }
 
-// The tally of a session at a minute.
+// The tally of a session at a minute: seats and places are added up in one number, places in steps of 131,072, which
+// the seats of 1,024 rows never reach.
 pub fn tally(store: &Store, session: u32, minute: u32) -> Figures
     requires { ⌜ Good (now store) ⌝ }
     ensures { λ r. ⌜ Tallied (now (store .entry)) session minute r ⌝ }
 {
-    let mut seats = [0u32; 200];
-    let mut places = [0u32; 200];
-    count_rows(store, session, &mut seats, &mut places);
+    let mut counts = [0u32; 200];
+    count_rows(store, session, &mut counts);
     let n = store::row_count(store);
-    let mut open = 0;
-    let mut shut = 0;
-    let mut placed = 0;
+    let mut all: u64 = 0;
+    let mut inside: u64 = 0;
     let mut i = 0;
     while i < n {
         let c = store::credential_at(store, i);
         let kind = c.kind;
-        let held = when_linear(kind, column::at(&seats, c.formula));
-        let inside = when_has(c.interval, minute, held);
-        open += inside;
-        shut += held - inside;
-        placed += when_linear(kind, column::at(&places, c.formula));
+        let both = when_linear(kind, column::known(&counts, c.formula));
+        all += both as u64;
+        inside += when_has(c.interval, minute, both) as u64;
         i += 1;
     }
+    let open = (inside % 131072) as u32;
+    let shut = (all % 131072) as u32 - open;
+    let placed = (all / 131072) as u32;
     Figures { open, shut, placed }
 }

@@ -16,12 +16,11 @@ use Rattle.ledger.proofs.Tables.{formula-snoc, formula-stays}
 use Rattle.ledger.proofs.Bounds.{Bounded, line-bounded}
 use Rattle.store.specs.Tab.{tab}
 use Rattle.cells.specs.Layout.{lineCount, lineCell, rowAt, sizeAt, plainAt, lineCells, putLineCount, putLine}
-use Rattle.store.specs.Store.{lineOf, ledgerOf, Canonical, Named, StandsFor, Addable}
+use Rattle.store.specs.Store.{lineOf, ledgerOf, Canonical, StandsFor, Addable}
 use Rattle.store.proofs.Tabs.{tab-append}
 use Rattle.cells.proofs.Rows.{row-ext, row-below, SameLive, count-live, head-same, head-line, line-same, line-other}
 use Rattle.cells.proofs.Rows.{line-live}
 use Rattle.store.proofs.Views.{lines-length}
-use Rattle.store.proofs.Names.{line-named}
 use Rattle.store.proofs.Live.{same-live, same-ordered}
 
 -- what is kept of row i is right
@@ -120,11 +119,10 @@ module _ (l : List ℕ) (r : Row) (s : ℕ) (p : Bool) (a : Addable l r s p) whe
     good = record {
       long = live .long;
       lines = omega (arith, count, room);
-      ordered = same-ordered l m live (a .good .ordered);
+      ordered = same-ordered l m live (a .good .ordered) (omega (arith, count));
       canonical = λ k h. right k h .canonical;
       sizes = λ k h. right k h .sized;
       plains = λ k h. right k h .plainly;
-      named = subst Named (sym ledger) (line-named t (a .good .named) (lineOf r));
       bounded = subst Bounded (sym ledger) (line-bounded t (a .good .bounded) (lineOf r) (a .room) (a .there)
           (omega (arith, a .sized, a .small)));
     };

@@ -7,6 +7,7 @@ use mathlib.Core.Bool.{true, false}
 use native.Mathlib.Omega.{arith}
 use native.Mathlib.Decide.{decLt}
 use lib.ListN.{length}
+use Rattle.logic.specs.Multiset.{Every}
 use Rattle.ledger.specs.declared.Credential.{Credential}
 use Rattle.ledger.specs.Ledger.{Ledger}
 use Rattle.ledger.proofs.Bounds.{Rises, Below}
@@ -20,7 +21,7 @@ use Rattle.cells.proofs.Rows.{SameLines, lines-self, Stays, stays-credential, s
 use Rattle.cells.proofs.Rows.{head-lines, head-same, head-other, head-stays, credential-same, credential-there}
 use Rattle.cells.proofs.Rows.{credential-stays, credential-before, credential-lines, hint-before, hint-lines}
 use Rattle.cells.proofs.Rows.{hint-stays}
-use Rattle.store.proofs.Live.{stands-live, ledger-live}
+use Rattle.store.proofs.Live.{stands-live, ledger-live, live-named}
 
 -- l is the store at the start, m when row i is next: the live ones of the rows before it stand in the first k rows
 pub record Gathering (l m : List ℕ) (i k : ℕ) : Type 0 where
@@ -158,11 +159,17 @@ module _ (l : List ℕ) where
           ∙ ap (λ (t : Ledger). length (t .live)) (sym done-ledger);
       between = λ i j p q. rises-between 0 k (credentialAt done) i j rises p (omega (arith, done-used));
       below = λ i q. omega (arith, done-next, every-tab _ k (credentialAt done) below i (omega (arith, done-used)));
+      named = λ i q. omega (
+        arith,
+        done-lines .count,
+        every-tab _ k (credentialAt done) (subst (Every _) (sym done-rows) (live-named l (g .ordered))) i
+            (omega (arith, done-used)),
+      );
     }
 
     done-compact : Compacted l done
     done-compact = record {
-      stands = stands-live l done g done-lines _ done-ordered done-ledger (g .named) (g .bounded);
+      stands = stands-live l done g done-lines _ done-ordered done-ledger (g .bounded);
       rows = done-used ∙ done-length;
     }
 

@@ -13,14 +13,14 @@ use Rattle.ledger.specs.Ledger.{Ledger, formula}
 use Rattle.ledger.specs.Calls.{withCredential}
 use Rattle.ledger.proofs.Bounds.{credential-bounded}
 use Rattle.store.specs.Tab.{tab, present}
-use Rattle.cells.specs.Layout.{maxRows, liveCount, nextSerial, rowCount, credentialAt, entryAt, putRowCount}
+use Rattle.cells.specs.Layout.{maxRows, lineCount, liveCount, nextSerial, rowCount, credentialAt, entryAt, putRowCount}
 use Rattle.cells.specs.Layout.{putLiveCount, putNext, putCredential, putHint}
 use Rattle.store.specs.Store.{ledgerOf, Ordered, StandsFor, Givable}
 use Rattle.store.proofs.Tabs.{tab-ext, present-next}
 use Rattle.cells.proofs.Rows.{SameLines, lines-self, head-lines, head-same, Stays, stays-credential, stays-entry}
 use Rattle.cells.proofs.Rows.{stays-serial, entry-there, head-other, head-stays, credential-same, credential-there}
 use Rattle.cells.proofs.Rows.{credential-stays, credential-lines}
-use Rattle.store.proofs.Names.{credential-named}
+use Rattle.store.proofs.Views.{lines-length}
 use Rattle.store.proofs.Live.{stands-live, ledger-live, hint-stands}
 
 -- another store of the same ledger has room for the credential too
@@ -128,6 +128,15 @@ module _ (l : List ℕ) (k : Kind) (n : ℕ) (w : Interval) (r : Givable l n) (f
       let b : i < rowCount l = omega arith in
       rw e (omega (arith, new-serial, old-serial i b, r .good .ordered .below i b))
 
+  given-named : (i : ℕ) → i < rowCount m → Dec (i < rowCount l) → credentialAt m i .formula < lineCount m
+  given-named i q (yes h) =
+      let e = ap (λ (c : Credential). c .formula) (stays-credential l m i (old-stays i h)) in
+      omega (arith, e, r .good .ordered .named i h, given-lines .count)
+  given-named i q (no h) =
+      let e : i ≡ rowCount l = omega (arith, given-used) in
+      let d = ap (λ (c : Credential). c .formula) new-credential in
+      rw e (omega (arith, d, r .there, lines-length l, given-lines .count))
+
   given-length : length (ledgerOf m .live) ≡ length (ledgerOf l .live) + 1
   unfolding ledgerOf
   given-length =
@@ -139,12 +148,12 @@ module _ (l : List ℕ) (k : Kind) (n : ℕ) (w : Interval) (r : Givable l n) (f
     counted = omega (arith, given-count, r .good .ordered .counted, given-length);
     between = λ i j p q. given-between i j p q (decLt j (rowCount l));
     below = λ i q. given-below i q (decLt i (rowCount l));
+    named = λ i q. given-named i q (decLt i (rowCount l));
   }
 
   pub give-stands : StandsFor m (withCredential (ledgerOf l) k n w)
   give-stands =
       stands-live l m (r .good) given-lines _ given-ordered given-ledger
-      (credential-named (ledgerOf l) (r .good .named) k n w (r .there))
       (credential-bounded (ledgerOf l) (r .good .bounded) k n w (r .room) (r .unused))
 
   -- by the stores that make it

@@ -2,7 +2,6 @@ pub mod Tabs
 pub mod Search
 pub mod Lines
 pub mod Views
-pub mod Names
 pub mod Live
 pub mod Given
 pub mod Removed

@@ -3,23 +3,24 @@ use mathlib.Core.Path.{_≡_, refl, sym, ap, subst, _∙_}
 use mathlib.Core.List.{List, []}
 use mathlib.Core.Option.{none, some}
 use mathlib.Core.Bool.{Bool, true, false}
-use Prim.Native.Nat.{ℕ, _<_}
+use Prim.Native.Nat.{ℕ, _<_, _≤_}
 use native.Mathlib.Omega.{arith}
 use lib.ListN.{length}
 use Rattle.logic.specs.Choice.{pick}
 use Rattle.logic.specs.Formula.{size, plain, bit}
-use Rattle.logic.specs.Multiset.{sum}
+use Rattle.logic.specs.Multiset.{Every, sum}
 use Rattle.request.specs.declared.Kind.the-variants.{Unrestricted}
 use Rattle.request.specs.Request.{Line}
 use Rattle.ledger.specs.declared.Credential.{Credential}
 use Rattle.ledger.specs.Table.{nth, formulas}
 use Rattle.ledger.specs.Ledger.{Ledger, empty, formula, consSome}
+use Rattle.ledger.proofs.Answers.{some-none, some-inj}
 use Rattle.ledger.proofs.Bounds.{Bounded, empty-bounded}
 use Rattle.store.specs.Tab.{tab, present}
 use Rattle.cells.specs.Layout.{cells, lineCount, liveCount, nextSerial, rowCount, credentialAt, gapAt, entryAt, putHint}
-use Rattle.store.specs.Store.{lineOf, ledgerOf, Canonical, Named, Ordered, Good, StandsFor}
-use Rattle.store.proofs.Tabs.{tab-ext, present-sum}
-use Rattle.cells.proofs.Rows.{SameLines, lines-self, same-row, same-size, same-plain, gap-kind, stays-entry}
+use Rattle.store.specs.Store.{lineOf, ledgerOf, Canonical, Ordered, Good, StandsFor}
+use Rattle.store.proofs.Tabs.{tab-ext, every-present, present-sum}
+use Rattle.cells.proofs.Rows.{SameLines, lines-self, same-row, same-size, same-plain, gap-kind, stays-entry, stays-credential}
 use Rattle.cells.proofs.Rows.{stays-serial, SameLive, hint-lines, hint-live}
 
 -- The empty ledger.
@@ -37,11 +38,11 @@ empty-stands l h a b c d =
           counted = b ∙ ap (λ (t : Ledger). length (t .live)) (sym e);
           between = λ i j p q. absurd (omega arith);
           below = λ i q. absurd (omega arith);
+          named = λ i q. absurd (omega arith);
         };
         canonical = λ i q. absurd (omega arith);
         sizes = λ i q. absurd (omega arith);
         plains = λ i q. absurd (omega arith);
-        named = subst Named (sym e) tt;
         bounded = subst Bounded (sym e) empty-bounded;
       };
       ledger = e;
@@ -56,8 +57,8 @@ module _ (l m : List ℕ) (g : Good l) (s : SameLines l m) where
   same-formula : (n : ℕ) → formula (ledgerOf m) n ≡ formula (ledgerOf l) n
   same-formula n = ap (λ (ls : List Line). nth (formulas ls) n) same-lines
 
-  good-live : Ordered m → Named (ledgerOf m) → Bounded (ledgerOf m) → Good m
-  good-live c n b =
+  good-live : Ordered m → Bounded (ledgerOf m) → Good m
+  good-live c b =
       let below : (i : ℕ) → i < lineCount m → i < lineCount l = λ i h. rw (s .count) at h in
       let small : (i : ℕ) → i < lineCount l → i < 200 = λ i h. omega (arith, g .lines) in
       record {
@@ -69,16 +70,12 @@ module _ (l m : List ℕ) (g : Good l) (s : SameLines l m) where
             ∙ ap size (sym (same-formula i));
         plains = λ i h. same-plain l m s i (small i (below i h)) ∙ g .plains i (below i h)
             ∙ ap (λ a. bit (plain a)) (sym (same-formula i));
-        named = n;
         bounded = b;
       }
 
   -- m stands for t, whose lines are l's
-  pub stands-live : (t : Ledger) → Ordered m → ledgerOf m ≡ t → Named t → Bounded t → StandsFor m t
-  stands-live t c e n b = record {
-    good = good-live c (subst Named (sym e) n) (subst Bounded (sym e) b);
-    ledger = e;
-  }
+  pub stands-live : (t : Ledger) → Ordered m → ledgerOf m ≡ t → Bounded t → StandsFor m t
+  stands-live t c e b = record { good = good-live c (subst Bounded (sym e) b); ledger = e }
 
   pub ledger-live : (cs : List Credential) (k : ℕ) → present (tab (rowCount m) (entryAt m)) ≡ cs → nextSerial m ≡ k
       → ledgerOf m ≡ record { lines = ledgerOf l .lines; live = cs; next = k }
@@ -96,8 +93,12 @@ module _ (l m : List ℕ) (s : SameLive l m) (o : Ordered l) where
   same-serial : (i : ℕ) → i < rowCount m → credentialAt m i .serial ≡ credentialAt l i .serial
   same-serial i q = stays-serial l m i (s .rows i (omega (arith, s .used, o .few)))
 
-  pub same-ordered : Ordered m
-  same-ordered = record {
+  same-of : (i : ℕ) → i < rowCount m → credentialAt m i .formula ≡ credentialAt l i .formula
+  same-of i q =
+      ap (λ (c : Credential). c .formula) (stays-credential l m i (s .rows i (omega (arith, s .used, o .few))))
+
+  pub same-ordered : lineCount l ≤ lineCount m → Ordered m
+  same-ordered a = record {
     few = omega (arith, s .used, o .few);
     counted = s .count ∙ o .counted ∙ ap length (sym same-live);
     between = λ i j p q. omega (
@@ -108,7 +109,18 @@ module _ (l m : List ℕ) (s : SameLive l m) (o : Ordered l) where
       o .between i j p (omega (arith, s .used)),
     );
     below = λ i q. omega (arith, same-serial i q, s .next, s .used, o .below i (omega (arith, s .used)));
+    named = λ i q. omega (arith, same-of i q, s .used, o .named i (omega (arith, s .used)));
   }
+
+-- Every live credential is of a formula of the ledger.
+pub live-named : (l : List ℕ) → Ordered l → Every (λ c. c .formula < lineCount l) (ledgerOf l .live)
+unfolding ledgerOf entryAt
+live-named l o = every-present _ (rowCount l) (entryAt l) (λ i c q. go i c q (gapAt l i))
+  where
+    go : (i : ℕ) (c : Credential) → i < rowCount l → (b : Bool)
+        → pick b none (some (credentialAt l i)) ≡ some c → c .formula < lineCount l
+    go i c q true e = absurd (some-none (sym e))
+    go i c q false e = subst (λ (d : Credential). d .formula < lineCount l) (some-inj e) (o .named i q)
 
 -- A hint changes nothing.
 pub hint-stands : (m : List ℕ) (s v : ℕ) {t : Ledger} → StandsFor m t → StandsFor (putHint m s v) t
@@ -117,9 +129,9 @@ hint-stands m s v {t} w =
     let g = w .good in
     let b = hint-live m s v (g .long) in
     let a = hint-lines m s v m (lines-self m (g .long)) in
-    rw (← w .ledger) (stands-live m (putHint m s v) g a (ledgerOf m) (same-ordered m (putHint m s v) b (g .ordered))
-    (ledger-live m (putHint m s v) g a _ _ (same-live m (putHint m s v) b (g .ordered)) (b .next))
-    (g .named) (g .bounded))
+    rw (← w .ledger) (stands-live m (putHint m s v) g a (ledgerOf m) (same-ordered m (putHint m s v) b (g .ordered)
+    (omega (arith, a .count)))
+    (ledger-live m (putHint m s v) g a _ _ (same-live m (putHint m s v) b (g .ordered)) (b .next)) (g .bounded))
 
 -- A tally over the live credentials is one over all rows, where it sees no unrestricted credential: a gap reads as one.
 module _ (f : Credential → ℕ) (none-seen : (c : Credential) → c .kind ≡ Unrestricted → f c ≡ 0) (l : List ℕ) where

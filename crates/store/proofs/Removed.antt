@@ -1,11 +1,12 @@
 -- What a credential that leaves does to the ledger that a store stands for. Only the laws of `Rows` are used.
-use mathlib.Core.Path.{_≡_, refl, _∙_}
+use mathlib.Core.Path.{_≡_, refl, ap, _∙_}
 use mathlib.Core.List.{List}
 use mathlib.Core.Option.{some}
 use Prim.Native.Nat.{ℕ, suc, _-_, _≤_}
 use native.Mathlib.Omega.{arith}
 use lib.ListN.{length}
 use Rattle.logic.proofs.Multisets.{ins-length}
+use Rattle.ledger.specs.declared.Credential.{Credential}
 use Rattle.ledger.specs.Ledger.{find, withoutSerial}
 use Rattle.ledger.specs.Calls.{withLive}
 use Rattle.ledger.proofs.Bounds.{without-bounded}
@@ -14,10 +15,10 @@ use Rattle.store.specs.Tab.{tab, present}
 use Rattle.cells.specs.Layout.{liveCount, nextSerial, rowCount, credentialAt, gapAt, entryAt, putLiveCount, putGap}
 use Rattle.store.specs.Store.{ledgerOf, Ordered, Good, StandsFor, Occupied}
 use Rattle.store.proofs.Search.{without-row}
-use Rattle.cells.proofs.Rows.{SameLines, lines-self, head-lines, head-same, Stays, stays-entry, stays-serial, entry-gap}
-use Rattle.cells.proofs.Rows.{head-other, head-stays, gap-here, gap-stays, gap-serial, gap-before, gap-lines}
+use Rattle.cells.proofs.Rows.{SameLines, lines-self, head-lines, head-same, Stays, stays-entry, stays-serial}
+use Rattle.cells.proofs.Rows.{stays-credential, entry-gap}
+use Rattle.cells.proofs.Rows.{head-other, head-stays, gap-here, gap-stays, gap-serial, gap-of, gap-before, gap-lines}
 use Rattle.store.proofs.Views.{only-here, occupied-found}
-use Rattle.store.proofs.Names.{without-named}
 use Rattle.store.proofs.Live.{stands-live, ledger-live}
 
 -- The store after the credential of a row has left.
@@ -59,6 +60,10 @@ module _ (l : List ℕ) (at : ℕ) (g : Good l) (o : Occupied l at) where
   left-serial : (i : ℕ) → credentialAt left i .serial ≡ credentialAt l i .serial
   left-serial i = stays-serial marked left i (left-stays i) ∙ gap-serial l at i
 
+  left-of : (i : ℕ) → credentialAt left i .formula ≡ credentialAt l i .formula
+  left-of i =
+      ap (λ (c : Credential). c .formula) (stays-credential marked left i (left-stays i)) ∙ gap-of l at i
+
   left-live : present (tab (rowCount left) (entryAt left)) ≡ withoutSerial (ledgerOf l .live) s
   unfolding ledgerOf entryAt
   left-live =
@@ -88,13 +93,12 @@ module _ (l : List ℕ) (at : ℕ) (g : Good l) (o : Occupied l at) where
       g .ordered .between i j p (omega (arith, left-used)),
     );
     below = λ i q. omega (arith, left-serial i, left-next, g .ordered .below i (omega (arith, left-used)));
+    named = λ i q. omega (arith, left-of i, left-lines .count, g .ordered .named i (omega (arith, left-used)));
   }
 
   left-stands : StandsFor left (withLive (ledgerOf l) (withoutSerial (ledgerOf l .live) s))
   left-stands =
-      stands-live l left g left-lines _ left-ordered left-ledger
-      (without-named (ledgerOf l) (g .named) _ there)
-      (without-bounded (ledgerOf l) (g .bounded) _ there)
+      stands-live l left g left-lines _ left-ordered left-ledger (without-bounded (ledgerOf l) (g .bounded) _ there)
 
   -- by the stores that make it
   pub remove-done : {m₀ m₁ : List ℕ} {n : ℕ} → n ≡ liveCount l → m₀ ≡ putGap l at → m₁ ≡ putLiveCount m₀ (n - 1)

@@ -63,6 +63,18 @@ module _ {A : Type 0} where
 
 -- What is there of a list.
 module _ {A : Type 0} where
+  pub every-present : (P : A → Type 0) (n : ℕ) (f : ℕ → Option A)
+      → ((i : ℕ) (a : A) → i < n → f i ≡ some a → P a) → Every P (present (tab n f))
+  unfolding tab present
+  every-present P zero f h = tt
+  every-present P (suc n) f h =
+      go (f zero) refl (every-present P n (λ k. f (suc k)) (λ i a q e. h (suc i) a (omega arith) e))
+    where
+      go : (o : Option A) → f zero ≡ o → Every P (present (tab n (λ k. f (suc k))))
+          → Every P (consSome o (present (tab n (λ k. f (suc k)))))
+      go none e rest = rest
+      go (some a) e rest = (h zero a (omega arith) e, rest)
+
   pub present-snoc : (os : List (Option A)) (o : Option A)
       → present (os ++ (o ∷ [])) ≡ present os ++ consSome o []
   unfolding present

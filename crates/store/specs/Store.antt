@@ -10,7 +10,6 @@ use lib.Dec.{eqb}
 use lib.ListN.{length}
 use Rattle.logic.specs.Interval.{span}
 use Rattle.logic.specs.Formula.{size, plain, bit}
-use Rattle.logic.specs.Multiset.{Every}
 use Rattle.request.specs.Range.{serial}
 use Rattle.request.specs.Request.{Line}
 use Rattle.steps.specs.declared.Row.{Row}
@@ -53,16 +52,14 @@ ledgerOf l = record {
 abbrev pub Canonical : Row → Type 0
 Canonical r = rowOf (lineOf r) ≡ r
 
--- every live credential is of a formula of the ledger
-abbrev pub Named : Ledger → Type 0
-Named t = Every (λ c. c .formula < length (t .lines)) (t .live)
-
--- The credential rows in use, gaps too: serials rise from row to row and are below the next; the live ones are counted.
+-- The credential rows in use, gaps too: serials rise from row to row and are below the next, and each is of a formula of
+-- the ledger; the live ones are counted.
 pub record Ordered (l : List ℕ) : Type 0 where
   pub few : rowCount l ≤ maxRows
   pub counted : liveCount l ≡ length (ledgerOf l .live)
   pub between : (i j : ℕ) → i < j → j < rowCount l → credentialAt l i .serial < credentialAt l j .serial
   pub below : (i : ℕ) → i < rowCount l → credentialAt l i .serial < nextSerial l
+  pub named : (i : ℕ) → i < rowCount l → credentialAt l i .formula < lineCount l
 
 -- A store that calls made: what is kept beside the lines is right, and the ledger has what every ledger that calls gave
 -- has (`bounded`): lines name earlier lines, serials rise and are below the next, sizes are at most 64.
@@ -73,7 +70,6 @@ pub record Good (l : List ℕ) : Type 0 where
   pub canonical : (i : ℕ) → i < lineCount l → Canonical (rowAt l i)
   pub sizes : (i : ℕ) → i < lineCount l → sizeAt l i ≡ size (formula (ledgerOf l) i)
   pub plains : (i : ℕ) → i < lineCount l → plainAt l i ≡ bit (plain (formula (ledgerOf l) i))
-  pub named : Named (ledgerOf l)
   pub bounded : Bounded (ledgerOf l)
 
 -- what a function that changes the store leaves: a good store that stands for the ledger t

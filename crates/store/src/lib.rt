@@ -74,6 +74,14 @@ pub fn row_at(store: &Store, n: u32) -> Row
     }
 }
 
+// The same of a formula that the ledger has.
+pub fn line_at(store: &Store, n: u32) -> Row
+    requires { ⌜ Good (now store) × (n < length (ledgerOf (now store) .lines)) ⌝ }
+    ensures { λ r. ⌜ r ≡ rowAt (now (store .entry)) n ⌝ }
+{
+    cells::line_row(store, n)
+}
+
 // The size of a formula of the ledger, and whether it is plain, as kept with its row.
 pub fn size_at(store: &Store, n: u32) -> u32
     requires { ⌜ Good (now store) × (n < length (ledgerOf (now store) .lines)) ⌝ }
@@ -104,7 +112,7 @@ pub fn has_row(store: &Store, row: Row) -> bool
     let n = cells::line_count(store);
     let mut i = 0;
     while i < n {
-        let other = row_at(store, i);
+        let other = line_at(store, i);
         if same_row(row, other) {
             return true;
         }

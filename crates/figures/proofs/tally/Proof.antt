@@ -1,117 +1,104 @@
 -- `tally` meets its contract. The loop: the sums are those over the first i rows.
-use mathlib.Core.Path.{_≡_, refl}
+use mathlib.Core.Path.{_≡_, refl, ap}
 use Prim.Native.Nat.{ℕ, _≤_, _<_, _-_}
 use native.Mathlib.Omega.{arith}
 use borrow.Author.Needs.{needs}
 use denote.Ref.{now}
-use Rattle.logic.specs.Formula.{seat, place}
 use Rattle.logic.specs.Interval.{has}
-use Rattle.ledger.specs.Checks.{maxSize}
-use Rattle.cells.specs.Layout.{maxRows, rowCount}
-use Rattle.figures.proofs.Tallies.{Tallying, only-le, entry-small, tally-start, tally-end, tally-next}
+use Rattle.ledger.specs.declared.Credential.{Credential}
+use Rattle.cells.specs.Layout.{rowCount}
+use Rattle.figures.proofs.Tallies.{Tallying, Summed, only-le, entry-small, tally-start, tally-next, summed}
 use Rattle.figures.proofs.tally.Statement.{statement}
 use Rattle.figures.proofs.tally.Tie as tie
 
 abbrev Inv-loop : tie.InvT-loop
-Inv-loop store session minute seats places n open₀ shut₀ placed₀ i₀ o h p i =
-    (i ≤ n) × Tallying store session minute i o h p
+Inv-loop store session minute counts n all₀ inside₀ i₀ all inside i =
+    (i ≤ n) × Tallying store session minute i all inside
 
 abbrev μ-loop : tie.MeasureT-loop
-μ-loop store session minute seats places n open₀ shut₀ placed₀ i₀ o h p i = n - i
+μ-loop store session minute counts n all₀ inside₀ i₀ all inside i = n - i
 
 count-rows-requires : tie.Need-count-rows-requires Inv-loop μ-loop
-count-rows-requires c κs = (c .before .before .pre, (refl, refl))
+count-rows-requires c κs = (c .before .pre, refl)
+
+-- a turn: the row is in use
+turn : (c : tie.In-loop Inv-loop μ-loop)
+    → c .before .loop .i < rowCount (now (c .before .before .before .before .before .args .store))
+turn c = let h = c .loop-test .taken in omega (arith, c .before .before .row-count .ensures)
 
 credential-at-requires : tie.Need-credential-at-requires Inv-loop μ-loop
-credential-at-requires c κs =
-    let at = c .before in
-    let s = at .before .before .before .before .before in
-    let h = c .loop-test .taken in
-    (s .pre, omega (arith, at .before .row-count .ensures))
+credential-at-requires c κs = (c .before .before .before .before .before .pre, turn c)
 
-at-requires : tie.Need-at-requires Inv-loop μ-loop
-at-requires c κs = c .before .before .before .before .before .count-rows .ensures .seats .long
+-- its formula is one of the ledger's
+known-requires : tie.Need-known-requires Inv-loop μ-loop
+known-requires c κs =
+    let k = c .before in
+    let r = k .before .before .before in
+    let g = r .before .before .before .pre in
+    let e = ap (λ (d : Credential). d .formula) (k .credential-at .ensures) in
+    (r .before .count-rows .ensures .long, omega (arith, e, g .ordered .named _ (turn (k .before)), g .lines))
 
--- what a credential adds is at most its formula's size, and there are at most 1,024 rows
-record Bounds (v w i : ℕ) : Type 0 where
-  held : v ≤ maxSize
-  inside : w ≤ v
-  few : i < maxRows
+-- what a row adds is small, and there are at most 1,024 rows
+record Small (v i : ℕ) : Type 0 where
+  held : v ≤ 8388672
+  few : i < 1024
 
-bounds : (c : tie.After-when-has Inv-loop μ-loop)
-    → Bounds (c .before .when-linear .result) (c .when-has .result)
-    (c .before .before .before .before .before .before .loop .i)
-bounds c =
-    let a = c .before .before in
-    let k = a .before .before in
+small : (c : tie.After-when-linear Inv-loop μ-loop)
+    → Small (c .when-linear .result) (c .before .before .before .before .before .loop .i)
+small c =
+    let k = c .before .before .before in
     let r = k .before .before .before .before in
-    let s = r .before .before .before in
-    let l = now (s .args .store) in
-    let d = k .credential-at .result in
-    let h = k .before .loop-test .taken in
+    let s = r .before .before in
     record {
-      held = entry-small l (s .pre) seat _ _ (r .count-rows .ensures .seats) (d .kind) _ _ _ (a .at .ensures)
-          (c .before .when-linear .ensures);
-      inside = let m = only-le (has (d .interval) (s .args .minute)) (c .before .when-linear .result) in
-          omega (arith, c .when-has .ensures);
-      few = omega (arith, k .before .before .before .row-count .ensures, s .pre .ordered .few);
+      held = entry-small (now (s .args .store)) _ 0 (s .pre) _ (r .count-rows .ensures)
+          (k .credential-at .result .kind) _ _ _ (c .before .known .ensures) (c .when-linear .ensures);
+      few = omega (arith, turn (k .before), s .pre .ordered .few);
     }
 
-add-open : tie.Need-add-open Inv-loop μ-loop
-add-open c =
-    let b = bounds c in
-    let d = c .before .before .before .before .before .before .loop .inv .1 .small in
+add-all : tie.Need-add-all Inv-loop μ-loop
+add-all c =
+    let b = small c in
+    let d = c .before .before .before .before .before .loop .inv .1 .small in
     omega arith
 
-sub-shut : tie.Need-sub-shut Inv-loop μ-loop
-sub-shut c = let b = bounds c in omega arith
-
-add-shut : tie.Need-add-shut Inv-loop μ-loop
-add-shut c =
-    let b = bounds c in
-    let d = c .before .before .before .before .before .before .loop .inv .1 .small in
-    omega arith
-
-at-requires-2 : tie.Need-at-requires-2 Inv-loop μ-loop
-at-requires-2 c κs =
-    c .before .before .before .before .before .before .before .before .before .count-rows .ensures .places .long
-
-add-placed : tie.Need-add-placed Inv-loop μ-loop
-add-placed c =
-    let r = c .before .before .before .before .before .before .before .before .before .before .before in
-    let s = r .before .before .before in
-    let k = c .before .before .before .before .before .before .before in
-    let b = bounds (c .before .before .before) in
-    let d = c .before .before .before .before .before .before .before .before .before .loop .inv .1 .small in
-    let l = now (s .args .store) in
-    let p =
-    entry-small l (s .pre) place _ _ (r .count-rows .ensures .places) (k .credential-at .result .kind) _ _ _
-    (c .before .at2 .ensures) (c .when-linear2 .ensures) in
-    omega arith
+add-inside : tie.Need-add-inside Inv-loop μ-loop
+add-inside c =
+    let w = c .before in
+    let b = small w in
+    let d = w .before .before .before .before .before .loop .inv .1 .small in
+    let k = w .before .before .before in
+    let m = k .before .before .before .before .before .before .args .minute in
+    let le = only-le (has (k .credential-at .result .interval) m) (w .when-linear .result) in
+    omega (arith, c .when-has .ensures)
 
 loop-again : tie.Need-loop-again Inv-loop μ-loop
 loop-again c =
-    let w = c .before .before .before in
-    let a = w .before .before in
-    let k = a .before .before in
+    let w = c .before in
+    let k = w .before .before .before in
     let at = k .before .before in
     let r = at .before .before in
-    let s = r .before .before .before in (
+    let s = r .before .before in (
       search needs,
-      tally-next (now (s .args .store)) _ _ (s .pre) _ _ (r .count-rows .ensures)
-          (k .credential-at .ensures) (a .at .ensures) (w .before .when-linear .ensures)
-          (w .when-has .ensures) (c .before .at2 .ensures) (c .when-linear2 .ensures)
-          (at .loop .inv .1),
+      tally-next (now (s .args .store)) _ _ (s .pre) _ (r .count-rows .ensures)
+          (k .credential-at .ensures) (w .before .known .ensures) (w .when-linear .ensures)
+          (c .when-has .ensures) (at .loop .inv .1),
     )
+
+sums : (c : tie.After-loop Inv-loop μ-loop)
+    → Summed (now (c .before .before .before .before .before .args .store))
+    (c .before .before .before .before .before .args .session)
+    (c .before .before .before .before .before .args .minute) (c .before .loop .all) (c .before .loop .inside)
+sums c =
+    let at = c .before in
+    let s = at .before .before .before .before in
+    let h = c .loop-test .left in
+    let e : at .loop .i ≡ rowCount (now (s .args .store)) = omega (arith, at .before .row-count .ensures) in
+    summed (now (s .args .store)) _ _ (s .pre) e (at .loop .inv .1)
 
 returns : tie.Need-returns Inv-loop μ-loop
 returns c =
-    let at = c .before in
-    let s = at .before .before .before .before .before in
-    let l = now (s .args .store) in
-    let h = c .loop-test .left in
-    let e : at .loop .i ≡ rowCount l = omega (arith, at .before .row-count .ensures) in
-    tally-end l _ _ _ _ _ _ e (at .loop .inv .1)
+    let t = sums c in
+    record { «open» = t .opens; shut = omega (arith, t .seats, t .opens); placed = t .places }
 
 pub tally-spec : {M : Type 1} → statement M
 tally-spec =
@@ -123,16 +110,18 @@ tally-spec =
     (λ c κs. search needs)
     (λ c. (search needs, tally-start _ _ _))
     credential-at-requires
-    at-requires
+    known-requires
     (λ c κs. search needs)
+    (λ c. search needs)
+    add-all
     (λ c κs. search needs)
-    add-open
-    sub-shut
-    add-shut
-    at-requires-2
-    (λ c κs. search needs)
-    add-placed
+    (λ c. search needs)
+    add-inside
     (λ c. search needs)
     (λ c. search needs)
     loop-again
+    (λ c. search needs)
+    (λ c. search needs)
+    (λ c. omega (arith, sums c .seats, sums c .opens))
+    (λ c. search needs)
     returns)

@@ -8,7 +8,7 @@ use native.Mathlib.Omega.{arith}
 use denote.Ref.{now}
 use Rattle.ledger.specs.Checks.{sameRow}
 use Rattle.cells.specs.Layout.{lineCount, rowAt}
-use Rattle.store.proofs.Views.{has-at, has-none}
+use Rattle.store.proofs.Views.{lines-length, has-at, has-none}
 use Rattle.store.proofs.has_row.Statement.{statement}
 use Rattle.store.proofs.has_row.Tie as tie
 
@@ -27,7 +27,14 @@ tested : (c : tie.After-same-row Inv-loop μ-loop)
     → sameRow (c .before .before .before .before .before .args .row)
     (rowAt (now (c .before .before .before .before .before .args .store)) (c .before .before .before .loop .i))
     ≡ c .same-row .result
-tested c = ap (sameRow _) (sym (c .before .row-at .ensures)) ∙ sym (c .same-row .ensures)
+tested c = ap (sameRow _) (sym (c .before .line-at .ensures)) ∙ sym (c .same-row .ensures)
+
+line-at-requires : tie.Need-line-at-requires Inv-loop μ-loop
+line-at-requires c κs =
+    let at = c .before in
+    let s = at .before .before in
+    let h = c .loop-test .taken in
+    (s .pre, omega (arith, at .loop .inv .0, lines-length (now (s .args .store))))
 
 returns : tie.Need-returns Inv-loop μ-loop
 returns c =
@@ -56,7 +63,7 @@ has-row-spec =
     μ-loop
     (λ c κs. search needs)
     loop-holds
-    (λ c κs. search needs)
+    line-at-requires
     (λ c κs. search needs)
     returns
     (λ c. search needs)

@@ -1,38 +1,29 @@
 -- `count_row` meets its contract.
-use mathlib.Core.Path.{ap, _∙_}
-use native.Mathlib.Omega.{arith}
+use mathlib.Core.Path.{ap, sym, subst, _∙_}
 use borrow.Author.Needs.{needs}
+use borrow.Author.Tests.{eq-eqb, ne-eqb}
 use denote.Ref.{now}
 use Rattle.logic.specs.Multiset.{sum}
 use Rattle.figures.specs.Column.{entry}
-use Rattle.figures.specs.Rows.{isAtom, countRow}
-use Rattle.figures.proofs.Limits.{bit-le, parts-small}
+use Rattle.figures.specs.Rows.{bothRow}
+use Rattle.figures.specs.Figures.{Addable}
 use Rattle.figures.proofs.column.count_row.Statement.{statement}
 use Rattle.figures.proofs.column.count_row.Tie as tie
 
-add-result : tie.Need-add-result
-add-result c =
-    let s = c .before .before .before in
-    omega (
-      arith,
-      c .added .ensures,
-      parts-small _ (s .pre) (c .before .parts-of .result),
-      c .before .before .atoms .ensures,
-      bit-le (isAtom (s .args .predicate) (s .args .session) (s .args .row)),
-    )
-
 returns : tie.Need-returns
-unfolding countRow
-returns c =
-    let f = entry (now (c .before .before .before .args .column)) in
-    omega (arith, c .added .ensures ∙ ap (sum f) (c .before .parts-of .ensures), c .before .before .atoms .ensures)
+unfolding bothRow
+returns c = rw (eq-eqb _ _ (c .before .if1 .taken)) (c .atom .ensures)
+
+added-requires : tie.Need-added-requires
+added-requires c κs = subst (Addable _) (sym (c .parts-of .ensures)) (c .before .before .before .pre)
+
+returns-2 : tie.Need-returns-2
+unfolding bothRow
+returns-2 c =
+    let f = entry (now (c .before .before .before .before .args .column)) in
+    rw (ne-eqb _ _ (c .before .before .if1 .left)) (c .added .ensures ∙ ap (sum f) (c .before .parts-of .ensures))
 
 pub count-row-spec : {M : Type 1} → statement M
 count-row-spec =
     tie.close
-    (tie.spec
-    (λ c κs. search needs)
-    (λ c κs. search needs)
-    (λ c κs. search needs)
-    add-result
-    returns)
+    (tie.spec (λ c κs. search needs) returns (λ c κs. search needs) added-requires returns-2)
