@@ -9,7 +9,7 @@ use denote.Ref.{now}
 use Rattle.request.specs.Range.{_‥_}
 use Rattle.request.specs.Text.{numberIn}
 use Rattle.numbers.specs.Field.{fieldTo, moreIn}
-use Rattle.numbers.proofs.Bytes.{here}
+use Rattle.numbers.proofs.Bytes.{here, here-on}
 use Rattle.numbers.proofs.Decimals.{number-short, start-no, start-on, step-stop, step-small, step-zero}
 use Rattle.numbers.proofs.Decimals.{digit-range, digit-of, digit-none}
 use Rattle.numbers.proofs.number.Statement.{statement}
@@ -44,8 +44,7 @@ second :
     ≡ fieldTo (a .stop) (moreIn r (getD s (a .at) 0 - 48)) (getD s (a .at + 1) 0 ∷ drop (a .at + 2) s)
 second c =
     let a = c .before .before .before .before .args in
-    let q : a .at + 1 + 1 ≡ a .at + 2 = omega arith in
-    first c ∙ rw (here (now (a .s)) (a .at + 1) (omega (arith, c .before .before .if1 .left)), q)
+    first c ∙ rw (here-on (now (a .s)) (a .at) 1 (omega (arith, c .before .before .if1 .left)))
 
 pub number-spec : {M : Type 1} → statement M
 number-spec =
