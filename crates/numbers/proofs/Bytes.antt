@@ -10,6 +10,12 @@ use lib.Seq.{drop-cons}
 pub here-at : (s : List ℕ) (i : ℕ) → i < length s → drop i s ≡ getD s i 0 ∷ drop (i + 1) s
 here-at s i h = rw (add-one, drop-cons s i 0 h)
 
+-- k bytes on
+pub here-on : (s : List ℕ) (i k : ℕ) → i + k < length s → drop (i + k) s ≡ getD s (i + k) 0 ∷ drop (i + (k + 1)) s
+here-on s i k h =
+    let q : i + k + 1 ≡ i + (k + 1) = omega arith in
+    here-at s (i + k) h ∙ rw q
+
 module _ (s : List ℕ) (i : ℕ) where
   pub here : i < length s → drop i s ≡ getD s i 0 ∷ drop (i + 1) s
   here h = here-at s i h

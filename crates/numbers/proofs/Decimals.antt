@@ -1,19 +1,21 @@
 -- A decimal number, a digit at a time.
-use mathlib.Core.Path.{_≡_, refl, ap, _∙_}
+use mathlib.Core.Path.{_≡_, refl, sym, ap, _∙_}
 use mathlib.Core.List.{List, [], _∷_}
 use mathlib.Core.Option.{Option, none, some}
-use mathlib.Core.Bool.{false, _&&_}
+use mathlib.Core.Bool.{Bool, true, false, _&&_, _||_}
 use Prim.Native.Nat.{ℕ, _+_, _*_, _-_, _≤_, _<_}
 use native.Mathlib.Omega.{arith}
-use lib.Dec.{eqb, leb}
-use borrow.Author.Tests.{eq-eqb, ne-eqb, eqb-true, eqb-false, le-leb, lt-leb}
-use Rattle.logic.proofs.Tests.{and-decides, le-decides}
+use lib.Dec.{eqb, leb, ltb}
+use lib.ListN.{length, drop, length-drop}
+use borrow.Author.Tests.{eq-eqb, ne-eqb, eqb-true, eqb-false, le-leb, lt-leb, ltb-true, ltb-false}
+use Rattle.logic.proofs.Tests.{and-decides, le-decides, no-truth}
 use Rattle.request.specs.Range.{Range}
 use Rattle.request.specs.Text.{andThen, reads, decimalDigit, decimal, numberIn}
 use Rattle.request.proofs.Gives.{Gives, nothing, just, given, gives-then, gives-so, gives-if}
-use Rattle.numbers.specs.Field.{DigitIs, ends, Stop, fieldTo, more, within, moreIn}
+use Rattle.numbers.specs.Field.{ends, Stop, fieldTo, more, within, moreIn}
 use Rattle.numbers.proofs.Then.{by-test}
-use Rattle.numbers.proofs.Fields.{field-end, field-stop, field-on, field-no, digit-inside}
+use Rattle.numbers.proofs.Fields.{field-end, field-stop, field-on, field-no, field-short, field-bad}
+use Rattle.numbers.proofs.Fields.{digit-inside}
 
 -- Digits
 
@@ -23,23 +25,24 @@ digit-byte x =
     gives-if (leb 48 x && leb x 57)
     (λ e. let h = and-decides (le-decides 48 x) (le-decides x 57) .0 e in just (omega (arith, h .0))) (λ e. nothing)
 
-pub digit-low : (x : ℕ) → x < 48 → DigitIs decimalDigit 10 x 10
-unfolding decimalDigit
-digit-low x h = record { is = λ l. absurd (omega arith); no = λ l. rw (lt-leb 48 x h, decimalDigit) }
+-- the code's test, whether a byte is no digit
+abbrev outside : ℕ → Bool
+outside x = ltb x 48 || ltb 57 x
 
-pub digit-high : (x : ℕ) → 57 < x → DigitIs decimalDigit 10 x 10
-unfolding decimalDigit
-digit-high x h = record {
-  is = λ l. absurd (omega arith);
-  no = λ l. rw (lt-leb x 57 h, le-leb 48 x (omega arith), decimalDigit);
-}
+pub digit-range : (x : ℕ) → outside x ≡ false → (48 ≤ x) × (x ≤ 57)
+digit-range x e =
+    by-test (ltb x 48) (λ h. absurd (no-truth (sym (rw h at e))))
+    (λ h. (ltb-false x 48 h, ltb-false 57 x (rw h at e)))
 
-pub digit-of : (x : ℕ) → 48 ≤ x → x ≤ 57 → DigitIs decimalDigit 10 x (x - 48)
+pub digit-of : (x : ℕ) → outside x ≡ false → decimalDigit x ≡ some (x - 48)
 unfolding decimalDigit
-digit-of x h k = record {
-  is = λ l. rw (le-leb 48 x h, le-leb x 57 k, decimalDigit);
-  no = λ l. absurd (omega arith);
-}
+digit-of x e = rw (le-leb 48 x (digit-range x e .0), le-leb x 57 (digit-range x e .1), decimalDigit)
+
+pub digit-none : (x : ℕ) → outside x ≡ true → decimalDigit x ≡ none
+unfolding decimalDigit
+digit-none x e =
+    by-test (ltb x 48) (λ h. rw (lt-leb 48 x (ltb-true x 48 h), decimalDigit))
+    (λ h. rw (le-leb 48 x (ltb-false x 48 h), lt-leb x 57 (ltb-true 57 x (rw h at e)), decimalDigit))
 
 digit-on : (x d : ℕ) → decimalDigit x ≡ some d → (v : ℕ) (t : List ℕ)
     → reads decimalDigit 10 v (x ∷ t) ≡ reads decimalDigit 10 (v * 10 + d) t
@@ -127,8 +130,13 @@ unfolding decimalDigit
 digit-is-inside = digit-inside decimalDigit refl refl
 
 module _ (r : Range) (stop : ℕ) where
-  pub number-end : fieldTo stop (numberIn r) [] ≡ none
-  number-end = field-end stop (numberIn r)
+  pub number-short : (s : List ℕ) (i : ℕ) → length s ≤ i + 1 → fieldTo stop (numberIn r) (drop i s) ≡ none
+  unfolding numberIn decimal andThen
+  number-short s i h = field-short stop (drop i s) (λ t l. go t (omega (arith, l, length-drop i s)))
+    where
+      go : (t : List ℕ) → length t < 1 → numberIn r t ≡ none
+      go [] l = refl
+      go (x ∷ t) l = absurd (omega arith)
 
   pub start-no : Stop stop → (x : ℕ) (xs : List ℕ) → decimalDigit x ≡ none → fieldTo stop (numberIn r) (x ∷ xs) ≡ none
   unfolding numberIn decimal andThen
@@ -161,10 +169,8 @@ module _ (r : Range) (stop : ℕ) where
     pub step-zero : (x : ℕ) (xs : List ℕ) → (x ≡ stop → ⊥) → v ≡ 0 → fieldTo stop (moreIn r v) (x ∷ xs) ≡ none
     step-zero x xs n e = field-no stop (moreIn r v) x xs n (λ t. rw e (zero-more r x t))
 
-    pub step-large : (x d : ℕ) (xs : List ℕ) → (x ≡ stop → ⊥) → decimalDigit x ≡ some d → 1 ≤ v → r .last < v * 10 + d
-        → fieldTo stop (moreIn r v) (x ∷ xs) ≡ none
-    step-large x d xs n e h l =
-        field-no stop (moreIn r v) x xs n (λ t. more-on r x d v e h t ∙ large-more r (v * 10 + d) l (omega arith) t)
+    pub more-large : r .last < v → 1 ≤ v → (b : List ℕ) → fieldTo stop (moreIn r v) b ≡ none
+    more-large l h b = field-bad stop (large-more r v l h) b
 
     pub step-on : (x d : ℕ) (xs : List ℕ) → decimalDigit x ≡ some d → 1 ≤ v
         → fieldTo stop (moreIn r v) (x ∷ xs) ≡ fieldTo stop (moreIn r (v * 10 + d)) xs

@@ -3,13 +3,24 @@ use mathlib.Core.Path.{_≡_, refl, sym, ap, _∙_}
 use mathlib.Core.List.{List, [], _∷_}
 use mathlib.Core.Option.{Option, none, some}
 use mathlib.Core.Bool.{Bool, true, false}
-use Prim.Native.Nat.{ℕ}
+use Prim.Native.Nat.{ℕ, _<_}
+use native.Mathlib.Omega.{arith}
 use lib.Dec.{eqb}
+use lib.ListN.{length}
 use borrow.Author.Tests.{eq-eqb, ne-eqb, eqb-true}
 use Rattle.request.specs.Text.{andThen}
+use Rattle.request.proofs.Gives.{Gives, nothing, just, gives-then}
 use Rattle.logic.specs.Choice.{pick}
 use Rattle.numbers.specs.Field.{ends, Stop, cut, fieldTo}
-use Rattle.numbers.proofs.Then.{then-then, then-same, then-none, by-test}
+use Rattle.numbers.proofs.Then.{then-then, then-same, then-none, then-given, by-test}
+
+-- the text of a field is shorter than the bytes
+cut-shorter : (b : List ℕ) → Gives (λ p. length (p .0) < length b) (cut b)
+unfolding cut
+cut-shorter [] = nothing
+cut-shorter (x ∷ xs) =
+    by-test (ends x) (λ e. rw (cut, e) (just {a = ([], x, xs)} (omega arith)))
+    (λ e. rw (cut, e) (gives-then (cut-shorter xs) (λ p h. just {a = (x ∷ p .0, p .1, p .2)} (omega (arith, h)))))
 
 module _ {A : Type 0} (stop : ℕ) where
   pub field-end : (read : List ℕ → Option A) → fieldTo stop read [] ≡ none
@@ -37,14 +48,21 @@ module _ {A : Type 0} (stop : ℕ) where
   unfolding fieldTo
   field-same h b = then-same (cut b) (λ p. rw (h (p .0)))
 
-  pub field-bad : {read : List ℕ → Option A} → ((t : List ℕ) → read t ≡ none)
-      → (b : List ℕ) → fieldTo stop read b ≡ none
+  -- where no text shorter than the bytes reads as anything
+  pub field-short : {read : List ℕ → Option A} (b : List ℕ) → ((t : List ℕ) → length t < length b → read t ≡ none)
+      → fieldTo stop read b ≡ none
   unfolding fieldTo andThen
-  field-bad h b = then-none (cut b) (λ p. rw (h (p .0), andThen) (go (eqb (p .1) stop)))
+  field-short b h =
+      then-given (cut-shorter b) (λ p l. rw (h (p .0) l, andThen) (go (eqb (p .1) stop)))
+      ∙ then-none (cut b) (λ p. refl)
     where
       go : (b : Bool) → pick {A = Option (A × List ℕ)} b none none ≡ none
       go true = refl
       go false = refl
+
+  pub field-bad : {read : List ℕ → Option A} → ((t : List ℕ) → read t ≡ none)
+      → (b : List ℕ) → fieldTo stop read b ≡ none
+  field-bad h b = field-short b (λ t l. h t)
 
   -- a byte that is no end of a field, which takes the text on
   pub field-on : (read : List ℕ → Option A) {say : List ℕ → Option A} (x : ℕ) (xs : List ℕ) → ends x ≡ false

@@ -7,12 +7,12 @@ use native.Mathlib.Omega.{arith}
 use native.Mathlib.Nat.{pow-suc, pow-le-pow-right}
 use native.Mathlib.Numerals.{add-one}
 use lib.Dec.{eqb}
-use lib.ListN.{length}
+use lib.ListN.{length, drop, length-drop}
 use borrow.Author.Tests.{ne-eqb, eqb-true, eqb-false, le-leb, lt-leb}
 use Rattle.request.specs.Text.{andThen, reads, hexDigit, labelSetIn}
 use Rattle.numbers.specs.Field.{DigitIs, Stop, fieldTo, setIn}
 use Rattle.numbers.proofs.Then.{by-test}
-use Rattle.numbers.proofs.Fields.{field-stop, field-on, field-no, field-same, digit-inside}
+use Rattle.numbers.proofs.Fields.{field-stop, field-on, field-no, field-same, field-short, digit-inside}
 
 -- Digits
 
@@ -92,6 +92,12 @@ set-long v x t = rw (ne-eqb (16 + length (x ∷ t)) 16 (λ e. omega arith))
 -- A field, a byte at a time
 
 module _ (stop : ℕ) where
+  pub labels-short : (s : List ℕ) (i : ℕ) → length s < i + 17 → fieldTo stop labelSetIn (drop i s) ≡ none
+  unfolding labelSetIn
+  labels-short s i h =
+      field-short stop (drop i s)
+      (λ t l. rw (labelSetIn, ne-eqb (length t) 16 (λ e. omega (arith, l, e, length-drop i s))))
+
   pub set-start : (b : List ℕ) → fieldTo stop labelSetIn b ≡ fieldTo stop (setIn 0 0) b
   set-start b = field-same stop set-begins b
 
@@ -108,13 +114,12 @@ module _ (stop : ℕ) where
   unfolding hexDigit
   hex-on k v x d xs e = field-on stop (setIn k v) x xs (digit-inside hexDigit refl refl x d e) (set-on x d e k v)
 
-  pub set-stop : Stop stop → (k v x : ℕ) (xs : List ℕ) → k ≡ 16 → x ≡ stop
-      → fieldTo stop (setIn k v) (x ∷ xs) ≡ some (v, xs)
+  pub set-stop : Stop stop → (v x : ℕ) (xs : List ℕ) → x ≡ stop → fieldTo stop (setIn 16 v) (x ∷ xs) ≡ some (v, xs)
   unfolding setIn reads andThen
-  set-stop h k v x xs q e = rw q (field-stop stop (setIn 16 v) x xs h e)
+  set-stop h v x xs e = field-stop stop (setIn 16 v) x xs h e
 
-  pub set-other : (k v x : ℕ) (xs : List ℕ) → k ≡ 16 → (x ≡ stop → ⊥) → fieldTo stop (setIn k v) (x ∷ xs) ≡ none
-  set-other k v x xs q n = rw q (field-no stop (setIn 16 v) x xs n (set-long v x))
+  pub set-other : (v x : ℕ) (xs : List ℕ) → (x ≡ stop → ⊥) → fieldTo stop (setIn 16 v) (x ∷ xs) ≡ none
+  set-other v x xs n = field-no stop (setIn 16 v) x xs n (set-long v x)
 
 -- The value
 

@@ -2,17 +2,28 @@
 use mathlib.Core.Path.{_≡_, refl}
 use mathlib.Core.List.{List, [], _∷_}
 use mathlib.Core.Option.{none, some}
-use Prim.Native.Nat.{ℕ}
+use Prim.Native.Nat.{ℕ, _<_}
+use native.Mathlib.Omega.{arith}
+use lib.Dec.{eqb}
+use lib.ListN.{length}
 use borrow.Author.Tests.{eq-eqb, ne-eqb}
 use Rattle.numbers.specs.Field.{strip}
+use Rattle.numbers.proofs.Then.{by-test}
 
 pub strip-done : (b : List ℕ) → strip [] b ≡ some b
 unfolding strip
 strip-done b = refl
 
-pub strip-end : (x : ℕ) (w : List ℕ) → strip (x ∷ w) [] ≡ none
+pub strip-empty : (w b : List ℕ) → length w ≡ 0 → strip w b ≡ some b
+strip-empty [] b e = strip-done b
+strip-empty (x ∷ w) b e = absurd (omega arith)
+
+pub strip-short : (w b : List ℕ) → length b < length w → strip w b ≡ none
 unfolding strip
-strip-end x w = refl
+strip-short [] b l = absurd (omega arith)
+strip-short (x ∷ w) [] l = refl
+strip-short (x ∷ w) (y ∷ b) l =
+    by-test (eqb y x) (λ e. rw (e, strip) (strip-short w b (omega arith))) (λ e. rw (e, strip))
 
 pub strip-on : (x y : ℕ) (w b : List ℕ) → y ≡ x → strip (x ∷ w) (y ∷ b) ≡ strip w b
 unfolding strip

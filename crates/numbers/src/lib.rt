@@ -3,7 +3,7 @@ ghost use mathlib.Core.Path.{_≡_};
 ghost use Prim.Native.Nat.{_≤_, _<_};
 ghost use lib.ListN.{length, drop};
 ghost use Rattle.request.specs.Range.{maxBytes, _‥_};
-ghost use Rattle.request.specs.Text.{decimalDigit, hexDigit, numberIn, labelSetIn};
+ghost use Rattle.request.specs.Text.{hexDigit, numberIn, labelSetIn};
 ghost use Rattle.numbers.specs.Field.{Stop, DigitIs, NumberAsked, fieldTo, strip, moreIn, decimalOf};
 ghost use Rattle.numbers.specs.Field.{labelsOf, pastOf};
 
@@ -25,22 +25,9 @@ pub enum Prefix {
     Absent,
 }
 
-// The value of a decimal digit; 10 for any other byte.
-fn digit(b: u8) -> u32
-    ensures { λ r. ⌜ DigitIs decimalDigit 10 b r ⌝ }
-{
-    if b < 48 {
-        return 10;
-    }
-    if 57 < b {
-        return 10;
-    }
-    (b - 48) as u32
-}
-
-// The digits from `from` on, after those of the value `start`.
+// The digits from `from` on, after those of the value `start`, which is not zero.
 fn more_digits(s: &[u8], from: usize, start: u32, first: u32, last: u32, stop: u8) -> Decimal
-    requires { ⌜ NumberAsked (now s) last stop × (start ≤ last) ⌝ }
+    requires { ⌜ NumberAsked (now s) last stop × (1 ≤ start) × (start ≤ last) ⌝ }
     ensures { λ r. ⌜ decimalOf (now (s .entry)) r
         ≡ fieldTo stop (moreIn (first ‥ last) start) (drop from (now (s .entry))) ⌝ }
 {
@@ -48,40 +35,47 @@ fn more_digits(s: &[u8], from: usize, start: u32, first: u32, last: u32, stop: u
     let mut v = start;
     while i < s.len() {
         let b = s[i];
-        if b == stop {
+        i += 1;
+        if (b < 48) | (57 < b) {
+            if b != stop {
+                return Decimal::Broken;
+            }
             if v < first {
                 return Decimal::Broken;
             }
-            return Decimal::Number(v, (i + 1) as u32);
+            return Decimal::Number(v, i as u32);
         }
-        let d = digit(b);
-        if 9 < d {
+        v = v * 10 + (b - 48) as u32;
+        if last < v {
             return Decimal::Broken;
         }
-        if v == 0 {
-            return Decimal::Broken;
-        }
-        if last < v * 10 + d {
-            return Decimal::Broken;
-        }
-        v = v * 10 + d;
-        i += 1;
     }
     Decimal::Broken
 }
 
-// A decimal number from `first` to `last`, without leading zeros, which the byte `stop` ends.
+// A decimal number from `first` to `last`, without leading zeros, which the byte `stop` ends. A number of one digit
+// is read here, and a zero can only be that.
 pub fn number(s: &[u8], at: u32, first: u32, last: u32, stop: u8) -> Decimal
     requires { ⌜ NumberAsked (now s) last stop ⌝ }
     ensures { λ r. ⌜ decimalOf (now (s .entry)) r
         ≡ fieldTo stop (numberIn (first ‥ last)) (drop at (now (s .entry))) ⌝ }
 {
     let i = at as usize;
-    if s.len() <= i {
+    if s.len() <= i + 1 {
         return Decimal::Broken;
     }
-    let d = digit(s[i]);
-    if 9 < d {
+    let b = s[i];
+    if (b < 48) | (57 < b) {
+        return Decimal::Broken;
+    }
+    let d = (b - 48) as u32;
+    if s[i + 1] == stop {
+        if d < first {
+            return Decimal::Broken;
+        }
+        return Decimal::Number(d, at + 2);
+    }
+    if d == 0 {
         return Decimal::Broken;
     }
     more_digits(s, i + 1, d, first, last, stop)
@@ -111,46 +105,44 @@ pub fn label_set(s: &[u8], at: u32, stop: u8) -> Labels
     requires { ⌜ (length (now s) ≤ maxBytes) × Stop stop ⌝ }
     ensures { λ r. ⌜ labelsOf (now (s .entry)) r ≡ fieldTo stop labelSetIn (drop at (now (s .entry))) ⌝ }
 {
-    let mut i = at as usize;
+    let from = at as usize;
+    if s.len() < from + 17 {
+        return Labels::Broken;
+    }
     let mut v: u64 = 0;
-    let mut k: u32 = 0;
+    let mut k: usize = 0;
     while k < 16 {
-        if s.len() <= i {
-            return Labels::Broken;
-        }
-        let d = hex(s[i]);
+        let d = hex(s[from + k]);
         if 15 < d {
             return Labels::Broken;
         }
         v = v * 16 + d;
-        i += 1;
         k += 1;
     }
-    if s.len() <= i {
+    if s[from + 16] != stop {
         return Labels::Broken;
     }
-    if s[i] != stop {
-        return Labels::Broken;
-    }
-    Labels::Set(v, (i + 1) as u32)
+    Labels::Set(v, at + 17)
 }
 
-// The position after the text w, if that stands at `at`.
+// The position after the text w, if that stands at `at`. The empty text stands at every position.
 pub fn past(s: &[u8], at: u32, w: &[u8]) -> Prefix
     requires { ⌜ length (now s) ≤ maxBytes ⌝ }
     ensures { λ r. ⌜ pastOf (now (s .entry)) r ≡ strip (now (w .entry)) (drop at (now (s .entry))) ⌝ }
 {
-    let mut i = at as usize;
+    let i = at as usize;
+    if s.len() < i + w.len() {
+        if w.len() == 0 {
+            return Prefix::Past(at);
+        }
+        return Prefix::Absent;
+    }
     let mut k = 0;
     while k < w.len() {
-        if s.len() <= i {
+        if s[i + k] != w[k] {
             return Prefix::Absent;
         }
-        if s[i] != w[k] {
-            return Prefix::Absent;
-        }
-        i += 1;
         k += 1;
     }
-    Prefix::Past(i as u32)
+    Prefix::Past((i + w.len()) as u32)
 }

@@ -1,31 +1,60 @@
 -- `label_set` meets its contract: each turn takes a digit. Assumes nothing.
 use Prim.Native.Nat.{_+_, _-_, _*_, _^_, _≤_, _<_}
 use mathlib.Core.Path.{_≡_, _∙_, sym}
+use mathlib.Core.List.{_∷_}
+use native.Mathlib.Nat.{add-zero}
 use native.Mathlib.Omega.{arith}
 use borrow.Author.Needs.{needs}
-use lib.ListN.{drop}
+use lib.ListN.{drop, getD}
+use denote.Ref.{now}
 use Rattle.request.specs.Text.{labelSetIn}
 use Rattle.numbers.specs.Field.{fieldTo, setIn}
-use Rattle.numbers.proofs.Bytes.{here, past}
-use Rattle.numbers.proofs.Fields.{field-end}
-use Rattle.numbers.proofs.Sets.{set-start, hex-no, hex-on, set-stop, set-other, hex-below, hex-fits}
+use Rattle.numbers.proofs.Bytes.{here-on}
+use Rattle.numbers.proofs.Sets.{labels-short, set-start, hex-no, hex-on, set-stop, set-other}
+use Rattle.numbers.proofs.Sets.{hex-below, hex-fits}
 use Rattle.numbers.proofs.label_set.Statement.{statement}
 use Rattle.numbers.proofs.label_set.Tie as tie
 
 abbrev Inv-loop : tie.InvT-loop
-Inv-loop s at stop i₀ v₀ k₀ i v k =
-    (k ≤ 16) × ((v < 16 ^ k) × (fieldTo stop labelSetIn (drop at s) ≡ fieldTo stop (setIn k v) (drop i s)))
+Inv-loop s at stop from v₀ k₀ v k =
+    (k ≤ 16) × ((v < 16 ^ k) × (fieldTo stop labelSetIn (drop at s) ≡ fieldTo stop (setIn k v) (drop (at + k) s)))
 
 abbrev μ-loop : tie.MeasureT-loop
-μ-loop s at stop i₀ v₀ k₀ i v k = 16 - k
+μ-loop s at stop from v₀ k₀ v k = 16 - k
+
+-- in a turn, what is left begins with the byte at `at + k`
+turn :
+    (c : tie.In-loop Inv-loop μ-loop) →
+    let a = c .before .before .before .before .args in
+    let s = now (a .s) in
+    let l = c .before .loop in
+    fieldTo (a .stop) labelSetIn (drop (a .at) s)
+    ≡ fieldTo (a .stop) (setIn (l .k) (l .v)) (getD s (a .at + l .k) 0 ∷ drop (a .at + (l .k + 1)) s)
+turn c =
+    let a = c .before .before .before .before .args in
+    let l = c .before .loop in
+    l .inv .1 .1 ∙ rw (here-on (now (a .s)) (a .at) (l .k) (omega (arith, c .before .before .if1 .left)))
+
+-- after 16 digits
+full :
+    (c : tie.After-loop Inv-loop μ-loop) →
+    let a = c .before .before .before .before .args in
+    let s = now (a .s) in
+    fieldTo (a .stop) labelSetIn (drop (a .at) s)
+    ≡ fieldTo (a .stop) (setIn 16 (c .before .loop .v)) (getD s (a .at + 16) 0 ∷ drop (a .at + 17) s)
+full c =
+    let a = c .before .before .before .before .args in
+    let l = c .before .loop in
+    let q : l .k ≡ 16 = omega (arith, c .loop-test .left) in
+    l .inv .1 .1 ∙ rw (q, here-on (now (a .s)) (a .at) 16 (omega (arith, c .before .before .if1 .left)))
 
 -- where a digit was read
 fits :
     (c : tie.Else2 Inv-loop μ-loop) →
-    let l = c .before .before .before .before .before .loop in
+    let l = c .before .before .before .before .loop in
     l .v * 16 + c .before .hex .result < 2 ^ 64
 fits c =
-    let t = c .before .before .before .before in
+    let t = c .before .before .before in
     hex-fits _ _ _ (t .loop-test .taken) (t .before .loop .inv .1 .0) (omega (arith, c .if2 .left))
 
 pub label-set-spec : {M : Type 1} → statement M
@@ -34,33 +63,29 @@ label-set-spec =
     (tie.spec
     Inv-loop
     μ-loop
-    (λ c. (search needs, (search needs, set-start _ _)))
-    (λ c. sym (c .before .before .loop .inv .1 .1 ∙ rw (past _ _ (c .if1 .taken)) (field-end _ _)))
+    (λ c. search needs)
+    (λ c. sym (labels-short _ _ _ (c .if1 .taken)))
+    (λ c. (search needs, (search needs, rw add-zero (set-start _ _))))
+    (λ c. search needs)
     (λ c. search needs)
     (λ c κs. search needs)
-    (λ c. let t = c .before .before .before .before in
-    sym (t .before .loop .inv .1 .1 ∙ rw (here _ _ (c .before .before .before .if1 .left))
-    (hex-no _ (t .before .before .before .pre .1) _ _ (t .loop-test .taken) _ _
-    (c .before .hex .ensures .no (c .if2 .taken)))))
+    (λ c. let t = c .before .before .before in
+    sym (turn t ∙ hex-no _ (t .before .before .before .before .pre .1) _ _ (t .loop-test .taken) _ _
+    (c .before .hex .ensures .no (c .if2 .taken))))
     (λ c. omega (arith, fits c))
     (λ c. omega (arith, fits c))
     (λ c. search needs)
     (λ c. search needs)
-    (λ c. search needs)
-    (λ c. let t = c .before .before .before .before in (
+    (λ c. let t = c .before .before .before in (
       search needs,
       (
         hex-below _ _ _ (t .before .loop .inv .1 .0) (omega (arith, c .if2 .left)),
-        t .before .loop .inv .1 .1 ∙ rw (here _ _ (c .before .before .before .if1 .left))
-            (hex-on _ _ _ _ _ _ (c .before .hex .ensures .is (omega (arith, c .if2 .left)))),
+        turn t ∙ hex-on _ _ _ _ _ _ (c .before .hex .ensures .is (omega (arith, c .if2 .left))),
       ),
     ))
-    (λ c. sym (c .before .before .loop .inv .1 .1 ∙ rw (past _ _ (c .if3 .taken)) (field-end _ _)))
-    (λ c. search needs)
-    (λ c. sym (c .before .before .before .before .loop .inv .1 .1 ∙ rw (here _ _ (c .before .before .if3 .left))
-    (set-other _ _ _ _ _ (omega (arith, c .before .before .before .loop-test .left)) (c .if4 .taken))))
     (λ c. search needs)
     (λ c. search needs)
-    (λ c. sym (c .before .before .before .before .loop .inv .1 .1 ∙ rw (here _ _ (c .before .before .if3 .left))
-    (set-stop _ (c .before .before .before .before .before .before .pre .1) _ _ _ _
-    (omega (arith, c .before .before .before .loop-test .left)) (c .if4 .left)))))
+    (λ c. sym (full (c .before .before) ∙ set-other _ _ _ _ (c .if3 .taken)))
+    (λ c. search needs)
+    (λ c. let e = c .before .before in
+    sym (full e ∙ set-stop _ (e .before .before .before .before .pre .1) _ _ _ (c .if3 .left))))

@@ -1,19 +1,40 @@
 -- `past` meets its contract: each turn takes a byte of the text. Assumes nothing.
-use Prim.Native.Nat.{_-_, _<_}
-use mathlib.Core.Path.{_≡_, refl, _∙_, sym}
+use Prim.Native.Nat.{_+_, _-_, _≤_}
+use mathlib.Core.Path.{_≡_, _∙_, sym}
+use mathlib.Core.List.{_∷_}
+use native.Mathlib.Nat.{add-zero}
+use native.Mathlib.Omega.{arith}
 use borrow.Author.Needs.{needs}
-use lib.ListN.{length, drop}
+use lib.ListN.{length, getD, drop, length-drop}
+use denote.Ref.{now}
 use Rattle.numbers.specs.Field.{strip}
-use Rattle.numbers.proofs.Bytes.{here, past}
-use Rattle.numbers.proofs.Words.{strip-on, strip-no, strip-done, strip-end}
+use Rattle.numbers.proofs.Bytes.{here, past, here-on}
+use Rattle.numbers.proofs.Words.{strip-on, strip-no, strip-done, strip-empty, strip-short}
 use Rattle.numbers.proofs.past.Statement.{statement}
 use Rattle.numbers.proofs.past.Tie as tie
 
 abbrev Inv-loop : tie.InvT-loop
-Inv-loop s at w i₀ k₀ i k = (i < 4294967296) × (strip w (drop at s) ≡ strip (drop k w) (drop i s))
+Inv-loop s at w i k₀ k = (k ≤ length w) × (strip w (drop at s) ≡ strip (drop k w) (drop (at + k) s))
 
 abbrev μ-loop : tie.MeasureT-loop
-μ-loop s at w i₀ k₀ i k = length w - k
+μ-loop s at w i k₀ k = length w - k
+
+-- in a turn, what is left of both begins with the bytes at k
+turn :
+    (c : tie.In-loop Inv-loop μ-loop) →
+    let a = c .before .before .before .args in
+    let s = now (a .s) in
+    let w = now (a .w) in
+    let k = c .before .loop .k in
+    strip w (drop (a .at) s)
+    ≡ strip (getD w k 0 ∷ drop (k + 1) w) (getD s (a .at + k) 0 ∷ drop (a .at + (k + 1)) s)
+turn c =
+    let a = c .before .before .before .args in
+    let k = c .before .loop .k in
+    c .before .loop .inv .1 ∙ rw (
+      here (now (a .w)) k (c .loop-test .taken),
+      here-on (now (a .s)) (a .at) k (omega (arith, c .loop-test .taken, c .before .before .if1 .left)),
+    )
 
 pub past-spec : {M : Type 1} → statement M
 past-spec =
@@ -21,21 +42,22 @@ past-spec =
     (tie.spec
     Inv-loop
     μ-loop
-    (λ c. (search needs, refl))
-    (λ c. sym (c .before .before .loop .inv .1 ∙ rw (here _ _ (c .before .loop-test .taken), past _ _ (c .if1 .taken))
-    (strip-end _ _)))
     (λ c. search needs)
-    (λ c. search needs)
-    (λ c. let t = c .before .before .before in
-    sym (t .before .before .loop .inv .1 ∙ rw (here _ _ (t .before .loop-test .taken), here _ _ (t .if1 .left))
-    (strip-no _ _ _ _ (c .if2 .taken))))
+    (λ c. sym (strip-empty _ _ (c .if2 .taken)))
+    (λ c. let a = c .before .before .args in
+    sym (strip-short (now (a .w)) (drop (a .at) (now (a .s)))
+    (omega (arith, c .before .if1 .taken, c .if2 .left, length-drop (a .at) (now (a .s))))))
+    (λ c. (search needs, rw add-zero))
     (λ c. search needs)
     (λ c. search needs)
     (λ c. search needs)
-    (λ c. let t = c .before .before .before in (
-      search needs,
-      t .before .before .loop .inv .1
-          ∙ rw (here _ _ (t .before .loop-test .taken), here _ _ (t .if1 .left)) (strip-on _ _ _ _ (c .if2 .left)),
-    ))
+    (λ c. sym (turn (c .before .before .before) ∙ strip-no _ _ _ _ (c .if3 .taken)))
     (λ c. search needs)
-    (λ c. sym (c .before .loop .inv .1 ∙ rw (past _ _ (c .loop-test .left)) (strip-done _))))
+    (λ c. search needs)
+    (λ c. (search needs, turn (c .before .before .before) ∙ strip-on _ _ _ _ (c .if3 .left)))
+    (λ c. search needs)
+    (λ c. search needs)
+    (λ c. let a = c .before .before .before .args in
+    let l = c .before .loop in
+    let q : l .k ≡ length (now (a .w)) = omega (arith, c .loop-test .left, l .inv .0) in
+    sym (l .inv .1 ∙ rw (q, past (now (a .w)) (length (now (a .w))) (omega arith)) (strip-done _))))
