@@ -117,27 +117,23 @@ fn list(word: &str) -> List {
     List { name: name.to_string(), sheets, timed }
 }
 
-/// One play of a list: the nanoseconds of the timed calls, and what was answered.
+/// One play of a list: the nanoseconds of the timed calls, those in a row read from the clock together, and the answers.
 fn play(list: &List, side: &mut impl Side, out: &mut Vec<[u32; 4]>) -> u64 {
-    let mut sum = 0;
+    let (mut sum, mut at) = (0, 0);
     out.clear();
+    out.reserve(list.sheets.len());
     side.start();
-    for (sheet, timed) in list.sheets.iter().zip(&list.timed) {
-        out.push(if *timed {
-            let begin = Instant::now();
-            let answer = side.timed(sheet);
-            sum += begin.elapsed().as_nanos() as u64;
-            answer
-        } else {
-            side.call(sheet)
-        });
+    while at < list.sheets.len() {
+        let timed = list.timed[at];
+        let end = at + list.timed[at..].iter().take_while(|also| **also == timed).count();
+        let begin = Instant::now();
+        for sheet in &list.sheets[at..end] {
+            out.push(if timed { side.timed(sheet) } else { side.call(sheet) });
+        }
+        sum += if timed { begin.elapsed().as_nanos() as u64 } else { 0 };
+        at = end;
     }
     sum
-}
-
-/// What the clock says of nothing.
-fn nothing() -> u64 {
-    (0..10_000).map(|_| Instant::now().elapsed().as_nanos() as u64).min().unwrap_or(0)
 }
 
 /// Nanoseconds of a timed call on either side, in turn, the least of each.
@@ -151,9 +147,8 @@ fn measure(list: &List, proved: &mut Proved, reference: &mut Till) -> (f64, f64)
         best_theirs = best_theirs.min((0..plays).map(|_| play(list, reference, &mut theirs)).sum());
         assert!(ours == theirs, "{}: the answers differ", list.name);
     }
-    let calls = list.timed() * plays;
-    let each = |n: u64| n.saturating_sub(nothing() * calls) as f64 / calls as f64;
-    (each(best), each(best_theirs))
+    let calls = (list.timed() * plays) as f64;
+    (best as f64 / calls, best_theirs as f64 / calls)
 }
 
 fn main() {
