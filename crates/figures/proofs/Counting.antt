@@ -1,11 +1,16 @@
 -- The column of seats and places, row by row.
 use mathlib.Core.Path.{_≡_, refl, sym, ap, ap₂, subst, fun-ext, _∙_}
-use mathlib.Core.List.{List}
-use Prim.Native.Nat.{ℕ, _+_, _*_, _≤_, _<_}
+use mathlib.Core.List.{List, [], _∷_}
+use mathlib.Core.Bool.{Bool, true, false}
+use Prim.Native.Nat.{ℕ, zero, suc, _+_, _*_, _≤_, _<_}
+use Prim.Native.Char.{code}
 use native.Mathlib.Omega.{arith}
-use lib.ListN.{length, set}
+use native.Mathlib.Numerals.{add-one}
+use lib.Dec.{eqb}
+use lib.ListN.{length, set, replicate}
 use Rattle.logic.specs.Formula.{count}
-use Rattle.logic.specs.Multiset.{Every}
+use Rattle.logic.specs.Choice.{pick}
+use Rattle.logic.specs.Multiset.{Every, sum}
 use Rattle.logic.proofs.Multisets.{every-map}
 use Rattle.ledger.specs.Table.{names}
 use Rattle.ledger.specs.Checks.{maxSize, maxFormulas}
@@ -13,12 +18,30 @@ use Rattle.ledger.proofs.Tables.{lineAt}
 use Rattle.cells.specs.Layout.{rowAt}
 use Rattle.store.specs.Store.{ledgerOf, Good}
 use Rattle.store.proofs.Views.{row-is}
-use Rattle.figures.specs.Rows.{partsOf, both, bothRow}
+use Rattle.figures.specs.Rows.{partsOf, both, atomOf, atomBoth, bothRow}
 use Rattle.figures.specs.Column.{entry, early}
 use Rattle.figures.specs.Figures.{Blank, Counted, Countable}
 use Rattle.figures.proofs.Rows.{parts-row, both-row}
 use Rattle.figures.proofs.Limits.{both-le}
 use Rattle.figures.proofs.Columns.{column-start, column-next, early-small}
+
+sum-zero : (f : ℕ → ℕ) → ((k : ℕ) → f k ≡ 0) → (ns : List ℕ) → sum f ns ≡ 0
+unfolding sum
+sum-zero f z [] = refl
+sum-zero f z (n ∷ ns) = omega (arith, z n, sum-zero f z ns)
+
+set-zero : (n i : ℕ) → set {A = ℕ} (replicate n 0) i 0 ≡ replicate n 0
+set-zero zero i = refl
+set-zero (suc n) zero = refl
+set-zero (suc n) (suc i) = ap (λ (xs : List ℕ). 0 ∷ xs) (set-zero n i)
+
+blank-zero : (xs : List ℕ) → Blank xs → (k : ℕ) → entry xs k ≡ 0
+blank-zero xs e k = ap (λ (ys : List ℕ). entry ys k) e ∙ go maxFormulas k
+  where
+    go : (n k : ℕ) → entry (replicate n 0) k ≡ 0
+    go zero k = refl
+    go (suc n) zero = refl
+    go (suc n) (suc k) = go n k
 
 module _ (l : List ℕ) (s : ℕ) where
   pub counted-start : (xs : List ℕ) → Blank xs → Counted l s 0 xs
@@ -52,6 +75,26 @@ module _ (l : List ℕ) (s : ℕ) where
           column-next (ledgerOf l) (both s) 0 i xs v (g .bounded .lines) h c
           (e ∙ ap₂ (bothRow s) (fun-ext (c .holds)) (sym (row-is l g i))
           ∙ sym (both-row (early (ledgerOf l) i) s (lineAt (ledgerOf l) i)))
+
+    -- before the first atom there is nothing to count
+    nothing : (xs : List ℕ) → ((k : ℕ) → entry xs k ≡ 0) → (i : ℕ) → atomOf s (rowAt l i) ≡ false
+        → bothRow s (entry xs) (rowAt l i) ≡ 0
+    unfolding bothRow
+    nothing xs z i e = go (eqb (rowAt l i .letter) (code "a")) refl
+      where
+        go : (b : Bool) → eqb (rowAt l i .letter) (code "a") ≡ b
+            → pick b (atomBoth s (rowAt l i .a) (rowAt l i .b)) (sum (entry xs) (partsOf (rowAt l i))) ≡ 0
+        go true q = rw (rw q at e)
+        go false q = sum-zero (entry xs) z (partsOf (rowAt l i))
+
+    pub none-counted : (xs : List ℕ) → Blank xs → (i : ℕ) → i ≤ length (ledgerOf l .lines)
+        → ((k : ℕ) → k < i → atomOf s (rowAt l k) ≡ false) → Counted l s i xs
+    none-counted xs e zero h f = counted-start xs e
+    none-counted xs e (suc i) h f =
+        let c = none-counted xs e i (omega arith) (λ k q. f k (omega arith)) in
+        let v = sym (nothing xs (blank-zero xs e) i (f i (omega arith))) in
+        let kept : set xs i 0 ≡ xs = ap (λ (ys : List ℕ). set ys i 0) e ∙ set-zero maxFormulas i ∙ sym e in
+        subst (Counted l s (suc i)) kept (rw (add-one i) at (counted-next i xs h c 0 v))
 
   -- every formula is counted
   pub counted-all : (i j : ℕ) (xs : List ℕ) → i ≡ j → Counted l s i xs → Counted l s j xs

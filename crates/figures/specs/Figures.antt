@@ -1,6 +1,7 @@
 -- What the functions ask and answer.
 use mathlib.Core.Path.{_≡_}
 use mathlib.Core.List.{List}
+use mathlib.Core.Bool.{false}
 use Prim.Native.Nat.{ℕ, _*_, _≤_, _<_}
 use lib.ListN.{length, replicate}
 use Rattle.logic.specs.Multiset.{Every}
@@ -9,10 +10,11 @@ use Rattle.ledger.specs.Table.{names}
 use Rattle.ledger.specs.Checks.{maxSize, maxFormulas}
 use Rattle.ledger.specs.Calls.{openSeats, shutSeats, placed}
 use Rattle.ledger.proofs.Tables.{There}
+use Rattle.cells.specs.Layout.{rowAt}
 use Rattle.store.specs.Store.{lineOf, ledgerOf, Canonical, Good}
 use Rattle.figures.specs.declared.Figures.{Figures}
 use Rattle.figures.specs.Column.{entry, Column}
-use Rattle.figures.specs.Rows.{partsOf, both}
+use Rattle.figures.specs.Rows.{partsOf, atomOf, both}
 
 -- the row of a line whose numbers the store has, so that it stands for a formula
 pub record Formable (l : List ℕ) (r : Row) : Type 0 where
@@ -23,6 +25,11 @@ pub record Formable (l : List ℕ) (r : Row) : Type 0 where
 -- nothing written yet
 abbrev pub Blank : List ℕ → Type 0
 Blank xs = xs ≡ replicate maxFormulas 0
+
+-- none of the first i rows is an atom of session s
+pub record NoneBefore (l : List ℕ) (s i : ℕ) : Type 0 where
+  pub few : i ≤ length (ledgerOf l .lines)
+  pub none : (k : ℕ) → k < i → atomOf s (rowAt l k) ≡ false
 
 -- the seats and the places of session s in the first i formulas
 abbrev pub Counted : List ℕ → ℕ → ℕ → List ℕ → Type 0

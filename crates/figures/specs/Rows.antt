@@ -45,6 +45,10 @@ plainRow f r = among (r .letter) plains && all f (partsOf r)
 unfoldable pub both : ℕ → Formula → ℕ
 both s a = count seat s a + 131072 * count place s a
 
+-- the row is an atom of session s
+abbrev pub atomOf : ℕ → Row → Bool
+atomOf s r = eqb (r .letter) (code "a") && eqb (r .b) s
+
 abbrev pub atomBoth : ℕ → ℕ → ℕ → ℕ
 atomBoth s p t = pick (eqb t s) (pick (eqb p seat) 1 (pick (eqb p place) 131072 0)) 0
 

@@ -24,7 +24,7 @@ ghost use Rattle.ledger.specs.Checks.{any, missing};
 ghost use Rattle.ledger.specs.Calls.{only};
 ghost use Rattle.store.specs.Store.{lineOf, ledgerOf, Canonical, Good};
 ghost use Rattle.figures.specs.Rows.{fairRow};
-ghost use Rattle.figures.specs.Figures.{Formable, Blank, Counted, Tallied};
+ghost use Rattle.figures.specs.Figures.{Formable, Blank, NoneBefore, Counted, Tallied};
 
 // The sums of a tally: "open = seats of the session in coupons whose window has the minute, shut = the other seats,
 // placed = places", over the live linear credentials.
@@ -102,6 +102,23 @@ pub fn balanced(store: &Store, n: u32) -> bool
     true
 }
 
+// The first row of an atom of the session; formulas before it have none of its seats and places.
+fn first_atom(store: &Store, session: u32) -> u32
+    requires { ⌜ Good (now store) ⌝ }
+    ensures { λ r. ⌜ NoneBefore (now (store .entry)) session r ⌝ }
+{
+    let n = store::formula_count(store);
+    let mut i = 0;
+    while i < n {
+        let row = store::line_at(store, i);
+        if (row.letter == parts::ATOM) & (row.b == session) {
+            return i;
+        }
+        i += 1;
+    }
+    i
+}
+
 // The seats and the places of a session in every formula, row by row.
 fn count_rows(store: &Store, session: u32, counts: &mut Column)
     requires { ⌜ Good (now store) × Blank (now counts) ⌝ }
@@ -109,7 +126,7 @@ fn count_rows(store: &Store, session: u32, counts: &mut Column)
         (now (counts .exit)) ⌝ }
 {
     let n = store::formula_count(store);
-    let mut i = 0;
+    let mut i = first_atom(store, session);
     while i < n {
         let row = store::line_at(store, i);
         let both = column::count_row(row, session, counts);
