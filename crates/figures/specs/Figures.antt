@@ -1,12 +1,13 @@
 -- What the functions ask and answer.
 use mathlib.Core.Path.{_≡_}
 use mathlib.Core.List.{List}
-use mathlib.Core.Bool.{false}
+use mathlib.Core.Bool.{true, false}
 use Prim.Native.Nat.{ℕ, _*_, _≤_, _<_}
 use lib.ListN.{length, replicate}
 use Rattle.logic.specs.Multiset.{Every}
 use Rattle.steps.specs.declared.Row.{Row}
 use Rattle.ledger.specs.Table.{names}
+use Rattle.ledger.specs.Ledger.{formula}
 use Rattle.ledger.specs.Checks.{maxSize, maxFormulas}
 use Rattle.ledger.specs.Calls.{openSeats, shutSeats, placed}
 use Rattle.ledger.proofs.Tables.{There}
@@ -14,13 +15,19 @@ use Rattle.cells.specs.Layout.{rowAt}
 use Rattle.store.specs.Store.{lineOf, ledgerOf, Canonical, Good}
 use Rattle.figures.specs.declared.Figures.{Figures}
 use Rattle.figures.specs.Column.{entry, Column}
-use Rattle.figures.specs.Rows.{partsOf, atomOf, both}
+use Rattle.figures.specs.Rows.{partsOf, fairRow, atomOf, both}
 
 -- the row of a line whose numbers the store has, so that it stands for a formula
 pub record Formable (l : List ℕ) (r : Row) : Type 0 where
   pub good : Good l
   pub canonical : Canonical r
   pub there : There (ledgerOf l) (names (lineOf r))
+
+-- a formula of the ledger, and a row for whose session it weighs 0 and is well weighed, if that is an atom's
+pub record Weighable (l : List ℕ) (n : ℕ) (r : Row) : Type 0 where
+  pub good : Good l
+  pub there : n < length (ledgerOf l .lines)
+  pub passed : fairRow (formula (ledgerOf l) n) r ≡ true
 
 -- nothing written yet
 abbrev pub Blank : List ℕ → Type 0

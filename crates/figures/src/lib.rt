@@ -24,7 +24,7 @@ ghost use Rattle.ledger.specs.Checks.{any, missing};
 ghost use Rattle.ledger.specs.Calls.{only};
 ghost use Rattle.store.specs.Store.{lineOf, ledgerOf, Canonical, Good};
 ghost use Rattle.figures.specs.Rows.{fairRow};
-ghost use Rattle.figures.specs.Figures.{Formable, Blank, NoneBefore, Counted, Tallied};
+ghost use Rattle.figures.specs.Figures.{Formable, Weighable, Blank, NoneBefore, Counted, Tallied};
 
 // The sums of a tally: "open = seats of the session in coupons whose window has the minute, shut = the other seats,
 // placed = places", over the live linear credentials.
@@ -74,12 +74,18 @@ pub fn row_plain(store: &Store, row: Row) -> bool
     }
 }
 
-// Whether formula n weighs 0 and is well weighed for the session of the row, if that is an atom's.
-fn fair_row(store: &Store, n: u32, row: Row) -> bool
-    requires { ⌜ Good (now store) × (n < length (ledgerOf (now store) .lines)) ⌝ }
+// Whether formula n weighs 0 and is well weighed for the session of the row, if that is an atom's. Of the row before it
+// this is known.
+fn fair_row(store: &Store, n: u32, before: Row, row: Row) -> bool
+    requires { ⌜ Weighable (now store) n before ⌝ }
     ensures { λ r. ⌜ r ≡ fairRow (formula (ledgerOf (now (store .entry))) n) row ⌝ }
 {
     if row.letter == parts::ATOM {
+        if before.letter == parts::ATOM {
+            if before.b == row.b {
+                return true;
+            }
+        }
         return weight::fair(store, n, row.b);
     }
     true
@@ -91,12 +97,20 @@ pub fn balanced(store: &Store, n: u32) -> bool
     requires { ⌜ Good (now store) × (n < length (ledgerOf (now store) .lines)) ⌝ }
     ensures { λ r. ⌜ r ≡ isBalanced (formula (ledgerOf (now (store .entry))) n) ⌝ }
 {
+    let mut before = Row {
+        letter: b'o' as u32,
+        a: 0,
+        b: 0,
+        c: 0,
+        d: 0,
+    };
     let mut i = 0;
     while i <= n {
-        let row = store::row_at(store, i);
-        if !fair_row(store, n, row) {
+        let row = store::line_at(store, i);
+        if !fair_row(store, n, before, row) {
             return false;
         }
+        before = row;
         i += 1;
     }
     true

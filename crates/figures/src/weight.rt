@@ -128,7 +128,7 @@ pub fn fair(store: &Store, n: u32, session: u32) -> bool
     let mut evens = [true; 200];
     let mut i = 0;
     while i <= n {
-        let row = store::row_at(store, i);
+        let row = store::line_at(store, i);
         let weight = atom_weight(row.a, row.b, session);
         let even = even_row(row, &ups, &downs, &evens);
         let up = side(row, weight, &ups, &downs);

@@ -64,7 +64,7 @@ loop-again c =
     let at = t .before in (
       omega arith,
       weighed-next (now (at .before .args .store)) _ (at .before .pre .0) (at .loop .i) _ _ _ (at .loop .inv .1)
-          (turn t) (w .before .row-at .ensures) (w .atom-weight .ensures) (u .side .ensures) (c .side2 .ensures)
+          (turn t) (w .before .line-at .ensures) (w .atom-weight .ensures) (u .side .ensures) (c .side2 .ensures)
           (e .even-row .ensures),
     )
 
@@ -106,7 +106,7 @@ fair-spec =
     Inv-loop
     μ-loop
     (λ c. (search needs, weighed-start _ _))
-    (λ c κs. search needs)
+    (λ c κs. (c .before .before .pre .0, turn c))
     (λ c κs. search needs)
     even-row-requires
     side-requires
