@@ -1,5 +1,5 @@
-// A sequent and an outcome as single numbers. A call that passes and returns nothing else is a jump where it comes last,
-// so that steps with one premise take no stack.
+// A sequent and an outcome as single numbers. A call that passes and returns nothing else is a jump where it comes
+// last, so that steps with one premise take no stack.
 use logic::Interval;
 use steps::Goal;
 use steps::Sequent;

@@ -65,7 +65,8 @@ module _ (l : List ℕ) (s : ℕ) where
       countable = record {
         long = c .long;
         small = counted-small i xs (omega arith) c;
-        there = subst (Every (λ k. k < maxFormulas)) (sym (parts-row (lineAt (ledgerOf l) i)) ∙ ap partsOf (row-is l g i))
+        there = subst (Every (λ k. k < maxFormulas))
+            (sym (parts-row (lineAt (ledgerOf l) i)) ∙ ap partsOf (row-is l g i))
             (every-map {P = λ k. k < length (ledgerOf l .lines)} {Q = λ k. k < maxFormulas}
             (λ k q. omega (arith, g .bounded .lines)) (names (lineAt (ledgerOf l) i)) (g .bounded .tabled .refs i));
       }

@@ -8,7 +8,7 @@ use native.Mathlib.Omega.{arith}
 use native.Mathlib.Numerals.{add-one}
 use lib.ListN.{length}
 use Rattle.logic.specs.Interval.{has}
-use Rattle.logic.specs.Formula.{size, count, seat}
+use Rattle.logic.specs.Formula.{size, count, seat, place}
 use Rattle.logic.specs.Multiset.{sum}
 use Rattle.logic.proofs.Multisets.{snoc-sum}
 use Rattle.request.specs.declared.Kind.{Kind}
@@ -92,7 +92,8 @@ module _ (t : Ledger) (s : ℕ) where
   both-of c = go (c .kind)
     where
       go : (k : Kind) → byKind k (both s (formula t (c .formula))) 0
-          ≡ byKind k (count seat s (formula t (c .formula))) 0 + 131072 * byKind k (count 2 s (formula t (c .formula))) 0
+          ≡ byKind k (count seat s (formula t (c .formula))) 0
+          + 131072 * byKind k (count place s (formula t (c .formula))) 0
       go Linear = refl
       go Unrestricted = refl
 
@@ -124,7 +125,8 @@ module _ (l : List ℕ) (s m : ℕ) where
   module _ (g : Good l) where
     module _ (xs : List ℕ) (k : Counted l s (length (ledgerOf l .lines)) xs) where
       pub entry-small : (kind : Kind) (n e v : ℕ) → e ≡ entry xs n → v ≡ byKind kind e 0 → v ≤ 8388672
-      entry-small Linear n e v x y = omega (arith, counted-small l s g (length (ledgerOf l .lines)) xs (omega arith) k n)
+      entry-small Linear n e v x y =
+          omega (arith, counted-small l s g (length (ledgerOf l .lines)) xs (omega arith) k n)
       entry-small Unrestricted n e v x y = omega arith
 
       pub tally-next : {c : Credential} {i a b e v w : ℕ} → c ≡ credentialAt l i → e ≡ entry xs (c .formula)
@@ -163,7 +165,8 @@ module _ (l : List ℕ) (s m : ℕ) where
         sum-both (insideOf u s m) (opened u s m) (placedInside u s m)
         (λ c. only-both (has (c .interval) m) _ _ _ (both-of u s c)) cs in
         let r =
-        sum-plus (seatsOf u s) (opened u s m) (closed u s m) (λ c. only-parts (has (c .interval) m) (seatsOf u s c)) cs in
+        sum-plus (seatsOf u s) (opened u s m) (closed u s m)
+        (λ c. only-parts (has (c .interval) m) (seatsOf u s c)) cs in
         let small = sum-le (seatsOf u s) (rowCount l) (seats-le u s (g .bounded .sizes)) cs
         (length-tab (rowCount l) (credentialAt l)) in
         let few = g .ordered .few in

@@ -20,8 +20,8 @@ use Rattle.store.specs.Tab.{tab, present}
 use Rattle.cells.specs.Layout.{cells, lineCount, liveCount, nextSerial, rowCount, credentialAt, gapAt, entryAt, putHint}
 use Rattle.store.specs.Store.{lineOf, ledgerOf, Canonical, Ordered, Good, StandsFor}
 use Rattle.store.proofs.Tabs.{tab-ext, every-present, present-sum}
-use Rattle.cells.proofs.Rows.{SameLines, lines-self, same-row, same-size, same-plain, gap-kind, stays-entry, stays-credential}
-use Rattle.cells.proofs.Rows.{stays-serial, SameLive, hint-lines, hint-live}
+use Rattle.cells.proofs.Rows.{SameLines, lines-self, same-row, same-size, same-plain, gap-kind, stays-entry}
+use Rattle.cells.proofs.Rows.{stays-credential, stays-serial, SameLive, hint-lines, hint-live}
 
 -- The empty ledger.
 pub empty-stands : (l : List ℕ) → length l ≡ cells → lineCount l ≡ 0 → liveCount l ≡ 0 → nextSerial l ≡ 1

@@ -52,8 +52,8 @@ ledgerOf l = record {
 abbrev pub Canonical : Row → Type 0
 Canonical r = rowOf (lineOf r) ≡ r
 
--- The credential rows in use, gaps too: serials rise from row to row and are below the next, and each is of a formula of
--- the ledger; the live ones are counted.
+-- The credential rows in use, gaps too: serials rise from row to row and are below the next, and each row is of a
+-- formula of the ledger; the live ones are counted.
 pub record Ordered (l : List ℕ) : Type 0 where
   pub few : rowCount l ≤ maxRows
   pub counted : liveCount l ≡ length (ledgerOf l .live)

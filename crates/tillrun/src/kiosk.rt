@@ -40,8 +40,8 @@ fn both_ten(x: u8, y: u8) -> u8
     ((x == 10) & (y == 10)) as u8
 }
 
-// Whether an empty line stands in the bytes, where no line begins before them. No byte decides how to go on, so that the
-// compiler compares many at once.
+// Whether an empty line stands in the bytes, where no line begins before them. No byte decides how to go on, so that
+// the compiler compares many at once.
 fn has_end(bytes: &[u8]) -> bool
     requires { ⌜ (0 < length (now bytes)) × (length (now bytes) ≤ 255) ⌝ }
     ensures { λ r. ⌜ r ≡ emptyLine false (now (bytes .entry)) ⌝ }

@@ -16,7 +16,8 @@ returns c =
     let s = c .before in
     let l = now (s .args .store) in
     c .line-row .ensures
-    ∙ sym (row-below l _ (omega (arith, s .pre .1, lines-length l)) (omega (arith, s .pre .1, lines-length l, s .pre .0 .lines)))
+    ∙ sym (row-below l _ (omega (arith, s .pre .1, lines-length l))
+    (omega (arith, s .pre .1, lines-length l, s .pre .0 .lines)))
 
 pub line-at-spec : {M : Type 1} → statement M
 line-at-spec = tie.close (tie.spec line-row-requires returns)

@@ -8,6 +8,8 @@ atom-spec =
     tie.close
     (tie.spec
     (λ c. simp (eq-eqb _ _ (c .before .if1 .taken), eq-eqb _ _ (c .if2 .taken)))
-    (λ c. simp (eq-eqb _ _ (c .before .before .if1 .taken), ne-eqb _ _ (c .before .if2 .left), eq-eqb _ _ (c .if3 .taken)))
-    (λ c. simp (eq-eqb _ _ (c .before .before .if1 .taken), ne-eqb _ _ (c .before .if2 .left), ne-eqb _ _ (c .if3 .left)))
+    (λ c. let b = c .before in
+    simp (eq-eqb _ _ (b .before .if1 .taken), ne-eqb _ _ (b .if2 .left), eq-eqb _ _ (c .if3 .taken)))
+    (λ c. let b = c .before in
+    simp (eq-eqb _ _ (b .before .if1 .taken), ne-eqb _ _ (b .if2 .left), ne-eqb _ _ (c .if3 .left)))
     (λ c. simp (ne-eqb _ _ (c .if1 .left))))
