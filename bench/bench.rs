@@ -151,6 +151,30 @@ fn measure(list: &List, proved: &mut Proved, reference: &mut Till) -> (f64, f64)
     (best as f64 / calls, best_theirs as f64 / calls)
 }
 
+fn line(name: &str, ours: f64, theirs: f64) -> String {
+    format!("{name:20} {ours:9.0} ns {theirs:9.0} ns  ratio {:4.2}", ours / theirs)
+}
+
+/// Several lists as one line.
+#[derive(Default)]
+struct Together {
+    ours: f64,
+    theirs: f64,
+}
+
+impl Together {
+    fn add(&mut self, ours: f64, theirs: f64) {
+        self.ours += ours;
+        self.theirs += theirs;
+    }
+
+    fn print(&self, name: &str) {
+        if self.theirs > 0.0 {
+            println!("{}", line(name, self.ours, self.theirs));
+        }
+    }
+}
+
 fn main() {
     let mut proved = Box::new(Proved { block: [0; 7548], scratch: [0; 1536] });
     let mut reference = Box::new(Till::new());
@@ -162,18 +186,20 @@ fn main() {
         println!("{}", list.timed());
         return;
     }
-    let (mut mix, mut mix_theirs) = (0.0, 0.0);
+    let (mut mix, mut refused) = (Together::default(), Together::default());
     for word in words {
         let list = list(&word);
         let (ours, theirs) = measure(&list, &mut proved, &mut reference);
         if list.name.starts_with("mix") {
-            mix += ours * list.timed() as f64;
-            mix_theirs += theirs * list.timed() as f64;
-        } else {
-            println!("{:22} {:5} sheets {ours:7.0} ns {theirs:7.0} ns  ratio {:4.2}", list.name, list.timed(), ours / theirs);
+            let sheets = list.timed() as f64;
+            mix.add(ours * sheets, theirs * sheets);
+            continue;
+        }
+        println!("{}", line(&list.name, ours, theirs));
+        if list.name.starts_with("refused") {
+            refused.add(ours, theirs);
         }
     }
-    if mix_theirs > 0.0 {
-        println!("{:22} ratio {:4.2}", "mix", mix / mix_theirs);
-    }
+    refused.print("refused_each_once");
+    mix.print("mix");
 }
