@@ -133,6 +133,9 @@ putGap l i = set l (1404 + i * 5 + 1) 2
 
 -- Hints
 
--- the credential of serial s may stand in row i
+-- the row where the credential of serial s may stand: a guess, of which nothing is known
+unfoldable pub hintAt : List ℕ → ℕ → ℕ
+hintAt l s = getD l (6524 + s % 1024) 0
+
 unfoldable pub putHint : List ℕ → ℕ → ℕ → List ℕ
 putHint l s i = set l (6524 + s % 1024) i

@@ -10,7 +10,8 @@ ghost use Rattle.logic.specs.Formula.{bit};
 ghost use Rattle.cells.specs.Layout.{lineCount, liveCount, nextSerial, rowCount};
 ghost use Rattle.cells.specs.Layout.{putLineCount, putLiveCount, putNext, putRowCount};
 ghost use Rattle.cells.specs.Layout.{rowFrom, lineCell, sizeAt, plainAt, putLine};
-ghost use Rattle.cells.specs.Layout.{kindFrom, kindNumber, credentialAt, gapAt, putCredential, putGap, putHint};
+ghost use Rattle.cells.specs.Layout.{kindFrom, kindNumber, credentialAt, gapAt, putCredential, putGap};
+ghost use Rattle.cells.specs.Layout.{hintAt, putHint};
 
 pub type Store = [u32; 7548];
 
@@ -194,7 +195,9 @@ pub fn put_credential(store: &mut Store, i: u32, c: Credential)
 }
 
 // The row where the credential of a serial may stand: any number may be answered.
-pub fn hint(store: &Store, serial: u32) -> u32 {
+pub fn hint(store: &Store, serial: u32) -> u32
+    ensures { λ r. ⌜ r ≡ hintAt (now (store .entry)) serial ⌝ }
+{
     store[HINTS + (serial % 1024) as usize]
 }
 
