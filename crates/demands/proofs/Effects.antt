@@ -26,20 +26,13 @@ use Rattle.demands.proofs.Demand1.{call-accepts}
 abbrev Found : Bool → Option Credential → Option Credential → Option Credential
 Found b x y = elim b as (λ z. Option Credential) [ true ↦ x | false ↦ y ]
 
--- a serial below all, and above all
+-- a serial below all
 find-rising : (lo : ℕ) (cs : List Credential) (m : ℕ) → m ≤ lo → Rises lo cs → find cs m ≡ none
 unfolding find
 find-rising lo [] m le r = refl
 find-rising lo (c ∷ cs) m le r =
     let l = r .0 in
     rw (ne-eqb (c .serial) m (λ e. omega arith), find) (find-rising (c .serial) cs m (omega arith) (r .1))
-
-find-below : (n : ℕ) (cs : List Credential) (m : ℕ) → n ≤ m → Below n cs → find cs m ≡ none
-unfolding find
-find-below n [] m le b = refl
-find-below n (c ∷ cs) m le b =
-    let l = b .0 in
-    rw (ne-eqb (c .serial) m (λ e. omega arith), find) (find-below n cs m le (b .1))
 
 -- one credential more, with a serial above all
 find-snoc : (n : ℕ) (cs : List Credential) (c : Credential) (m : ℕ) → c .serial ≡ n → Below n cs

@@ -2,7 +2,7 @@
 use mathlib.Core.Path.{_≡_, refl, sym, ap, _∙_}
 use mathlib.Core.List.{List, [], _∷_}
 use mathlib.Core.Option.{Option, none, some}
-use mathlib.Core.Bool.{Bool, true, false, _||_}
+use mathlib.Core.Bool.{Bool, true, false, _||_, or-false}
 use mathlib.Core.Logic.{inl, inr}
 use Prim.Native.Nat.{ℕ, _+_, _≤_, _<_}
 use native.Mathlib.Omega.{arith}
@@ -21,7 +21,7 @@ use Rattle.ledger.specs.Checks.{any}
 use Rattle.logic.specs.Choice.{pick}
 use Rattle.numbers.specs.Field.{fieldTo}
 use Rattle.forms.specs.Line.{readLine, row, oneField, twoFields, atFields, supersetFields, rowed}
-use Rattle.numbers.proofs.Then.{then-then, then-same, then-pair, or-false}
+use Rattle.numbers.proofs.Then.{then-then, then-same, then-pair}
 use Rattle.numbers.proofs.Bytes.{here2}
 use Rattle.forms.proofs.Cut.{whole-none}
 use Rattle.forms.proofs.Shapes.{Shape, number-shape, interval-shape, both-last}

@@ -39,10 +39,6 @@ module _ {A B : Type 0} (read : List ℕ → Option A) (k : A → Reader B) wher
   unfolding _>>=_ andThen
   after-none e b = stop-none _ (λ ts. whole-none _ ts refl) e b
 
-  after-some : (a : A) (e : ℕ) (b : List ℕ) → after (some a) e b ≡ atStop e (k a) b
-  unfolding _>>=_ andThen
-  after-some a e b = refl
-
   line-next : (b : List ℕ) → readLine (next read >>= k) b ≡ andThen (cut b) (λ p. after (read (p .0)) (p .1) (p .2))
   unfolding next _>>=_
   line-next b = line-cut (next read >>= k) b

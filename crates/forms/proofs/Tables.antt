@@ -40,9 +40,6 @@ inside-both x xs h = by-test (ends x) (λ e. no-truth (rw e at h)) (λ e. (e, rw
 apart : (x c : ℕ) → ends x ≡ false → Stop c → x ≡ c → ⊥
 apart x c e h q = no-truth (sym e ∙ ap ends q ∙ h)
 
-same-end : (x c : ℕ) → eqb x c ≡ pick (eqb x c) true false
-same-end x c = by-test (eqb x c) (λ e. rw e) (λ e. rw e)
-
 -- what follows a word and the byte c, by the first field
 abbrev rested : List ℕ → ℕ → List ℕ × ℕ × List ℕ → Option (List ℕ)
 rested w c p = pick (sameBytes (p .0) w && eqb (p .1) c) (some (p .2)) none

@@ -54,10 +54,6 @@ pub not-true : (b : Bool) → b ≡ true → not b ≡ false
 not-true true e = refl
 not-true false e = absurd (no-truth e)
 
-pub not-false : (b : Bool) → b ≡ false → not b ≡ true
-not-false true e = absurd (no-truth (sym e))
-not-false false e = refl
-
 -- a request that is read, by its checks
 
 pub handle-fails : (t : Ledger) (r : Request) {n k : ℕ}

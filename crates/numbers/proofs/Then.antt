@@ -1,7 +1,7 @@
 -- Options: going on with what was read.
 use mathlib.Core.Path.{_≡_, refl, sym, ap, _∙_}
 use mathlib.Core.Option.{Option, none, some}
-use mathlib.Core.Bool.{Bool, true, false, _||_}
+use mathlib.Core.Bool.{Bool, true, false}
 use Rattle.request.specs.Text.{andThen}
 use Rattle.request.proofs.Gives.{Gives, nothing, just}
 
@@ -58,11 +58,3 @@ then-some k e = rw (e, andThen)
 pub then-no : {A B : Type 0} {o : Option A} (k : A → Option B) → o ≡ none → andThen o k ≡ none
 unfolding andThen
 then-no k e = rw (e, andThen)
-
-pub or-false : (b : Bool) → (b || false) ≡ b
-or-false true = refl
-or-false false = refl
-
-pub or-true : (b : Bool) → (b || true) ≡ true
-or-true true = refl
-or-true false = refl

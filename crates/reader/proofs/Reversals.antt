@@ -1,7 +1,7 @@
 -- Which intervals of steps are reversed, by their rows.
 use mathlib.Core.Path.{_≡_, refl, sym, ap, subst, _∙_}
 use mathlib.Core.List.{List, [], _∷_, _++_, append-assoc, append-nil}
-use mathlib.Core.Bool.{Bool, _||_}
+use mathlib.Core.Bool.{Bool, _||_, or-false, or-true}
 use Prim.Native.Nat.{ℕ, zero, suc, _+_, _≤_, _<_}
 use native.Mathlib.Omega.{arith}
 use native.Mathlib.Nat.{add-zero}
@@ -16,7 +16,7 @@ use Rattle.ledger.specs.Checks.{any}
 use Rattle.tables.specs.declared.StepRow.{StepRow}
 use Rattle.tables.specs.Lines.{makers, implies, stepOf}
 use Rattle.logic.specs.Choice.{pick}
-use Rattle.numbers.proofs.Then.{by-test, or-false, or-true}
+use Rattle.numbers.proofs.Then.{by-test}
 use Rattle.reader.specs.Booking.{turned}
 
 any-append : {A : Type 0} (f : A → Bool) (xs ys : List A) → any f (xs ++ ys) ≡ (any f xs || any f ys)

@@ -12,7 +12,7 @@ use lib.Seq.{take-suc-set}
 use borrow.Author.Tests.{ne-eqb}
 use Rattle.request.specs.Text.{andThen, lines}
 use Rattle.request.specs.Reader.{Reader, return, _>>=_, many, whole, ended, line}
-use Rattle.request.specs.Request.{Step, Request, book}
+use Rattle.request.specs.Request.{Step, Request}
 use Rattle.request.specs.Read.{rest, holdLine, stepLine, booking}
 use Rattle.reader.specs.declared.Head.{Head}
 use Rattle.logic.specs.Choice.{pick}

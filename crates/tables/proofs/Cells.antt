@@ -26,16 +26,3 @@ inside l b (v ∷ vs) (suc f) h k =
     let e : b + suc f ≡ suc b + f = omega arith in
     ap (λ (i : ℕ). getD (sets (set l b v) (suc b) vs) i 0) e
     ∙ inside (set l b v) (suc b) vs f (omega arith) (omega (arith, length-set l b v))
-
--- the indices that straight-line code writes, as `sets` has them
-pub add-two : (b : ℕ) → b + 2 ≡ suc (suc b)
-add-two b = omega arith
-
-pub add-three : (b : ℕ) → b + 3 ≡ suc (suc (suc b))
-add-three b = omega arith
-
-pub add-four : (b : ℕ) → b + 4 ≡ suc (suc (suc (suc b)))
-add-four b = omega arith
-
-pub add-five : (b : ℕ) → b + 5 ≡ suc (suc (suc (suc (suc b))))
-add-five b = omega arith

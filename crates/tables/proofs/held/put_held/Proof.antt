@@ -1,6 +1,5 @@
-use native.Mathlib.Numerals.{add-one}
+use native.Mathlib.Numerals.{add-one, add-two}
 use Rattle.tables.specs.Held.{putHeld}
-use Rattle.tables.proofs.Cells.{add-two}
 use borrow.Author.Needs.{needs}
 use Rattle.tables.proofs.held.put_held.Statement.{statement}
 use Rattle.tables.proofs.held.put_held.Tie as tie

@@ -1,6 +1,5 @@
-use native.Mathlib.Numerals.{add-one}
+use native.Mathlib.Numerals.{add-one, add-two, add-three, add-four, add-five}
 use Rattle.tables.specs.Lines.{putStepRow}
-use Rattle.tables.proofs.Cells.{add-two, add-three, add-four, add-five}
 use borrow.Author.Needs.{needs}
 use Rattle.tables.proofs.lines.put_step.Statement.{statement}
 use Rattle.tables.proofs.lines.put_step.Tie as tie
