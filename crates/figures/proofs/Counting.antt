@@ -18,12 +18,12 @@ use Rattle.ledger.proofs.Tables.{lineAt}
 use Rattle.cells.specs.Layout.{rowAt}
 use Rattle.store.specs.Store.{ledgerOf, Good}
 use Rattle.store.proofs.Views.{row-is}
-use Rattle.figures.specs.Rows.{partsOf, both, atomOf, atomBoth, bothRow}
-use Rattle.figures.specs.Column.{entry, early}
-use Rattle.figures.specs.Figures.{Blank, Counted, Countable}
-use Rattle.figures.proofs.Rows.{parts-row, both-row}
-use Rattle.figures.proofs.Limits.{both-le}
-use Rattle.figures.proofs.Columns.{column-start, column-next, early-small}
+use Rattle.columns.specs.Rows.{partsOf, both, atomOf, atomBoth, bothRow}
+use Rattle.columns.specs.Column.{entry, early, Countable}
+use Rattle.figures.specs.Figures.{Blank, Counted}
+use Rattle.columns.proofs.Rows.{parts-row, both-row}
+use Rattle.columns.proofs.Limits.{both-le}
+use Rattle.columns.proofs.Columns.{column-start, column-next, early-small}
 
 sum-zero : (f : ℕ → ℕ) → ((k : ℕ) → f k ≡ 0) → (ns : List ℕ) → sum f ns ≡ 0
 unfolding sum

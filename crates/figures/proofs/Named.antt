@@ -19,11 +19,11 @@ use Rattle.ledger.specs.Checks.{any, missing}
 use Rattle.ledger.proofs.Credentials.{any-none}
 use Rattle.ledger.proofs.Tables.{There}
 use Rattle.store.specs.Store.{lineOf, ledgerOf, Canonical}
-use Rattle.figures.specs.Rows.{among, plains, partsOf, sizeRow, plainRow}
-use Rattle.figures.specs.declared.parts.Parts.{Parts}
-use Rattle.figures.specs.Parts.{numbers}
+use Rattle.columns.specs.Rows.{among, plains, partsOf, sizeRow, plainRow}
+use Rattle.columns.specs.declared.parts.Parts.{Parts}
+use Rattle.columns.specs.Parts.{numbers}
 use Rattle.figures.specs.Figures.{Formable}
-use Rattle.figures.proofs.Rows.{parts-row, size-row, plain-row}
+use Rattle.columns.proofs.Rows.{parts-row, size-row, plain-row}
 
 there-not : (i n : ℕ) → ltb i n ≡ not (leb n i)
 there-not i n = go (decLt i n)

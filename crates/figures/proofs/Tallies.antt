@@ -22,11 +22,11 @@ use Rattle.store.specs.Tab.{tab}
 use Rattle.store.specs.Store.{ledgerOf, Good}
 use Rattle.store.proofs.Tabs.{length-tab, tab-snoc}
 use Rattle.store.proofs.Live.{live-sum}
-use Rattle.figures.specs.Rows.{both}
-use Rattle.figures.specs.Column.{entry}
+use Rattle.columns.specs.Rows.{both}
+use Rattle.columns.specs.Column.{entry}
 use Rattle.figures.specs.Figures.{Counted}
-use Rattle.figures.proofs.Columns.{early-all}
-use Rattle.figures.proofs.Limits.{count-le}
+use Rattle.columns.proofs.Columns.{early-all}
+use Rattle.columns.proofs.Limits.{count-le}
 use Rattle.figures.proofs.Counting.{counted-small}
 
 -- Sums

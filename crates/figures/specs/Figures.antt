@@ -1,33 +1,25 @@
 -- What the functions ask and answer.
 use mathlib.Core.Path.{_≡_}
 use mathlib.Core.List.{List}
-use mathlib.Core.Bool.{true, false}
-use Prim.Native.Nat.{ℕ, _*_, _≤_, _<_}
+use mathlib.Core.Bool.{false}
+use Prim.Native.Nat.{ℕ, _≤_, _<_}
 use lib.ListN.{length, replicate}
-use Rattle.logic.specs.Multiset.{Every}
 use Rattle.steps.specs.declared.Row.{Row}
 use Rattle.ledger.specs.Table.{names}
-use Rattle.ledger.specs.Ledger.{formula}
-use Rattle.ledger.specs.Checks.{maxSize, maxFormulas}
+use Rattle.ledger.specs.Checks.{maxFormulas}
 use Rattle.ledger.specs.Calls.{openSeats, shutSeats, placed}
 use Rattle.ledger.proofs.Tables.{There}
 use Rattle.cells.specs.Layout.{rowAt}
 use Rattle.store.specs.Store.{lineOf, ledgerOf, Canonical, Good}
 use Rattle.figures.specs.declared.Figures.{Figures}
-use Rattle.figures.specs.Column.{entry, Column}
-use Rattle.figures.specs.Rows.{partsOf, fairRow, atomOf, both}
+use Rattle.columns.specs.Column.{Column}
+use Rattle.columns.specs.Rows.{atomOf, both}
 
 -- the row of a line whose numbers the store has, so that it stands for a formula
 pub record Formable (l : List ℕ) (r : Row) : Type 0 where
   pub good : Good l
   pub canonical : Canonical r
   pub there : There (ledgerOf l) (names (lineOf r))
-
--- a formula of the ledger, and a row for whose session it weighs 0 and is well weighed, if that is an atom's
-pub record Weighable (l : List ℕ) (n : ℕ) (r : Row) : Type 0 where
-  pub good : Good l
-  pub there : n < length (ledgerOf l .lines)
-  pub passed : fairRow (formula (ledgerOf l) n) r ≡ true
 
 -- nothing written yet
 abbrev pub Blank : List ℕ → Type 0
@@ -41,15 +33,6 @@ pub record NoneBefore (l : List ℕ) (s i : ℕ) : Type 0 where
 -- the seats and the places of session s in the first i formulas
 abbrev pub Counted : List ℕ → ℕ → ℕ → List ℕ → Type 0
 Counted l s i xs = Column (ledgerOf l) (both s) 0 i xs
-
--- a column of these has an entry for each of the numbers, and none above what a formula can have
-pub record Addable (xs ns : List ℕ) : Type 0 where
-  pub long : length xs ≡ maxFormulas
-  pub small : (k : ℕ) → entry xs k ≤ 131073 * maxSize
-  pub there : Every (λ k. k < maxFormulas) ns
-
-abbrev pub Countable : List ℕ → Row → Type 0
-Countable xs r = Addable xs (partsOf r)
 
 pub record Tallied (l : List ℕ) (s m : ℕ) (r : Figures) : Type 0 where
   pub «open» : r .«open» ≡ openSeats (ledgerOf l) s m

@@ -1,4 +1,1 @@
-pub mod Rows
-pub mod Column
-pub mod Parts
 pub mod Figures

@@ -1,30 +1,24 @@
-// What the checks of a request and a tally ask of formulas and credentials: sizes, plain, balanced, and sums of seats
-// and places, each computed row by row from what the store has.
-use column::Column;
+// What the checks of a request and a tally ask of formulas and credentials: sizes, plain, and sums of seats and
+// places, each computed row by row from what the store has.
+use columns::column;
+use columns::column::Column;
+use columns::parts;
+use columns::parts::Parts;
 use logic::Interval;
-use parts::Parts;
 use request::Kind;
 use steps::Row;
 use store::Store;
-
-mod column;
-mod parts;
-mod weight;
-
 ghost use mathlib.Core.Path.{_≡_};
 ghost use mathlib.Core.Bool.{not};
-ghost use Prim.Native.Nat.{_<_};
 ghost use lib.ListN.{length};
 ghost use Rattle.logic.specs.Interval.{has};
 ghost use Rattle.logic.specs.Formula.{size, plain};
-ghost use Rattle.logic.specs.Counts.{balanced as isBalanced};
 ghost use Rattle.ledger.specs.Table.{form, names};
 ghost use Rattle.ledger.specs.Ledger.{formula, byKind};
 ghost use Rattle.ledger.specs.Checks.{any, missing};
 ghost use Rattle.ledger.specs.Calls.{only};
 ghost use Rattle.store.specs.Store.{lineOf, ledgerOf, Canonical, Good};
-ghost use Rattle.figures.specs.Rows.{fairRow};
-ghost use Rattle.figures.specs.Figures.{Formable, Weighable, Blank, NoneBefore, Counted, Tallied};
+ghost use Rattle.figures.specs.Figures.{Formable, Blank, NoneBefore, Counted, Tallied};
 
 // The sums of a tally: "open = seats of the session in coupons whose window has the minute, shut = the other seats,
 // placed = places", over the live linear credentials.
@@ -72,48 +66,6 @@ pub fn row_plain(store: &Store, row: Row) -> bool
         Parts::One(i) => store::plain_at(store, i),
         Parts::Two(i, j) => store::plain_at(store, i) && store::plain_at(store, j),
     }
-}
-
-// Whether formula n weighs 0 and is well weighed for the session of the row, if that is an atom's. Of the row before it
-// this is known.
-fn fair_row(store: &Store, n: u32, before: Row, row: Row) -> bool
-    requires { ⌜ Weighable (now store) n before ⌝ }
-    ensures { λ r. ⌜ r ≡ fairRow (formula (ledgerOf (now (store .entry))) n) row ⌝ }
-{
-    if row.letter == parts::ATOM {
-        if before.letter == parts::ATOM {
-            if before.b == row.b {
-                return true;
-            }
-        }
-        return weight::fair(store, n, row.b);
-    }
-    true
-}
-
-// Whether formula n is balanced. Only sessions of atoms up to its row are tried: for others it weighs 0 and is well
-// weighed.
-pub fn balanced(store: &Store, n: u32) -> bool
-    requires { ⌜ Good (now store) × (n < length (ledgerOf (now store) .lines)) ⌝ }
-    ensures { λ r. ⌜ r ≡ isBalanced (formula (ledgerOf (now (store .entry))) n) ⌝ }
-{
-    let mut before = Row {
-        letter: b'o' as u32,
-        a: 0,
-        b: 0,
-        c: 0,
-        d: 0,
-    };
-    let mut i = 0;
-    while i <= n {
-        let row = store::line_at(store, i);
-        if !fair_row(store, n, before, row) {
-            return false;
-        }
-        before = row;
-        i += 1;
-    }
-    true
 }
 
 // The first row of an atom of the session; formulas before it have none of its seats and places.

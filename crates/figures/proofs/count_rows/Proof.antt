@@ -6,8 +6,9 @@ use borrow.Author.Needs.{needs}
 use lib.ListN.{length}
 use denote.Ref.{now}
 use Rattle.store.specs.Store.{ledgerOf}
-use Rattle.figures.specs.Rows.{bothRow}
-use Rattle.figures.specs.Figures.{Counted, Countable}
+use Rattle.columns.specs.Rows.{bothRow}
+use Rattle.columns.specs.Column.{Countable}
+use Rattle.figures.specs.Figures.{Counted}
 use Rattle.figures.proofs.Counting.{none-counted, countable, counted-next, counted-all}
 use Rattle.figures.proofs.count_rows.Statement.{statement}
 use Rattle.figures.proofs.count_rows.Tie as tie

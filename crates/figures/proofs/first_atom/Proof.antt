@@ -4,7 +4,7 @@ use Prim.Native.Nat.{_-_}
 use native.Mathlib.Omega.{arith}
 use borrow.Author.Count.{below-more}
 use borrow.Author.Needs.{needs}
-use Rattle.figures.specs.Rows.{atomOf}
+use Rattle.columns.specs.Rows.{atomOf}
 use Rattle.figures.specs.Figures.{NoneBefore}
 use Rattle.figures.proofs.first_atom.Statement.{statement}
 use Rattle.figures.proofs.first_atom.Tie as tie

@@ -9,7 +9,7 @@ use Rattle.logic.specs.Counts.{all}
 use Rattle.ledger.specs.Table.{names}
 use Rattle.ledger.specs.Checks.{any, missing}
 use Rattle.store.specs.Store.{lineOf, ledgerOf}
-use Rattle.figures.proofs.Rows.{and-true}
+use Rattle.columns.proofs.Rows.{and-true}
 use Rattle.figures.proofs.Named.{all-below}
 use Rattle.figures.proofs.names_there.Statement.{statement}
 use Rattle.figures.proofs.names_there.Tie as tie

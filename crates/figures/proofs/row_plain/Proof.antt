@@ -11,8 +11,8 @@ use Rattle.ledger.specs.Table.{form}
 use Rattle.ledger.specs.Ledger.{formula}
 use Rattle.ledger.proofs.Tables.{There}
 use Rattle.store.specs.Store.{lineOf, ledgerOf}
-use Rattle.figures.specs.Rows.{among, plains}
-use Rattle.figures.proofs.Rows.{and-true}
+use Rattle.columns.specs.Rows.{among, plains}
+use Rattle.columns.proofs.Rows.{and-true}
 use Rattle.figures.proofs.Named.{other-letter, parts-there, parts-plain}
 use Rattle.figures.proofs.row_plain.Statement.{statement}
 use Rattle.figures.proofs.row_plain.Tie as tie

@@ -1,0 +1,144 @@
+-- The row functions give the values of the formula of a line, over the formulas T of the numbers that it names.
+use mathlib.Core.Path.{_≡_, refl, sym}
+use mathlib.Core.Bool.{Bool, true, false, _&&_}
+use Prim.Native.Nat.{ℕ, _+_, _*_}
+use native.Mathlib.Omega.{arith}
+use lib.Dec.{eqb}
+use borrow.Author.Tests.{eqb-true}
+use Rattle.logic.specs.Choice.{pick}
+use Rattle.logic.specs.Formula.{Formula, size, count, plain, seat, place, bit}
+use Rattle.logic.specs.Counts.{up, down, even, all}
+use Rattle.logic.specs.Multiset.{sum}
+use Rattle.request.specs.Request.{Line}
+use Rattle.ledger.specs.Table.{form, names, rowOf}
+use Rattle.columns.specs.Rows.{partsOf, sizeRow, plainRow, both, atomBoth, bothRow, sideRow, upRow, downRow}
+use Rattle.columns.specs.Rows.{levelRow, evenRow}
+
+pub and-true : (x : Bool) → (x && true) ≡ x
+and-true true = refl
+and-true false = refl
+
+pub and-false : (x : Bool) → (x && false) ≡ false
+and-false true = refl
+and-false false = refl
+
+and-assoc : (x y z : Bool) → ((x && y) && z) ≡ (x && (y && z))
+and-assoc true y z = refl
+and-assoc false y z = refl
+
+pub parts-row : (l : Line) → partsOf (rowOf l) ≡ names l
+unfolding partsOf
+parts-row (Line.atom p s) = refl
+parts-row Line.one = refl
+parts-row (Line.tensor i j) = refl
+parts-row (Line.with i j) = refl
+parts-row (Line.plus i j) = refl
+parts-row (Line.lolli i j) = refl
+parts-row (Line.implies i j) = refl
+parts-row (Line.bang i) = refl
+parts-row (Line.at i w) = refl
+parts-row (Line.says k i) = refl
+parts-row (Line.superset v w) = refl
+
+-- an atom's seats and places
+atom-both : (s p t : ℕ)
+    → bit (eqb p seat && eqb t s) + 131072 * bit (eqb p place && eqb t s) ≡ atomBoth s p t
+atom-both s p t = go (eqb t s) (eqb p seat) (eqb p place) refl refl
+  where
+    go : (a b c : Bool) → eqb p seat ≡ b → eqb p place ≡ c
+        → bit (b && a) + 131072 * bit (c && a) ≡ pick a (pick b 1 (pick c 131072 0)) 0
+    go true true true e f = absurd (omega (arith, eqb-true p seat e, eqb-true p place f))
+    go true true false e f = omega arith
+    go true false true e f = omega arith
+    go true false false e f = omega arith
+    go false true true e f = omega arith
+    go false true false e f = omega arith
+    go false false true e f = omega arith
+    go false false false e f = omega arith
+
+module _ (T : ℕ → Formula) where
+  pub size-row : (l : Line) → size (form T l) ≡ sizeRow (λ k. size (T k)) (rowOf l)
+  unfolding size sizeRow partsOf sum
+  size-row (Line.atom p s) = refl
+  size-row Line.one = refl
+  size-row (Line.tensor i j) = omega arith
+  size-row (Line.with i j) = omega arith
+  size-row (Line.plus i j) = omega arith
+  size-row (Line.lolli i j) = omega arith
+  size-row (Line.implies i j) = omega arith
+  size-row (Line.bang i) = omega arith
+  size-row (Line.at i w) = omega arith
+  size-row (Line.says k i) = omega arith
+  size-row (Line.superset v w) = refl
+
+  pub plain-row : (l : Line) → plain (form T l) ≡ plainRow (λ k. plain (T k)) (rowOf l)
+  unfolding plain plainRow partsOf all
+  plain-row (Line.atom p s) = refl
+  plain-row Line.one = refl
+  plain-row (Line.tensor i j) = sym (simp and-true)
+  plain-row (Line.with i j) = refl
+  plain-row (Line.plus i j) = refl
+  plain-row (Line.lolli i j) = refl
+  plain-row (Line.implies i j) = refl
+  plain-row (Line.bang i) = refl
+  plain-row (Line.at i w) = refl
+  plain-row (Line.says k i) = sym (and-true _)
+  plain-row (Line.superset v w) = refl
+
+  pub both-row : (s : ℕ) (l : Line) → both s (form T l) ≡ bothRow s (λ k. both s (T k)) (rowOf l)
+  unfolding both bothRow count partsOf sum
+  both-row s (Line.atom p t) = atom-both s p t
+  both-row s Line.one = refl
+  both-row s (Line.tensor i j) = omega arith
+  both-row s (Line.with i j) = omega arith
+  both-row s (Line.plus i j) = omega arith
+  both-row s (Line.lolli i j) = omega arith
+  both-row s (Line.implies i j) = omega arith
+  both-row s (Line.bang i) = omega arith
+  both-row s (Line.at i w) = omega arith
+  both-row s (Line.says k i) = omega arith
+  both-row s (Line.superset v w) = refl
+
+  module _ (s : ℕ) where
+    pub up-row : (l : Line) → up s (form T l) ≡ upRow s (λ k. up s (T k)) (λ k. down s (T k)) (rowOf l)
+    unfolding up sideRow
+    up-row (Line.atom p t) = refl
+    up-row Line.one = refl
+    up-row (Line.tensor i j) = refl
+    up-row (Line.with i j) = refl
+    up-row (Line.plus i j) = refl
+    up-row (Line.lolli i j) = refl
+    up-row (Line.implies i j) = refl
+    up-row (Line.bang i) = refl
+    up-row (Line.at i w) = refl
+    up-row (Line.says k i) = refl
+    up-row (Line.superset v w) = refl
+
+    pub down-row : (l : Line) → down s (form T l) ≡ downRow (λ k. up s (T k)) (λ k. down s (T k)) (rowOf l)
+    unfolding up sideRow
+    down-row (Line.atom p t) = refl
+    down-row Line.one = refl
+    down-row (Line.tensor i j) = refl
+    down-row (Line.with i j) = refl
+    down-row (Line.plus i j) = refl
+    down-row (Line.lolli i j) = refl
+    down-row (Line.implies i j) = refl
+    down-row (Line.bang i) = refl
+    down-row (Line.at i w) = refl
+    down-row (Line.says k i) = refl
+    down-row (Line.superset v w) = refl
+
+    pub even-row : (l : Line)
+        → even s (form T l) ≡ evenRow (λ k. up s (T k)) (λ k. down s (T k)) (λ k. even s (T k)) (rowOf l)
+    unfolding even evenRow levelRow partsOf all
+    even-row (Line.atom p t) = refl
+    even-row Line.one = refl
+    even-row (Line.tensor i j) = sym (simp and-true)
+    even-row (Line.with i j) = sym (simp (and-true, and-assoc))
+    even-row (Line.plus i j) = sym (simp (and-true, and-assoc))
+    even-row (Line.lolli i j) = sym (simp and-true)
+    even-row (Line.implies i j) = sym (simp (and-true, and-assoc))
+    even-row (Line.bang i) = sym (simp and-true)
+    even-row (Line.at i w) = sym (simp and-true)
+    even-row (Line.says k i) = sym (simp and-true)
+    even-row (Line.superset v w) = refl
