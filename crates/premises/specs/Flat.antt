@@ -7,10 +7,10 @@ use Rattle.logic.specs.Interval.{span}
 use Rattle.steps.specs.declared.Goal.{Goal}
 use Rattle.steps.specs.declared.Goal.the-variants.{Holds, Affirms}
 use Rattle.steps.specs.declared.Sequent.{Sequent}
-use Rattle.checker.specs.declared.flat.Parts.{Parts}
-use Rattle.checker.specs.declared.flat.Outcome.{Outcome}
-use Rattle.checker.specs.declared.flat.Outcome.the-variants.{Done, Stopped}
-use Rattle.checker.specs.Begin.{sequent}
+use Rattle.premises.specs.declared.flat.Parts.{Parts}
+use Rattle.premises.specs.declared.flat.Outcome.{Outcome}
+use Rattle.premises.specs.declared.flat.Outcome.the-variants.{Done, Stopped}
+use Rattle.premises.specs.Begin.{sequent}
 
 abbrev pub goalOf : Bool → ℕ → ℕ → ℕ → ℕ → Goal
 goalOf affirms n from to k = pick affirms (Affirms n (span from to) k) (Holds n (span from to))

@@ -7,7 +7,7 @@ use tables::held;
 ghost use mathlib.Core.Path.{_≡_};
 ghost use Rattle.steps.specs.Check.{begin as beginOf};
 ghost use Rattle.tables.specs.Held.{putHeld};
-ghost use Rattle.checker.specs.Begin.{toldBegun, sequent as sequentOf};
+ghost use Rattle.premises.specs.Begin.{toldBegun, sequent as sequentOf};
 
 // No label is left, or the premise's sequent and the next label.
 pub enum Begun {

@@ -5,8 +5,8 @@ use steps::Goal;
 use steps::Sequent;
 ghost use mathlib.Core.Path.{_≡_};
 ghost use Prim.Native.Nat.{_<_};
-ghost use Rattle.checker.specs.Flat.{sequentOf, ofParts, outcomeOf};
-ghost use Rattle.checker.specs.declared.flat.Outcome.the-variants.{Done, Stopped};
+ghost use Rattle.premises.specs.Flat.{sequentOf, ofParts, outcomeOf};
+ghost use Rattle.premises.specs.declared.flat.Outcome.the-variants.{Done, Stopped};
 
 // The parts of a sequent; the principal is 0 where the goal has none.
 pub struct Parts {

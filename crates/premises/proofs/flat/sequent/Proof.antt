@@ -1,6 +1,6 @@
 use borrow.Author.Needs.{needs}
-use Rattle.checker.proofs.flat.sequent.Statement.{statement}
-use Rattle.checker.proofs.flat.sequent.Tie as tie
+use Rattle.premises.proofs.flat.sequent.Statement.{statement}
+use Rattle.premises.proofs.flat.sequent.Tie as tie
 
 returns : tie.Need-returns
 returns c = simp (c .if1 .taken)

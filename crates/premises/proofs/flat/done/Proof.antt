@@ -1,8 +1,8 @@
 use borrow.Author.Needs.{needs}
 use native.Mathlib.Omega.{arith}
-use Rattle.checker.proofs.Flats.{done-number}
-use Rattle.checker.proofs.flat.done.Statement.{statement}
-use Rattle.checker.proofs.flat.done.Tie as tie
+use Rattle.premises.proofs.Flats.{done-number}
+use Rattle.premises.proofs.flat.done.Statement.{statement}
+use Rattle.premises.proofs.flat.done.Tie as tie
 
 pub done-spec : {M : Type 1} → statement M
 done-spec =

@@ -1,6 +1,6 @@
 use borrow.Author.Needs.{needs}
-use Rattle.checker.proofs.begin.sequent.Statement.{statement}
-use Rattle.checker.proofs.begin.sequent.Tie as tie
+use Rattle.premises.proofs.begin.sequent.Statement.{statement}
+use Rattle.premises.proofs.begin.sequent.Tie as tie
 
 pub sequent-spec : {M : Type 1} → statement M
 sequent-spec =

@@ -1,7 +1,7 @@
 use borrow.Author.Needs.{needs}
-use Rattle.checker.proofs.Flats.{with-goal}
-use Rattle.checker.proofs.flat.parts_of.Statement.{statement}
-use Rattle.checker.proofs.flat.parts_of.Tie as tie
+use Rattle.premises.proofs.Flats.{with-goal}
+use Rattle.premises.proofs.flat.parts_of.Statement.{statement}
+use Rattle.premises.proofs.flat.parts_of.Tie as tie
 
 pub parts-of-spec : {M : Type 1} → statement M
 parts-of-spec =

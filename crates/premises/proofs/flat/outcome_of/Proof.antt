@@ -1,9 +1,9 @@
 use borrow.Author.Needs.{needs}
 use mathlib.Core.Path.{sym}
 use native.Mathlib.Omega.{arith}
-use Rattle.checker.proofs.Flats.{reads-done, reads-stopped}
-use Rattle.checker.proofs.flat.outcome_of.Statement.{statement}
-use Rattle.checker.proofs.flat.outcome_of.Tie as tie
+use Rattle.premises.proofs.Flats.{reads-done, reads-stopped}
+use Rattle.premises.proofs.flat.outcome_of.Statement.{statement}
+use Rattle.premises.proofs.flat.outcome_of.Tie as tie
 
 pub outcome-of-spec : {M : Type 1} → statement M
 outcome-of-spec =

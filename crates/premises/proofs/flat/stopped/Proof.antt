@@ -1,8 +1,8 @@
 use borrow.Author.Needs.{needs}
 use native.Mathlib.Omega.{arith}
-use Rattle.checker.proofs.Flats.{stopped-number}
-use Rattle.checker.proofs.flat.stopped.Statement.{statement}
-use Rattle.checker.proofs.flat.stopped.Tie as tie
+use Rattle.premises.proofs.Flats.{stopped-number}
+use Rattle.premises.proofs.flat.stopped.Statement.{statement}
+use Rattle.premises.proofs.flat.stopped.Tie as tie
 
 pub stopped-spec : {M : Type 1} → statement M
 stopped-spec =

@@ -14,7 +14,7 @@ use Rattle.steps.specs.declared.Premise.{Premise}
 use Rattle.steps.specs.Check.{maxLabels, full, begun, begin}
 use Rattle.steps.specs.Plans.{premise}
 use Rattle.tables.specs.Held.{putHeld}
-use Rattle.checker.specs.Begin.{sequent}
+use Rattle.premises.specs.Begin.{sequent}
 
 module _ (t : List ℕ) (next r : ℕ) (p : Premise) where
   by : {f : Fresh} → p .fresh ≡ f → begin putHeld t next r p ≡ begin putHeld t next r (premise (p .linear) (p .goal) f)

@@ -5,9 +5,9 @@ use native.Mathlib.Omega.{arith}
 use borrow.Author.Tests.{lt-ltb, le-ltb}
 use Rattle.steps.specs.declared.Goal.{Goal}
 use Rattle.steps.specs.declared.Sequent.{Sequent}
-use Rattle.checker.specs.declared.flat.Outcome.the-variants.{Done, Stopped}
-use Rattle.checker.specs.Begin.{sequent}
-use Rattle.checker.specs.Flat.{outcomeOf}
+use Rattle.premises.specs.declared.flat.Outcome.the-variants.{Done, Stopped}
+use Rattle.premises.specs.Begin.{sequent}
+use Rattle.premises.specs.Flat.{outcomeOf}
 
 module _ (m : ℕ) where
   pub reads-done : m / 4294967296 < 2147483648 → outcomeOf m ≡ Done (m / 4294967296) (m % 4294967296)
