@@ -6,10 +6,10 @@ use native.Mathlib.Omega.{arith}
 use denote.Ref.{now}
 use lib.ListN.{length, take}
 use borrow.Author.Needs.{needs}
-use Rattle.tillrun.specs.Sheets.{emptyLine}
-use Rattle.tillrun.proofs.Lines.{any-before, end-first, end-at, end-on, no-end}
-use Rattle.tillrun.proofs.kiosk.sheet_end.Statement.{statement}
-use Rattle.tillrun.proofs.kiosk.sheet_end.Tie as tie
+use Rattle.sheets.specs.Sheets.{emptyLine}
+use Rattle.sheets.proofs.Lines.{any-before, end-first, end-at, end-on, no-end}
+use Rattle.sheets.proofs.sheet_end.Statement.{statement}
+use Rattle.sheets.proofs.sheet_end.Tie as tie
 
 abbrev Inv-loop : tie.InvT-loop
 Inv-loop piece fresh i₀ i = (i < length piece) × (emptyLine fresh (take (i + 1) piece) ≡ false)

@@ -7,8 +7,7 @@ use lib.ListN.{take}
 use Rattle.logic.specs.Multiset.{Every}
 use Rattle.ledger.specs.Ledger.{Ledger}
 use Rattle.ledger.specs.Calls.{answers}
-use Rattle.tillrun.specs.Sheets.{splitFrom, split, oneMore, sheetsOf, emptyLine, lineBegins}
-use Rattle.tillrun.specs.Kiosk.{most}
+use Rattle.sheets.specs.Sheets.{splitFrom, split, oneMore, sheetsOf, emptyLine, lineBegins, most}
 
 -- bytes without an empty line, and those of them that an empty line can follow
 abbrev pub Unparted : List ℕ → Type 0

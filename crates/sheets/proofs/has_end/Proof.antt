@@ -8,10 +8,10 @@ use lib.Dec.{ltb}
 use lib.ListN.{length, take, getD}
 use lib.Seq.{take-all}
 use borrow.Author.Needs.{needs}
-use Rattle.tillrun.specs.Sheets.{emptyLine}
-use Rattle.tillrun.proofs.Lines.{empty-first, ten-few, counted}
-use Rattle.tillrun.proofs.kiosk.has_end.Statement.{statement}
-use Rattle.tillrun.proofs.kiosk.has_end.Tie as tie
+use Rattle.sheets.specs.Sheets.{emptyLine}
+use Rattle.sheets.proofs.Lines.{empty-first, ten-few, counted}
+use Rattle.sheets.proofs.has_end.Statement.{statement}
+use Rattle.sheets.proofs.has_end.Tie as tie
 
 abbrev Inv-loop : tie.InvT-loop
 Inv-loop bytes found₀ i₀ found i =

@@ -9,8 +9,8 @@ use lib.Dec.{eqb, ltb}
 use lib.ListN.{length, take, drop, getD}
 use lib.Seq.{take-all, take-suc, take-add, drop-cons}
 use borrow.Author.Tests.{eqb-true, lt-ltb}
-use Rattle.tillrun.specs.Sheets.{emptyLine, lineBegins}
-use Rattle.tillrun.specs.Kiosk.{EndsAt, NoEnd, BothTen}
+use Rattle.sheets.specs.Sheets.{emptyLine, lineBegins}
+use Rattle.sheets.specs.Ends.{EndsAt, NoEnd, BothTen}
 
 -- Tests
 

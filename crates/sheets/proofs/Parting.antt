@@ -11,12 +11,11 @@ use Rattle.logic.proofs.Multisets.{every-snoc}
 use Rattle.ledger.specs.declared.Answer.{Answer}
 use Rattle.ledger.specs.Calls.{Reply, call, answers}
 use Rattle.numbers.proofs.Then.{by-test}
-use Rattle.tillrun.specs.Sheets.{Split, start, next, splitFrom, oneMore, emptyLine, lineBegins}
-use Rattle.tillrun.specs.Kiosk.{most}
-use Rattle.tillrun.specs.Statements.{Unparted, Sheet, withEmptyLines}
-use Rattle.tillrun.specs.Statements.{ReadBack, AllParts, InPieces, RestSkipped}
-use Rattle.tillrun.proofs.Lines.{left-true, right-true, begins-snoc, empty-snoc}
-use Rattle.tillrun.proofs.Streams.{split-append, cut, kept, ended, run, closes}
+use Rattle.sheets.specs.Sheets.{Split, start, next, splitFrom, oneMore, emptyLine, lineBegins, most}
+use Rattle.sheets.specs.Statements.{Unparted, Sheet, withEmptyLines}
+use Rattle.sheets.specs.Statements.{ReadBack, AllParts, InPieces, RestSkipped}
+use Rattle.sheets.proofs.Lines.{left-true, right-true, begins-snoc, empty-snoc}
+use Rattle.sheets.proofs.Splits.{split-append, cut, kept, ended, run, closes}
 
 in-pieces : InPieces
 in-pieces b c = split-append start b c

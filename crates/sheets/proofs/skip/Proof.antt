@@ -7,11 +7,11 @@ use denote.Ref.{now}
 use lib.ListN.{length, take, drop, length-drop}
 use lib.Seq.{length-take-le}
 use borrow.Author.Needs.{needs}
-use Rattle.tillrun.specs.Sheets.{emptyLine}
-use Rattle.tillrun.specs.Kiosk.{Skipped}
-use Rattle.tillrun.proofs.Lines.{empty-first, skip-on}
-use Rattle.tillrun.proofs.kiosk.skip.Statement.{statement}
-use Rattle.tillrun.proofs.kiosk.skip.Tie as tie
+use Rattle.sheets.specs.Sheets.{emptyLine}
+use Rattle.sheets.specs.Ends.{Skipped}
+use Rattle.sheets.proofs.Lines.{empty-first, skip-on}
+use Rattle.sheets.proofs.skip.Statement.{statement}
+use Rattle.sheets.proofs.skip.Tie as tie
 
 abbrev Inv-loop : tie.InvT-loop
 Inv-loop piece i₀ i = Skipped piece i

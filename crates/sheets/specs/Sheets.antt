@@ -45,3 +45,8 @@ emptyLine fresh (x ∷ xs) = (fresh && eqb x 10) || emptyLine (eqb x 10) xs
 unfoldable pub lineBegins : Bool → List ℕ → Bool
 lineBegins fresh [] = fresh
 lineBegins fresh (x ∷ xs) = lineBegins (eqb x 10) xs
+
+-- One byte more than a sheet may have: of an overlong sheet the rest is skipped, and what is kept is refused with 1
+-- just as the whole.
+abbrev pub most : ℕ
+most = 16385
