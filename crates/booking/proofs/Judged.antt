@@ -29,7 +29,7 @@ use Rattle.tables.proofs.LabelTable.{heldTable, held-good}
 use Rattle.checker.specs.declared.Checked.{Checked}
 use Rattle.checker.specs.declared.Checked.the-variants.{Closed, Stopped}
 use Rattle.checker.specs.Cycle.{toldChecked, Answers}
-use Rattle.checker.specs.Begin.{sequent}
+use Rattle.premises.specs.Begin.{sequent}
 use Rattle.ledger.specs.Checks.{dead}
 use Rattle.ledger.proofs.Credentials.{any-none, held-all}
 use Rattle.tables.proofs.StepRows.{length-from}

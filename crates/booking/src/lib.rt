@@ -22,7 +22,7 @@ ghost use mathlib.Core.Path.{_≡_};
 ghost use mathlib.Core.Bool.{not, _||_};
 ghost use Rattle.logic.specs.Interval.{has, reversed};
 ghost use Rattle.store.specs.Store.{Good};
-ghost use Rattle.checker.specs.Begin.{sequent};
+ghost use Rattle.premises.specs.Begin.{sequent};
 ghost use Rattle.till.specs.Handled.{Handled, Called, fails};
 ghost use Rattle.booking.specs.Booking.{bookingAt, Lent, ReadLines, Bookable, Steppable, Opened};
 

@@ -1,3 +1,1 @@
-pub mod Beginnings
-pub mod Flats
 pub mod Outcomes

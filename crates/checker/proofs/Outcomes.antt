@@ -16,14 +16,14 @@ use Rattle.tables.specs.Held.{heldAt, putHeld}
 use Rattle.tables.specs.declared.StepRow.{StepRow}
 use Rattle.tables.specs.Lines.{stepRowAt, stepOf, stepAt, stepsFrom}
 use Rattle.tables.proofs.StepRows.{length-from}
-use Rattle.checker.specs.declared.begin.Begun.{Begun}
-use Rattle.checker.specs.declared.begin.Begun.the-variants.{Full, Begins}
-use Rattle.checker.specs.declared.flat.Outcome.{Outcome}
-use Rattle.checker.specs.declared.flat.Outcome.the-variants.{Done, Stopped}
+use Rattle.premises.specs.declared.begin.Begun.{Begun}
+use Rattle.premises.specs.declared.begin.Begun.the-variants.{Full, Begins}
+use Rattle.premises.specs.declared.flat.Outcome.{Outcome}
+use Rattle.premises.specs.declared.flat.Outcome.the-variants.{Done, Stopped}
 use Rattle.checker.specs.declared.Rest.{Rest}
 use Rattle.checker.specs.declared.Checked.{Checked}
 use Rattle.checker.specs.declared.Checked.the-variants.{Closed as IsClosed, Stopped as IsStopped}
-use Rattle.checker.specs.Begin.{toldBegun}
+use Rattle.premises.specs.Begin.{toldBegun}
 use Rattle.checker.specs.Cycle.{Setting, linesLeft, told, judge, PremiseChecked, StepChecked, LastLeft}
 use Rattle.checker.specs.Cycle.{FirstIs, FirstChecked, Answers}
 

@@ -11,9 +11,9 @@ use Rattle.steps.specs.Check.{Outcome as Result}
 use Rattle.cells.specs.Layout.{rowAt}
 use Rattle.tables.specs.Held.{heldAt, putHeld}
 use Rattle.tables.specs.Lines.{stepsFrom}
-use Rattle.checker.specs.Flat.{outcomeOf}
-use Rattle.checker.specs.declared.flat.Outcome.{Outcome}
-use Rattle.checker.specs.declared.flat.Outcome.the-variants.{Done, Stopped}
+use Rattle.premises.specs.Flat.{outcomeOf}
+use Rattle.premises.specs.declared.flat.Outcome.{Outcome}
+use Rattle.premises.specs.declared.flat.Outcome.the-variants.{Done, Stopped}
 use Rattle.checker.specs.declared.Rest.{Rest}
 use Rattle.checker.specs.declared.Rest.the-variants.{Ended, Last}
 use Rattle.checker.specs.declared.Checked.{Checked}

@@ -1,23 +1,21 @@
 // The step checker: the premise checker calls the step checker, which calls it for each premise; the step lines left
 // fall.
-use begin::Begun;
-use flat::Outcome;
+use premises::begin;
+use premises::begin::Begun;
+use premises::flat;
+use premises::flat::Outcome;
 use steps::Plan;
 use steps::Premise;
 use steps::Sequent;
 use store::Store;
 use tables::lines;
-
-pub mod begin;
-mod flat;
-
 ghost use mathlib.Core.Path.{_≡_};
 ghost use Prim.Native.Nat.{_≤_};
 ghost use Rattle.steps.specs.Check.{checkOf};
 ghost use Rattle.cells.specs.Layout.{rowAt};
 ghost use Rattle.tables.specs.Held.{heldAt, putHeld};
 ghost use Rattle.tables.specs.Lines.{stepsFrom};
-ghost use Rattle.checker.specs.Flat.{sequentOf, outcomeOf};
+ghost use Rattle.premises.specs.Flat.{sequentOf, outcomeOf};
 ghost use Rattle.checker.specs.Cycle.{Fits, PremiseChecked, FirstChecked, StepChecked, Answers};
 
 // What the steps of a booking come to: they close the sequent, or they are stopped.

@@ -1,4 +1,2 @@
-mod Lines
 mod Streams
 mod Pieces
-mod Parting

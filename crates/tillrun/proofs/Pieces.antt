@@ -14,10 +14,11 @@ use Rattle.print.specs.Printed.{line, printed, longest, Room}
 use Rattle.print.proofs.Writing.{wrote-as}
 use Rattle.tillrun.specs.declared.kiosk.Place.{Place}
 use Rattle.tillrun.specs.declared.kiosk.Taken.{Taken}
-use Rattle.tillrun.specs.Sheets.{splitFrom, split, oneMore}
-use Rattle.tillrun.specs.Kiosk.{most, EndsAt, NoEnd, Kept, Said, Ready, Stands, Took, TookSome}
-use Rattle.tillrun.specs.Kiosk.{Ended, Turned, Going}
-use Rattle.tillrun.proofs.Streams.{cut, stands-kept, stands-ended, said-text}
+use Rattle.sheets.specs.Sheets.{splitFrom, split, oneMore, most}
+use Rattle.sheets.specs.Ends.{EndsAt, NoEnd}
+use Rattle.sheets.proofs.Splits.{cut}
+use Rattle.tillrun.specs.Kiosk.{Kept, Said, Ready, Stands, Took, TookSome, Ended, Turned, Going}
+use Rattle.tillrun.proofs.Streams.{stands-kept, stands-ended, said-text}
 
 -- Bytes that are kept
 

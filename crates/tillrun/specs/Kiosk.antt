@@ -1,53 +1,16 @@
 -- What the program's state stands for: a till, the first bytes of the sheet that has begun, and the text that waits to
 -- be written.
 use mathlib.Core.Path.{_≡_}
-use mathlib.Core.Bool.{Bool, true, false, _&&_}
 use mathlib.Core.List.{List, _++_}
 use Prim.Native.Nat.{ℕ, _+_, _*_, _≤_, _<_}
-use lib.Dec.{eqb}
-use lib.ListN.{length, take, getD}
+use lib.ListN.{length, take}
 use Rattle.ledger.specs.Ledger.{empty}
 use Rattle.store.specs.Store.{ledgerOf, Good, StandsFor}
 use Rattle.ledger.specs.Calls.{told, call, after, answers}
 use Rattle.tillrun.specs.declared.kiosk.Place.{Place}
 use Rattle.tillrun.specs.declared.kiosk.Taken.{Taken}
-use Rattle.tillrun.specs.declared.kiosk.End.{End}
-use Rattle.tillrun.specs.declared.kiosk.End.the-variants.{At, Open}
-use Rattle.tillrun.specs.Sheets.{split, sheetsOf, emptyLine, lineBegins}
+use Rattle.sheets.specs.Sheets.{most, split, sheetsOf}
 use Rattle.print.specs.Printed.{line, printed, longest, Room, Wrote}
-
--- One byte more than a sheet may have: of an overlong sheet the rest is skipped, and what is kept is refused with 1
--- just as the whole.
-abbrev pub most : ℕ
-most = 16385
-
--- The first empty line of the bytes x is their byte e; before them a line begins or not.
-pub record EndsAt (x : List ℕ) (fresh : Bool) (e : ℕ) : Type 0 where
-  pub inside : e < length x
-  pub ten : getD x e 0 ≡ 10
-  pub lines : lineBegins fresh (take e x) ≡ true
-  pub none : emptyLine fresh (take e x) ≡ false
-
--- there is none, and whether a line begins after them
-pub record NoEnd (x : List ℕ) (fresh after : Bool) : Type 0 where
-  pub none : emptyLine fresh x ≡ false
-  pub lines : after ≡ lineBegins fresh x
-
-abbrev pub EndIs : List ℕ → Bool → End → Type 0
-EndIs x fresh (At e) = EndsAt x fresh e
-EndIs x fresh (Open after) = NoEnd x fresh after
-
--- 1 where two bytes are both 10, else 0
-abbrev pub BothTen : ℕ → ℕ → ℕ → Type 0
-BothTen x y r = r ≡ elim (eqb x 10 && eqb y 10) [
-  | true ↦ 1
-  | false ↦ 0
-]
-
--- no empty line stands in the bytes x up to their byte n, where no line begins before them
-pub record Skipped (x : List ℕ) (n : ℕ) : Type 0 where
-  pub inside : n < length x
-  pub none : emptyLine false (take (n + 1) x) ≡ false
 
 -- the bytes x after the first h of k, `most` of them at most
 pub record Kept (k : List ℕ) (h : ℕ) (x k′ : List ℕ) (h′ : ℕ) : Type 0 where

@@ -1,3 +1,1 @@
-pub mod Sheets
 pub mod Kiosk
-pub mod Statements

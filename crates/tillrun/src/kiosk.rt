@@ -1,15 +1,15 @@
-// The sheets of a stream of bytes, each answered where it ends (specs/Sheets.antt).
+// The sheets of a stream of bytes, each answered where it ends (sheets/specs/Sheets.antt).
+use sheets::End;
 use store::Store;
 ghost use mathlib.Core.Path.{_≡_};
-ghost use mathlib.Core.Bool.{false};
 ghost use mathlib.Core.List.{_++_};
 ghost use Prim.Native.Nat.{_+_, _≤_, _<_};
 ghost use lib.ListN.{length, take};
 ghost use Rattle.store.specs.Store.{Good};
 ghost use Rattle.booking.specs.Booking.{Lent};
 ghost use Rattle.print.specs.Printed.{longest, Room};
-ghost use Rattle.tillrun.specs.Sheets.{emptyLine};
-ghost use Rattle.tillrun.specs.Kiosk.{most, BothTen, Skipped, EndIs, Kept, Said, Ready, Took, TookSome, Ended};
+ghost use Rattle.sheets.specs.Sheets.{most};
+ghost use Rattle.tillrun.specs.Kiosk.{Kept, Said, Ready, Took, TookSome, Ended};
 
 // Lent to each call for a booking's step lines.
 pub type Rows = [u32; 1536];
@@ -21,73 +21,10 @@ pub struct Place {
     pub text: usize,
 }
 
-// Where the first empty line stands; or that there is none, and whether a line begins after the bytes.
-enum End {
-    At(usize),
-    Open(bool),
-}
-
 // A place, and how many bytes of the piece are taken.
 struct Taken {
     place: Place,
     bytes: usize,
-}
-
-// 1 if both are byte 10, the second an empty line.
-fn both_ten(x: u8, y: u8) -> u8
-    ensures { λ r. ⌜ BothTen x y r ⌝ }
-{
-    ((x == 10) & (y == 10)) as u8
-}
-
-// Whether an empty line stands in the bytes, where no line begins before them. No byte decides how to go on, so that
-// the compiler compares many at once.
-fn has_end(bytes: &[u8]) -> bool
-    requires { ⌜ (0 < length (now bytes)) × (length (now bytes) ≤ 255) ⌝ }
-    ensures { λ r. ⌜ r ≡ emptyLine false (now (bytes .entry)) ⌝ }
-{
-    let mut found = 0u8;
-    let mut i = 0;
-    while i + 1 < bytes.len() {
-        found += both_ten(bytes[i], bytes[i + 1]);
-        i += 1;
-    }
-    found > 0
-}
-
-// Goes on by 64 bytes as long as no empty line stands in them. The byte after them is looked at twice: a line that ends
-// with one block may be followed by an empty line in the next.
-fn skip(piece: &[u8]) -> usize
-    requires { ⌜ 0 < length (now piece) ⌝ }
-    ensures { λ r. ⌜ Skipped (now (piece .entry)) r ⌝ }
-{
-    let mut i = 0;
-    while i + 64 < piece.len() {
-        let next = i + 65;
-        if has_end(&piece[i..next]) {
-            return i;
-        }
-        i += 64;
-    }
-    i
-}
-
-// Looks for the first empty line: a byte 10 where a line begins.
-fn sheet_end(piece: &[u8], fresh: bool) -> End
-    requires { ⌜ 0 < length (now piece) ⌝ }
-    ensures { λ r. ⌜ EndIs (now (piece .entry)) fresh r ⌝ }
-{
-    if fresh & (piece[0] == 10) {
-        return End::At(0);
-    }
-    let mut i = skip(piece);
-    while i + 1 < piece.len() {
-        if (piece[i] == 10) & (piece[i + 1] == 10) {
-            return End::At(i + 1);
-        }
-        i += 1;
-    }
-    End::Open(piece[i] == 10)
 }
 
 // The bytes after those held, for which there is room.
@@ -163,7 +100,7 @@ fn take_sheet(
         (now (till .exit)) (now (begun .exit)) (now (text .exit)) r ⌝ }
     ensures { λ _. ⌜ Lent (now (rows .exit)) ⌝ }
 {
-    let end = sheet_end(piece, place.fresh);
+    let end = sheets::sheet_end(piece, place.fresh);
     match end {
         End::At(e) => {
             let written = answer_ended(till, rows, begun, text, place, &piece[..e]);

@@ -15,12 +15,12 @@ use Rattle.checker.proofs.+check_first+check_premise+check_step.Lts-che
 use Rattle.checker.proofs.check_step.Reads as step
 use Rattle.checker.proofs.check_step.Kinds as step-kinds
 use Rattle.checker.proofs.+check_first+check_premise+check_step.Lts-check_step as step-lts
-use Rattle.checker.proofs.begin.begin.Reads as begin-reads
-use Rattle.checker.proofs.flat.done.Reads as done-reads
-use Rattle.checker.proofs.flat.outcome_of.Reads as outcome-of-reads
-use Rattle.checker.proofs.flat.parts_of.Reads as parts-of-reads
-use Rattle.checker.proofs.flat.sequent.Reads as sequent-reads
-use Rattle.checker.proofs.flat.stopped.Reads as stopped-reads
+use Rattle.premises.proofs.begin.begin.Reads as begin-reads
+use Rattle.premises.proofs.flat.done.Reads as done-reads
+use Rattle.premises.proofs.flat.outcome_of.Reads as outcome-of-reads
+use Rattle.premises.proofs.flat.parts_of.Reads as parts-of-reads
+use Rattle.premises.proofs.flat.sequent.Reads as sequent-reads
+use Rattle.premises.proofs.flat.stopped.Reads as stopped-reads
 use Rattle.rules.proofs.rule.Reads as rule-reads
 use Rattle.tables.proofs.lines.step_at.Reads as row-reads
 use Rattle.checker.proofs.+check_first+check_premise+check_step.{statement}

@@ -5,7 +5,7 @@ use Prim.Native.Nat.{_+_, _-_, _≤_}
 use native.Mathlib.Omega.{arith}
 use denote.Ref.{now}
 use lib.ListN.{length, take, length-set}
-use Rattle.tillrun.specs.Kiosk.{most}
+use Rattle.sheets.specs.Sheets.{most}
 use Rattle.tillrun.proofs.Pieces.{copy-none, copy-next, copied}
 use Rattle.tillrun.proofs.kiosk.copy.Statement.{statement}
 use Rattle.tillrun.proofs.kiosk.copy.Tie as tie

@@ -4,7 +4,7 @@ use native.Mathlib.Omega.{arith}
 use denote.Ref.{now}
 use lib.Seq.{length-take-le}
 use borrow.Author.Needs.{needs}
-use Rattle.tillrun.specs.Kiosk.{most}
+use Rattle.sheets.specs.Sheets.{most}
 use Rattle.tillrun.proofs.Pieces.{keep-first}
 use Rattle.tillrun.proofs.kiosk.keep.Statement.{statement}
 use Rattle.tillrun.proofs.kiosk.keep.Tie as tie

@@ -3,7 +3,7 @@ use native.Mathlib.Omega.{arith}
 use denote.Ref.{now}
 use lib.Seq.{length-take-le}
 use borrow.Author.Needs.{needs}
-use Rattle.tillrun.specs.Kiosk.{EndsAt}
+use Rattle.sheets.specs.Ends.{EndsAt}
 use Rattle.tillrun.proofs.Pieces.{ready-for, took-ended, took-open}
 use Rattle.tillrun.proofs.kiosk.take_sheet.Statement.{statement}
 use Rattle.tillrun.proofs.kiosk.take_sheet.Tie as tie

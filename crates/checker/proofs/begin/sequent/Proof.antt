@@ -1,8 +1,0 @@
-use borrow.Author.Needs.{needs}
-use Rattle.checker.proofs.begin.sequent.Statement.{statement}
-use Rattle.checker.proofs.begin.sequent.Tie as tie
-
-pub sequent-spec : {M : Type 1} → statement M
-sequent-spec =
-    tie.close
-    (tie.spec (λ c. search needs))

@@ -1,0 +1,70 @@
+// The search for the end of a sheet in the bytes of a stream (specs/Sheets.antt).
+ghost use mathlib.Core.Path.{_≡_};
+ghost use mathlib.Core.Bool.{false};
+ghost use Prim.Native.Nat.{_≤_, _<_};
+ghost use lib.ListN.{length};
+ghost use Rattle.sheets.specs.Sheets.{emptyLine};
+ghost use Rattle.sheets.specs.Ends.{BothTen, Skipped, EndIs};
+
+// Where the first empty line stands; or that there is none, and whether a line begins after the bytes.
+pub enum End {
+    At(usize),
+    Open(bool),
+}
+
+// 1 if both are byte 10, the second an empty line.
+fn both_ten(x: u8, y: u8) -> u8
+    ensures { λ r. ⌜ BothTen x y r ⌝ }
+{
+    ((x == 10) & (y == 10)) as u8
+}
+
+// Whether an empty line stands in the bytes, where no line begins before them. No byte decides how to go on, so that
+// the compiler compares many at once.
+fn has_end(bytes: &[u8]) -> bool
+    requires { ⌜ (0 < length (now bytes)) × (length (now bytes) ≤ 255) ⌝ }
+    ensures { λ r. ⌜ r ≡ emptyLine false (now (bytes .entry)) ⌝ }
+{
+    let mut found = 0u8;
+    let mut i = 0;
+    while i + 1 < bytes.len() {
+        found += both_ten(bytes[i], bytes[i + 1]);
+        i += 1;
+    }
+    found > 0
+}
+
+// Goes on by 64 bytes as long as no empty line stands in them. The byte after them is looked at twice: a line that ends
+// with one block may be followed by an empty line in the next.
+fn skip(piece: &[u8]) -> usize
+    requires { ⌜ 0 < length (now piece) ⌝ }
+    ensures { λ r. ⌜ Skipped (now (piece .entry)) r ⌝ }
+{
+    let mut i = 0;
+    while i + 64 < piece.len() {
+        let next = i + 65;
+        if has_end(&piece[i..next]) {
+            return i;
+        }
+        i += 64;
+    }
+    i
+}
+
+// Looks for the first empty line: a byte 10 where a line begins.
+pub fn sheet_end(piece: &[u8], fresh: bool) -> End
+    requires { ⌜ 0 < length (now piece) ⌝ }
+    ensures { λ r. ⌜ EndIs (now (piece .entry)) fresh r ⌝ }
+{
+    if fresh & (piece[0] == 10) {
+        return End::At(0);
+    }
+    let mut i = skip(piece);
+    while i + 1 < piece.len() {
+        if (piece[i] == 10) & (piece[i + 1] == 10) {
+            return End::At(i + 1);
+        }
+        i += 1;
+    }
+    End::Open(piece[i] == 10)
+}
