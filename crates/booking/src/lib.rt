@@ -16,28 +16,28 @@ use steps::Sequent;
 use store::Store;
 use till::Reply;
 use till::answer;
-use till::tests;
-use till::tests::Verdict;
+use verdicts::Verdict;
 ghost use mathlib.Core.Path.{_≡_};
 ghost use mathlib.Core.Bool.{not, _||_};
 ghost use Rattle.logic.specs.Interval.{has, reversed};
 ghost use Rattle.store.specs.Store.{Good};
 ghost use Rattle.premises.specs.Begin.{sequent};
-ghost use Rattle.till.specs.Handled.{Handled, Called, fails};
+ghost use Rattle.verdicts.specs.Verdicts.{fails};
+ghost use Rattle.till.specs.Handled.{Handled, Called};
 ghost use Rattle.booking.specs.Booking.{bookingAt, Lent, ReadLines, Bookable, Steppable, Opened};
 
 // 3: the goal's interval is reversed, or a step's is.
 fn lines_ordered(interval: Interval, turned: bool) -> Verdict
     ensures { λ r. ⌜ fails r ≡ (reversed interval || turned) ⌝ }
 {
-    tests::tested((interval.to < interval.from) | turned)
+    verdicts::tested((interval.to < interval.from) | turned)
 }
 
 // 30: `now` is not in the goal's interval.
 fn timely(interval: Interval, now: u32) -> Verdict
     ensures { λ r. ⌜ fails r ≡ not (has interval now) ⌝ }
 {
-    tests::tested((now < interval.from) | (interval.to < now))
+    verdicts::tested((now < interval.from) | (interval.to < now))
 }
 
 // The sequent of the first step: the goal from the holds.
@@ -78,11 +78,11 @@ fn book_steps(
     if let Checked::Stopped(number, step) = checked {
         return Answer::Refused(number, step);
     }
-    let room = tests::room(till, sides.singles);
+    let room = verdicts::room(till, sides.singles);
     let Verdict::Passed = room else {
         return Answer::Refused(22, 0);
     };
-    let unused = tests::unused(till);
+    let unused = verdicts::unused(till);
     let Verdict::Passed = unused else {
         return Answer::Refused(23, 0);
     };
@@ -103,7 +103,7 @@ fn book_holds(till: &mut Store, head: Head, serials: &[u32; 32], rows: &[u32; 15
     let Held::Live(sides) = held else {
         return Answer::Refused(24, 0);
     };
-    let once = tests::tested(holds::twice(serials, head.holds));
+    let once = verdicts::tested(holds::twice(serials, head.holds));
     let Verdict::Passed = once else {
         return Answer::Refused(31, 0);
     };
@@ -116,11 +116,11 @@ fn book_read(till: &mut Store, head: Head, serials: &[u32; 32], rows: &[u32; 153
     ensures { λ r. ⌜ Handled (now (till .entry)) (bookingAt head (now (serials .entry)) (now (rows .entry))) r
         (now (till .exit)) ⌝ }
 {
-    let present = tests::present(till, head.formula);
+    let present = verdicts::present(till, head.formula);
     let Verdict::Passed = present else {
         return Answer::Refused(10, 0);
     };
-    let plain = tests::plainly(till, head.formula);
+    let plain = verdicts::plainly(till, head.formula);
     let Verdict::Passed = plain else {
         return Answer::Refused(20, 0);
     };

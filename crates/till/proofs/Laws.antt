@@ -2,21 +2,17 @@
 use mathlib.Core.Path.{_≡_, refl, sym, ap, subst, _∙_}
 use mathlib.Core.List.{List, [], _∷_}
 use mathlib.Core.Option.{none, some}
-use mathlib.Core.Bool.{Bool, true, false, not, _||_}
-use Prim.Native.Nat.{ℕ, _-_, _≤_}
-use lib.Dec.{eqb, leb}
+use mathlib.Core.Bool.{Bool, true, false}
+use Prim.Native.Nat.{ℕ, _-_}
 use lib.ListN.{length}
-use borrow.Author.Tests.{lt-leb, leb-false, ltb-false, ne-eqb}
+use borrow.Author.Tests.{leb-false, ltb-false}
 use native.Mathlib.Omega.{arith}
 use Rattle.logic.specs.declared.Interval.{Interval}
-use Prim.Native.Char.{Char, code}
-use Rattle.logic.specs.Interval.{span, reversed}
+use Rattle.logic.specs.Interval.{reversed}
 use Rattle.request.specs.declared.Kind.{Kind}
 use Rattle.request.specs.declared.Kind.the-variants.{Linear, Unrestricted}
 use Rattle.request.specs.Range.{serial}
-use Rattle.request.specs.Request.{Line, Request, issue, withdraw, tally, lineIntervals, intervals}
-use Rattle.steps.specs.declared.Row.{Row}
-use Rattle.numbers.proofs.Then.{or-false}
+use Rattle.request.specs.Request.{Request, issue, withdraw, tally, intervals}
 use Rattle.ledger.specs.declared.Credential.{Credential}
 use Rattle.ledger.specs.declared.Answer.{Answer}
 use Rattle.ledger.specs.declared.Answer.the-variants.{Accepted, Counted, Refused}
@@ -28,12 +24,11 @@ use Rattle.ledger.proofs.Firsts.{if-false, if-true, skip, hit, handle-fails, ha
 use Rattle.store.specs.declared.Found.the-variants.{At, Nothing}
 use Rattle.cells.specs.Layout.{credentialAt}
 use Rattle.store.proofs.Views.{found-serial}
-use Rattle.store.specs.Store.{lineOf, ledgerOf, Good, StandsFor, Givable, Finds}
-use Rattle.logic.specs.Choice.{pick}
+use Rattle.store.specs.Store.{ledgerOf, Good, StandsFor, Givable, Finds}
 use Rattle.figures.specs.declared.Figures.{Figures}
 use Rattle.figures.specs.Figures.{Tallied}
-use Rattle.till.specs.declared.tests.Verdict.{Verdict}
-use Rattle.till.specs.Handled.{Handled, fails, unfair, unfairNumber, Issuable}
+use Rattle.verdicts.specs.Verdicts.{unfair, unfairNumber}
+use Rattle.till.specs.Handled.{Handled, Issuable}
 
 abbrev IsDone : Answer → Type 0
 IsDone (Accepted n) = Unit {0}
@@ -94,10 +89,6 @@ tally-done l s m f g e =
     tt (record { good = g; ledger = refl })
 
 -- Issue
-
--- no more live than are held
-pub room-free : {m n k : ℕ} → m ≡ n → m ≤ k → false ≡ leb maxLive (n - k)
-room-free {m} {n} {k} e l = sym (lt-leb maxLive (n - k) (omega arith))
 
 -- the checks of an issue, in one list for both kinds
 issue-checks : (t : Ledger) (k : Kind) (n : ℕ) (i : Interval)
@@ -171,50 +162,3 @@ module _ (l : List ℕ) (k : Kind) (n : ℕ) (i : Interval) where
     unused = ltb-false (serial .last) (ledgerOf l .next) u;
     there = leb-false (length (ledgerOf l .lines)) n (p .there);
   }
-
--- a test by its verdict
-pub by-verdict : {v w : Verdict} {b : Bool} → fails v ≡ b → v ≡ w → b ≡ fails w
-by-verdict e g = sym e ∙ ap fails g
-
--- Word
-
--- the intervals of a row's line: of `h` and `g` alone
-pub at-ordered : (x : Row) → x .letter ≡ code "h"
-    → any reversed (lineIntervals (lineOf x)) ≡ reversed (span (x .b) (x .c))
-unfolding any lineOf
-at-ordered x e = rw (e, lineOf) (or-false (reversed (span (x .b) (x .c))))
-
-pub superset-ordered : (x : Row) → x .letter ≡ code "g"
-    → any reversed (lineIntervals (lineOf x)) ≡ (reversed (span (x .a) (x .b)) || reversed (span (x .c) (x .d)))
-unfolding any lineOf
-superset-ordered x e =
-    rw (e, lineOf) (ap (λ (b : Bool). reversed (span (x .a) (x .b)) || b) (or-false (reversed (span (x .c) (x .d)))))
-
--- a line with another letter has none
-without-interval : (x : Row) (b₁ b₂ b₃ b₄ b₅ b₆ b₇ b₈ : Bool)
-    → any reversed (lineIntervals
-    (pick b₁ (Line.atom (x .a) (x .b)) (pick b₂ (Line.tensor (x .a) (x .b)) (pick b₃ (Line.with (x .a) (x .b))
-    (pick b₄ (Line.plus (x .a) (x .b)) (pick b₅ (Line.lolli (x .a) (x .b)) (pick b₆ (Line.implies (x .a) (x .b))
-    (pick b₇ (Line.bang (x .a)) (pick b₈ (Line.says (x .a) (x .b)) Line.one))))))))) ≡ false
-unfolding any
-without-interval x true b₂ b₃ b₄ b₅ b₆ b₇ b₈ = refl
-without-interval x false true b₃ b₄ b₅ b₆ b₇ b₈ = refl
-without-interval x false false true b₄ b₅ b₆ b₇ b₈ = refl
-without-interval x false false false true b₅ b₆ b₇ b₈ = refl
-without-interval x false false false false true b₆ b₇ b₈ = refl
-without-interval x false false false false false true b₇ b₈ = refl
-without-interval x false false false false false false true b₈ = refl
-without-interval x false false false false false false false true = refl
-without-interval x false false false false false false false false = refl
-
-pub others-ordered : (x : Row) → (x .letter ≡ code "h" → ⊥) → (x .letter ≡ code "g" → ⊥)
-    → any reversed (lineIntervals (lineOf x)) ≡ false
-unfolding any lineOf
-others-ordered x h g =
-    let is : Char → Bool = λ c. eqb (x .letter) (code c) in
-    rw (ne-eqb (x .letter) (code "h") h, ne-eqb (x .letter) (code "g") g, lineOf)
-    (without-interval x (is "a") (is "t") (is "w") (is "p") (is "l") (is "u") (is "b") (is "s"))
-
-pub not-not : (b : Bool) → not (not b) ≡ b
-not-not true = refl
-not-not false = refl

@@ -19,10 +19,11 @@ use Rattle.store.specs.Store.{lineOf, ledgerOf, Canonical, Good}
 use Rattle.store.proofs.Lines.{line-of-row, row-canonical}
 use Rattle.reader.specs.declared.First.{First}
 use Rattle.reader.specs.First.{WordIs, FirstIs}
-use Rattle.till.specs.declared.tests.Verdict.{Verdict}
-use Rattle.till.specs.declared.tests.Verdict.the-variants.{Passed}
-use Rattle.till.specs.Handled.{Handled, Called, fails}
-use Rattle.till.proofs.Laws.{by-verdict}
+use Rattle.verdicts.specs.declared.Verdict.{Verdict}
+use Rattle.verdicts.specs.declared.Verdict.the-variants.{Passed}
+use Rattle.verdicts.specs.Verdicts.{fails}
+use Rattle.till.specs.Handled.{Handled, Called}
+use Rattle.verdicts.proofs.Laws.{by-verdict}
 
 module _ (l b : List ℕ) where
   refused : (n : ℕ) → Good l → (e : Reply) → call (ledgerOf l) b ≡ e → e .answer ≡ Refused n 0

@@ -2,15 +2,12 @@
 -- very same numbers.
 use mathlib.Core.Path.{_≡_}
 use mathlib.Core.List.{List}
-use mathlib.Core.Bool.{Bool, true, false, not}
+use mathlib.Core.Bool.{false}
 use Prim.Native.Nat.{ℕ, _≤_}
 use lib.ListN.{length}
 use Rattle.logic.specs.declared.Interval.{Interval}
 use Rattle.logic.specs.Interval.{reversed}
-use Rattle.logic.specs.Formula.{Formula, plain}
-use Rattle.logic.specs.Counts.{balanced}
 use Rattle.request.specs.declared.Kind.{Kind}
-use Rattle.request.specs.declared.Kind.the-variants.{Linear, Unrestricted}
 use Rattle.request.specs.Range.{maxBytes}
 use Rattle.request.specs.Request.{Request}
 use Rattle.request.specs.Read.{requestOf}
@@ -22,30 +19,15 @@ use Rattle.ledger.specs.Calls.{handle, call}
 use Rattle.store.specs.Store.{ledgerOf, Good}
 use Rattle.reader.specs.declared.Head.{Head}
 use Rattle.reader.specs.First.{BookIs}
+use Rattle.verdicts.specs.Verdicts.{unfair}
 use Rattle.till.specs.declared.Reply.{Reply}
 use Rattle.till.specs.declared.Reply.the-variants.{Answered, Booking}
-use Rattle.till.specs.declared.tests.Verdict.{Verdict}
-use Rattle.till.specs.declared.tests.Verdict.the-variants.{Passed, Failed}
 
 pub record Handled (l : List ℕ) (r : Request) (a : Answer) (l′ : List ℕ) : Type 0 where
   pub good : Good l′
   pub answer : a ≡ handle (ledgerOf l) r .answer
   pub ledger : ledgerOf l′ ≡ handle (ledgerOf l) r .ledger
   pub same : (n k : ℕ) → a ≡ Refused n k → l′ ≡ l
-
--- whether a check fails
-abbrev pub fails : Verdict → Bool
-fails Passed = false
-fails Failed = true
-
--- the verdict on an issue's formula: plain for a linear credential (20), balanced for an unrestricted one (21)
-abbrev pub unfair : Kind → Formula → Bool
-unfair Linear a = not (plain a)
-unfair Unrestricted a = not (balanced a)
-
-abbrev pub unfairNumber : Kind → ℕ
-unfairNumber Linear = 20
-unfairNumber Unrestricted = 21
 
 -- an issue that has passed the checks before 22
 pub record Issuable (l : List ℕ) (k : Kind) (n : ℕ) (i : Interval) : Type 0 where

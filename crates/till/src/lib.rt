@@ -7,9 +7,7 @@ use request::Kind;
 use steps::Row;
 use store::Found;
 use store::Store;
-use tests::Verdict;
-
-pub mod tests;
+use verdicts::Verdict;
 
 // What becomes of a sheet: its answer, or the head of a booking.
 pub enum Reply {
@@ -28,11 +26,11 @@ fn issue_fair(till: &mut Store, kind: Kind, formula: u32, interval: Interval) ->
     requires { ⌜ Issuable (now till) kind formula interval ⌝ }
     ensures { λ r. ⌜ Handled (now (till .entry)) (issueRequest kind formula interval) r (now (till .exit)) ⌝ }
 {
-    let room = tests::room(till, 0);
+    let room = verdicts::room(till, 0);
     let Verdict::Passed = room else {
         return Answer::Refused(22, 0);
     };
-    let unused = tests::unused(till);
+    let unused = verdicts::unused(till);
     let Verdict::Passed = unused else {
         return Answer::Refused(23, 0);
     };
@@ -46,17 +44,17 @@ pub fn issue(till: &mut Store, kind: Kind, formula: u32, interval: Interval) -> 
     requires { ⌜ Good (now till) ⌝ }
     ensures { λ r. ⌜ Handled (now (till .entry)) (issueRequest kind formula interval) r (now (till .exit)) ⌝ }
 {
-    let ordered = tests::ordered(interval);
+    let ordered = verdicts::ordered(interval);
     let Verdict::Passed = ordered else {
         return Answer::Refused(3, 0);
     };
-    let present = tests::present(till, formula);
+    let present = verdicts::present(till, formula);
     let Verdict::Passed = present else {
         return Answer::Refused(10, 0);
     };
-    let fair = tests::fair(till, kind, formula);
+    let fair = verdicts::fair(till, kind, formula);
     let Verdict::Passed = fair else {
-        return Answer::Refused(tests::unfair_number(kind), 0);
+        return Answer::Refused(verdicts::unfair_number(kind), 0);
     };
     issue_fair(till, kind, formula, interval)
 }
@@ -66,24 +64,24 @@ fn word(till: &mut Store, row: Row) -> Answer
     requires { ⌜ Good (now till) × Canonical row ⌝ }
     ensures { λ r. ⌜ Handled (now (till .entry)) (wordRequest (lineOf row)) r (now (till .exit)) ⌝ }
 {
-    let ordered = tests::line_ordered(row);
+    let ordered = verdicts::line_ordered(row);
     let Verdict::Passed = ordered else {
         return Answer::Refused(3, 0);
     };
-    let present = tests::names_present(till, row);
+    let present = verdicts::names_present(till, row);
     let Verdict::Passed = present else {
         return Answer::Refused(10, 0);
     };
     let size = figures::row_size(till, row);
-    let small = tests::tested(64 < size);
+    let small = verdicts::tested(64 < size);
     let Verdict::Passed = small else {
         return Answer::Refused(12, 0);
     };
-    let new = tests::tested(store::has_row(till, row));
+    let new = verdicts::tested(store::has_row(till, row));
     let Verdict::Passed = new else {
         return Answer::Refused(13, 0);
     };
-    let free = tests::tested(200 <= store::formula_count(till));
+    let free = verdicts::tested(200 <= store::formula_count(till));
     let Verdict::Passed = free else {
         return Answer::Refused(14, 0);
     };
@@ -120,7 +118,7 @@ pub fn answer(till: &mut Store, sheet: &[u8]) -> Reply
     requires { ⌜ Good (now till) ⌝ }
     ensures { λ r. ⌜ Replied (now (till .entry)) (now (sheet .entry)) r (now (till .exit)) ⌝ }
 {
-    let short = tests::tested(16384 < sheet.len());
+    let short = verdicts::tested(16384 < sheet.len());
     let Verdict::Passed = short else {
         return Reply::Answered(Answer::Refused(1, 0));
     };

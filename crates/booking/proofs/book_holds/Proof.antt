@@ -1,7 +1,7 @@
 -- `book_holds` meets its contract.
 use borrow.Author.Needs.{needs}
 use mathlib.Core.Path.{sym, _∙_}
-use Rattle.till.proofs.Laws.{by-verdict}
+use Rattle.verdicts.proofs.Laws.{by-verdict}
 use Rattle.booking.proofs.Laws.{held-alive, book-dead, book-twice}
 use Rattle.booking.proofs.book_holds.Statement.{statement}
 use Rattle.booking.proofs.book_holds.Tie as tie

@@ -1,6 +1,6 @@
 use denote.Ref.{now}
 use borrow.Author.Needs.{needs}
-use Rattle.till.proofs.Laws.{by-verdict}
+use Rattle.verdicts.proofs.Laws.{by-verdict}
 use Rattle.till.proofs.Sheets.{called-long, called-broken, called-read, read-as, within}
 use Rattle.till.proofs.Sheets.{word-canonical, word-reads}
 use Rattle.till.proofs.answer.Statement.{statement}

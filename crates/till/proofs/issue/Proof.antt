@@ -1,6 +1,7 @@
 use borrow.Author.Tests.{leb-false}
 use borrow.Author.Needs.{needs}
-use Rattle.till.proofs.Laws.{issue-reversed, issue-missing, issue-unfair, by-verdict}
+use Rattle.verdicts.proofs.Laws.{by-verdict}
+use Rattle.till.proofs.Laws.{issue-reversed, issue-missing, issue-unfair}
 use Rattle.till.proofs.issue.Statement.{statement}
 use Rattle.till.proofs.issue.Tie as tie
 

@@ -1,5 +1,6 @@
 use borrow.Author.Needs.{needs}
-use Rattle.till.proofs.Laws.{issue-full, issue-used-up, issue-done, issue-gives, by-verdict}
+use Rattle.verdicts.proofs.Laws.{by-verdict}
+use Rattle.till.proofs.Laws.{issue-full, issue-used-up, issue-done, issue-gives}
 use Rattle.till.proofs.issue_fair.Statement.{statement}
 use Rattle.till.proofs.issue_fair.Tie as tie
 

@@ -4,7 +4,7 @@ use denote.Ref.{now}
 use borrow.Author.Needs.{needs}
 use Rattle.ledger.specs.Checks.{maxFormulas}
 use Rattle.store.specs.Store.{lineOf, ledgerOf}
-use Rattle.till.proofs.Laws.{by-verdict}
+use Rattle.verdicts.proofs.Laws.{by-verdict}
 use Rattle.till.proofs.Words.{names-there, word-reversed, word-missing, word-large, word-known, word-full}
 use Rattle.till.proofs.Words.{word-addable, word-done}
 use Rattle.till.proofs.word.Statement.{statement}

@@ -15,7 +15,7 @@ ghost use Rattle.ledger.specs.Ledger.{formula};
 ghost use Rattle.request.specs.Request.{lineIntervals};
 ghost use Rattle.ledger.specs.Checks.{any, missing, noRoom, usedUp};
 ghost use Rattle.store.specs.Store.{lineOf, ledgerOf, Canonical, Good};
-ghost use Rattle.till.specs.Handled.{fails, unfair, unfairNumber};
+ghost use Rattle.verdicts.specs.Verdicts.{fails, unfair, unfairNumber};
 
 pub enum Verdict {
     Passed,
@@ -41,14 +41,10 @@ pub fn ordered(i: Interval) -> Verdict
 
 // 3: an interval of a formula line is reversed.
 pub fn line_ordered(row: Row) -> Verdict
+    requires { ⌜ Canonical row ⌝ }
     ensures { λ r. ⌜ fails r ≡ any reversed (lineIntervals (lineOf row)) ⌝ }
 {
-    let letter = row.letter;
-    match letter {
-        104 => tested(row.c < row.b),
-        103 => tested((row.b < row.a) | (row.d < row.c)),
-        _ => Verdict::Passed,
-    }
+    tested(forms::formulas::reversed_row(row))
 }
 
 // 10: a named formula is not there.

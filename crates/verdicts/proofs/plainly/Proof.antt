@@ -1,7 +1,7 @@
 use mathlib.Core.Path.{_∙_}
 use borrow.Author.Needs.{needs}
-use Rattle.till.proofs.tests.plainly.Statement.{statement}
-use Rattle.till.proofs.tests.plainly.Tie as tie
+use Rattle.verdicts.proofs.plainly.Statement.{statement}
+use Rattle.verdicts.proofs.plainly.Tie as tie
 
 pub plainly-spec : {M : Type 1} → statement M
 plainly-spec =

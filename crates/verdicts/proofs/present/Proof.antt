@@ -1,7 +1,7 @@
 use mathlib.Core.Path.{_∙_}
 use borrow.Author.Needs.{needs}
-use Rattle.till.proofs.tests.present.Statement.{statement}
-use Rattle.till.proofs.tests.present.Tie as tie
+use Rattle.verdicts.proofs.present.Statement.{statement}
+use Rattle.verdicts.proofs.present.Tie as tie
 
 pub present-spec : {M : Type 1} → statement M
 present-spec =

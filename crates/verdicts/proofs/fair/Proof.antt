@@ -4,9 +4,9 @@ use borrow.Author.Needs.{needs}
 use Rattle.request.specs.declared.Kind.{Kind}
 use Rattle.ledger.specs.Ledger.{formula}
 use Rattle.store.specs.Store.{ledgerOf}
-use Rattle.till.specs.Handled.{unfair}
-use Rattle.till.proofs.tests.fair.Statement.{statement}
-use Rattle.till.proofs.tests.fair.Tie as tie
+use Rattle.verdicts.specs.Verdicts.{unfair}
+use Rattle.verdicts.proofs.fair.Statement.{statement}
+use Rattle.verdicts.proofs.fair.Tie as tie
 
 returns : tie.Need-returns
 returns c =

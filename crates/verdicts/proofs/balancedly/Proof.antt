@@ -1,7 +1,7 @@
 use mathlib.Core.Path.{_∙_}
 use borrow.Author.Needs.{needs}
-use Rattle.till.proofs.tests.balancedly.Statement.{statement}
-use Rattle.till.proofs.tests.balancedly.Tie as tie
+use Rattle.verdicts.proofs.balancedly.Statement.{statement}
+use Rattle.verdicts.proofs.balancedly.Tie as tie
 
 pub balancedly-spec : {M : Type 1} → statement M
 balancedly-spec =

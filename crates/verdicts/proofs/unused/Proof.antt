@@ -1,7 +1,7 @@
 use mathlib.Core.Path.{_∙_}
 use borrow.Author.Needs.{needs}
-use Rattle.till.proofs.tests.unused.Statement.{statement}
-use Rattle.till.proofs.tests.unused.Tie as tie
+use Rattle.verdicts.proofs.unused.Statement.{statement}
+use Rattle.verdicts.proofs.unused.Tie as tie
 
 pub unused-spec : {M : Type 1} → statement M
 unused-spec =

@@ -1,6 +1,6 @@
 use Rattle.logic.specs.Interval.{reversed}
-use Rattle.till.proofs.tests.ordered.Statement.{statement}
-use Rattle.till.proofs.tests.ordered.Tie as tie
+use Rattle.verdicts.proofs.ordered.Statement.{statement}
+use Rattle.verdicts.proofs.ordered.Tie as tie
 
 pub ordered-spec : {M : Type 1} → statement M
 unfolding reversed

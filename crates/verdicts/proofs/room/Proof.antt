@@ -1,8 +1,8 @@
 use mathlib.Core.Path.{_∙_}
-use Rattle.till.proofs.Laws.{room-free}
+use Rattle.verdicts.proofs.Laws.{room-free}
 use borrow.Author.Needs.{needs}
-use Rattle.till.proofs.tests.room.Statement.{statement}
-use Rattle.till.proofs.tests.room.Tie as tie
+use Rattle.verdicts.proofs.room.Statement.{statement}
+use Rattle.verdicts.proofs.room.Tie as tie
 
 pub room-spec : {M : Type 1} → statement M
 room-spec =

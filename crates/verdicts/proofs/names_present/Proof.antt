@@ -1,9 +1,9 @@
 use mathlib.Core.Path.{ap, _∙_}
 use mathlib.Core.Bool.{not}
 use borrow.Author.Needs.{needs}
-use Rattle.till.proofs.Laws.{not-not}
-use Rattle.till.proofs.tests.names_present.Statement.{statement}
-use Rattle.till.proofs.tests.names_present.Tie as tie
+use Rattle.verdicts.proofs.Laws.{not-not}
+use Rattle.verdicts.proofs.names_present.Statement.{statement}
+use Rattle.verdicts.proofs.names_present.Tie as tie
 
 pub names-present-spec : {M : Type 1} → statement M
 names-present-spec =
