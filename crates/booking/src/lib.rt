@@ -24,7 +24,7 @@ ghost use Rattle.store.specs.Store.{Good};
 ghost use Rattle.premises.specs.Begin.{sequent};
 ghost use Rattle.verdicts.specs.Verdicts.{fails};
 ghost use Rattle.till.specs.Handled.{Handled, Called};
-ghost use Rattle.booking.specs.Booking.{bookingAt, Lent, ReadLines, Bookable, Steppable, Opened};
+ghost use Rattle.judging.specs.Booking.{bookingAt, Lent, ReadLines, Bookable, Steppable, Opened};
 
 // 3: the goal's interval is reversed, or a step's is.
 fn lines_ordered(interval: Interval, turned: bool) -> Verdict

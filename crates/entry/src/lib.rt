@@ -4,7 +4,7 @@ use ledger::Answer;
 use store::Store;
 ghost use Rattle.ledger.specs.Ledger.{empty};
 ghost use Rattle.store.specs.Store.{Good, StandsFor};
-ghost use Rattle.booking.specs.Booking.{Lent};
+ghost use Rattle.judging.specs.Booking.{Lent};
 ghost use Rattle.entry.specs.Entered.{Entered};
 
 // Makes the block an empty till.

@@ -6,7 +6,7 @@ ghost use mathlib.Core.List.{_++_};
 ghost use Prim.Native.Nat.{_+_, _≤_, _<_};
 ghost use lib.ListN.{length, take};
 ghost use Rattle.store.specs.Store.{Good};
-ghost use Rattle.booking.specs.Booking.{Lent};
+ghost use Rattle.judging.specs.Booking.{Lent};
 ghost use Rattle.print.specs.Printed.{longest, Room};
 ghost use Rattle.sheets.specs.Sheets.{most};
 ghost use Rattle.tillrun.specs.Kiosk.{Kept, Said, Ready, Took, TookSome, Ended};

@@ -8,7 +8,7 @@ mod kiosk;
 
 ghost use mathlib.Core.Path.{_≡_};
 ghost use lib.ListN.{length};
-ghost use Rattle.booking.specs.Booking.{Lent};
+ghost use Rattle.judging.specs.Booking.{Lent};
 ghost use Rattle.tillrun.specs.Kiosk.{Ready, Turned, Opened};
 
 // A place, whether to go on, and whether the answers could be written.

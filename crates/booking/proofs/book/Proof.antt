@@ -4,8 +4,8 @@ use Prim.Native.Nat.{ℕ}
 use borrow.Author.Needs.{needs}
 use lib.ListN.{length-replicate}
 use Rattle.verdicts.proofs.Laws.{by-verdict}
-use Rattle.booking.proofs.Lines.{holds-asked, steps-asked, holds-broken, no-bytes, steps-broken}
-use Rattle.booking.proofs.Lines.{lines-reversed, lines-handled, any-reversed}
+use Rattle.judging.proofs.Lines.{holds-asked, steps-asked, holds-broken, no-bytes, steps-broken}
+use Rattle.judging.proofs.Lines.{lines-reversed, lines-handled, any-reversed}
 use Rattle.booking.proofs.book.Statement.{statement}
 use Rattle.booking.proofs.book.Tie as tie
 

@@ -2,7 +2,7 @@
 use borrow.Author.Needs.{needs}
 use mathlib.Core.Path.{sym, _∙_}
 use Rattle.verdicts.proofs.Laws.{by-verdict}
-use Rattle.booking.proofs.Laws.{held-alive, book-dead, book-twice}
+use Rattle.judging.proofs.Laws.{held-alive, book-dead, book-twice}
 use Rattle.booking.proofs.book_holds.Statement.{statement}
 use Rattle.booking.proofs.book_holds.Tie as tie
 

@@ -2,7 +2,7 @@
 use borrow.Author.Tests.{leb-false}
 use borrow.Author.Needs.{needs}
 use Rattle.verdicts.proofs.Laws.{by-verdict}
-use Rattle.booking.proofs.Laws.{book-missing, book-unplain, book-untimely}
+use Rattle.judging.proofs.Laws.{book-missing, book-unplain, book-untimely}
 use Rattle.booking.proofs.book_read.Statement.{statement}
 use Rattle.booking.proofs.book_read.Tie as tie
 

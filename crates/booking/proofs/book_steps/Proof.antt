@@ -1,8 +1,8 @@
 -- `book_steps` meets its contract.
 use borrow.Author.Needs.{needs}
 use Rattle.verdicts.proofs.Laws.{by-verdict}
-use Rattle.booking.proofs.Judged.{steps-told}
-use Rattle.booking.proofs.Laws.{book-stopped, book-full, book-used-up, book-spends, book-gives, book-done}
+use Rattle.judging.proofs.Judged.{steps-told}
+use Rattle.judging.proofs.Laws.{book-stopped, book-full, book-used-up, book-spends, book-gives, book-done}
 use Rattle.booking.proofs.book_steps.Statement.{statement}
 use Rattle.booking.proofs.book_steps.Tie as tie
 

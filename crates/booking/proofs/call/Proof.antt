@@ -1,6 +1,6 @@
 -- `call` meets its contract.
 use borrow.Author.Needs.{needs}
-use Rattle.booking.proofs.Lines.{opened, called-after}
+use Rattle.judging.proofs.Lines.{opened, called-after}
 use Rattle.booking.proofs.call.Statement.{statement}
 use Rattle.booking.proofs.call.Tie as tie
 

@@ -1,6 +1,6 @@
 use mathlib.Core.Path.{_∙_}
 use borrow.Author.Needs.{needs}
-use Rattle.booking.proofs.Laws.{untimely}
+use Rattle.judging.proofs.Laws.{untimely}
 use Rattle.booking.proofs.timely.Statement.{statement}
 use Rattle.booking.proofs.timely.Tie as tie
 

@@ -5,7 +5,7 @@ use native.Mathlib.Omega.{arith}
 use lib.ListN.{length}
 use lib.Seq.{length-take-le}
 use borrow.Author.Needs.{needs}
-use Rattle.booking.specs.Booking.{Lent}
+use Rattle.judging.specs.Booking.{Lent}
 use Rattle.tillrun.specs.Kiosk.{Going}
 use Rattle.tillrun.proofs.Pieces.{going-start, going-on, ready-for}
 use Rattle.tillrun.proofs.play.Statement.{statement}

@@ -6,7 +6,7 @@ use denote.Ref.{now}
 use lib.ListN.{length, take}
 use lib.Seq.{length-take-le}
 use borrow.Author.Needs.{needs}
-use Rattle.booking.specs.Booking.{Lent}
+use Rattle.judging.specs.Booking.{Lent}
 use Rattle.tillrun.specs.Kiosk.{Took}
 use Rattle.tillrun.proofs.Pieces.{ready-for, took-none, took-next, took-all, length-rest}
 use Rattle.tillrun.proofs.kiosk.feed.Statement.{statement}

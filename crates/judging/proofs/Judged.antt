@@ -35,8 +35,8 @@ use Rattle.ledger.proofs.Credentials.{any-none, held-all}
 use Rattle.tables.proofs.StepRows.{length-from}
 use Rattle.reader.specs.declared.Head.{Head}
 use Rattle.holds.specs.declared.Sides.{Sides}
-use Rattle.booking.specs.Booking.{Steppable}
-use Rattle.booking.proofs.Same.{Shown, shownOutcome, puts-shown, puts-stay, check-shown}
+use Rattle.judging.specs.Booking.{Steppable}
+use Rattle.judging.proofs.Same.{Shown, shownOutcome, puts-shown, puts-stay, check-shown}
 
 -- what a label stands for in the array, as the definition's table
 writes : (t : List ℕ) (n : ℕ) (h : Hypothesis) → heldTable .Good t → n < maxLabels

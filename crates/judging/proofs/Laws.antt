@@ -32,7 +32,7 @@ use Rattle.holds.specs.declared.Sides.{Sides}
 use Rattle.holds.specs.Holds.{AllHeld, Spendable}
 use Rattle.till.specs.Handled.{Handled}
 use Rattle.till.proofs.Laws.{refused, accepted}
-use Rattle.booking.specs.Booking.{bookingAt, ReadLines, Bookable, Steppable}
+use Rattle.judging.specs.Booking.{bookingAt, ReadLines, Bookable, Steppable}
 
 -- 30, as the code tests it
 pub untimely : (i : Interval) (m : ℕ) → (ltb m (i .from) || ltb (i .to) m) ≡ not (has i m)

@@ -24,7 +24,7 @@ use Rattle.store.specs.Store.{Good}
 use Rattle.till.specs.Handled.{Handled, Called, Pending}
 use Rattle.till.proofs.Laws.{refused}
 use Rattle.till.proofs.Sheets.{called-broken, called-read}
-use Rattle.booking.specs.Booking.{bookingAt, Opened}
+use Rattle.judging.specs.Booking.{bookingAt, Opened}
 
 -- the part of the bytes from a position on, as the code hands it over
 abbrev pub from : List ℕ → ℕ → List ℕ
