@@ -1,8 +1,8 @@
 // The holds of a booking: the credentials (document 01: the coupons) that its hold lines name by serial.
 use ledger::Credential;
+use lookup::Found;
 use request::Kind;
 use steps::Hypothesis;
-use store::Found;
 use store::Store;
 use tables::held::put_held;
 ghost use mathlib.Core.Path.{_≡_};
@@ -83,7 +83,7 @@ pub fn hold_all(till: &Store, serials: &[u32; 32], count: u32, table: &mut [u32;
     let mut singles: u32 = 0;
     let mut k: u32 = 0;
     while k < count {
-        let found = store::find(till, serials[k as usize]);
+        let found = lookup::find(till, serials[k as usize]);
         let Found::At(_, c) = found else {
             return Held::Dead;
         };
@@ -137,7 +137,7 @@ fn spend_one(till: &mut Store, serial: u32)
     ensures { λ _. ⌜ StandsFor (now (till .exit)) (withLive (ledgerOf (now (till .entry)))
         (spent (ledgerOf (now (till .entry)) .live) serial)) ⌝ }
 {
-    let found = store::find(till, serial);
+    let found = lookup::find(till, serial);
     let Found::At(at, c) = found else {
         return;
     };

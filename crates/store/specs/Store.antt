@@ -3,7 +3,7 @@
 use mathlib.Core.Path.{_≡_}
 use mathlib.Core.List.{List}
 use mathlib.Core.Bool.{Bool}
-use mathlib.Core.Option.{Option, none, some}
+use mathlib.Core.Option.{some}
 use Prim.Native.Nat.{ℕ, _≤_, _<_}
 use Prim.Native.Char.{code}
 use lib.Dec.{eqb}
@@ -13,18 +13,15 @@ use Rattle.logic.specs.Formula.{size, plain, bit}
 use Rattle.request.specs.Range.{serial}
 use Rattle.request.specs.Request.{Line}
 use Rattle.steps.specs.declared.Row.{Row}
-use Rattle.ledger.specs.declared.Credential.{Credential}
 use Rattle.ledger.specs.Table.{form, names, rowOf}
-use Rattle.ledger.specs.Ledger.{Ledger, formula, find}
+use Rattle.ledger.specs.Ledger.{Ledger, formula}
 use Rattle.ledger.specs.Checks.{maxSize, maxFormulas, maxLive}
 use Rattle.ledger.proofs.Tables.{There}
 use Rattle.ledger.proofs.Bounds.{Bounded}
-use Rattle.store.specs.declared.Found.{Found}
-use Rattle.store.specs.declared.Found.the-variants.{At, Nothing}
 use Rattle.logic.specs.Choice.{pick}
 use Rattle.store.specs.Tab.{tab, present}
 use Rattle.cells.specs.Layout.{cells, maxRows, lineCount, liveCount, nextSerial, rowCount, rowAt, sizeAt, plainAt}
-use Rattle.cells.specs.Layout.{credentialAt, gapAt, entryAt}
+use Rattle.cells.specs.Layout.{credentialAt, entryAt}
 
 -- the line of a row, by its letter; 1 for any other letter
 unfoldable pub lineOf : Row → Line
@@ -102,20 +99,3 @@ Occupied l i = (i < rowCount l) × (entryAt l i ≡ some (credentialAt l i))
 pub record Compacted (l m : List ℕ) : Type 0 where
   pub stands : StandsFor m (ledgerOf l)
   pub rows : rowCount m ≡ length (ledgerOf l .live)
-
--- what is found in row i
-unfoldable pub foundAt : List ℕ → ℕ → Found
-foundAt l i = pick (gapAt l i) Nothing (At i (credentialAt l i))
-
--- the credential of an answer of `find`, and where it stands
-abbrev pub credentialOf : Found → Option Credential
-credentialOf (At i c) = some c
-credentialOf Nothing = none
-
-abbrev pub Placed : List ℕ → Found → Type 0
-Placed l (At i c) = Occupied l i × (credentialAt l i ≡ c)
-Placed l Nothing = Unit {0}
-
-pub record Finds (l : List ℕ) (n : ℕ) (r : Found) : Type 0 where
-  pub found : credentialOf r ≡ find (ledgerOf l .live) n
-  pub placed : Placed l r

@@ -14,19 +14,12 @@ ghost use Rattle.ledger.specs.Ledger.{empty, formula, withoutSerial};
 ghost use Rattle.ledger.specs.Checks.{any, sameRow};
 ghost use Rattle.ledger.specs.Calls.{withLine, withLive, withCredential};
 ghost use Rattle.cells.specs.Layout.{rowCount, rowAt, credentialAt};
-ghost use Rattle.store.specs.Store.{lineOf, ledgerOf, Good, StandsFor, Addable, Givable, Occupied, Finds};
-ghost use Rattle.store.specs.Store.{foundAt, Compacted};
+ghost use Rattle.store.specs.Store.{lineOf, ledgerOf, Good, StandsFor, Addable, Givable, Occupied, Compacted};
 
 pub type Store = cells::Store;
 
 // the letter of 1
 const ONE: u32 = b'o' as u32;
-
-// What `find` answers: where a live credential (document 01: a coupon) stands, and the credential.
-pub enum Found {
-    At(u32, Credential),
-    Nothing,
-}
 
 // The empty ledger.
 pub fn start(store: &mut Store)
@@ -144,53 +137,6 @@ pub fn credential_at(store: &Store, i: u32) -> Credential
     ensures { λ r. ⌜ r ≡ credentialAt (now (store .entry)) i ⌝ }
 {
     cells::credential(store, i)
-}
-
-// What is found in a row: nothing in a gap.
-fn found_at(store: &Store, i: u32) -> Found
-    requires { ⌜ i < 1024 ⌝ }
-    ensures { λ r. ⌜ r ≡ foundAt (now (store .entry)) i ⌝ }
-{
-    if cells::gap(store, i) {
-        return Found::Nothing;
-    }
-    Found::At(i, cells::credential(store, i))
-}
-
-// The live credential of a serial: serials rise, so half of what is left goes with each look.
-fn find_by_halves(store: &Store, serial: u32) -> Found
-    requires { ⌜ Good (now store) ⌝ }
-    ensures { λ r. ⌜ Finds (now (store .entry)) serial r ⌝ }
-{
-    let mut low = 0;
-    let mut high = cells::row_count(store);
-    while low < high {
-        let middle = (low + high) / 2;
-        let seen = cells::serial(store, middle);
-        if seen == serial {
-            return found_at(store, middle);
-        }
-        if seen < serial {
-            low = middle + 1;
-        } else {
-            high = middle;
-        }
-    }
-    Found::Nothing
-}
-
-// The live credential of a serial: where the hint says, or else by halves.
-pub fn find(store: &Store, serial: u32) -> Found
-    requires { ⌜ Good (now store) ⌝ }
-    ensures { λ r. ⌜ Finds (now (store .entry)) serial r ⌝ }
-{
-    let i = cells::hint(store, serial);
-    if i < cells::row_count(store) {
-        if cells::serial(store, i) == serial {
-            return found_at(store, i);
-        }
-    }
-    find_by_halves(store, serial)
 }
 
 // The credential of a row leaves: the row becomes a gap.

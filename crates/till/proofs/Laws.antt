@@ -21,10 +21,11 @@ use Rattle.ledger.specs.Checks.{_if_, any, maxLive, missing, noRoom, usedUp, ch
 use Rattle.ledger.specs.Calls.{Reply, openSeats, shutSeats, withLive, withCredential, accept}
 use Rattle.ledger.specs.Statements.{Pass, FirstFails}
 use Rattle.ledger.proofs.Firsts.{if-false, if-true, skip, hit, handle-fails, handle-passes}
-use Rattle.store.specs.declared.Found.the-variants.{At, Nothing}
+use Rattle.lookup.specs.declared.Found.the-variants.{At, Nothing}
 use Rattle.cells.specs.Layout.{credentialAt}
-use Rattle.store.proofs.Views.{found-serial}
-use Rattle.store.specs.Store.{ledgerOf, Good, StandsFor, Givable, Finds}
+use Rattle.lookup.proofs.Halves.{found-serial}
+use Rattle.store.specs.Store.{ledgerOf, Good, StandsFor, Givable}
+use Rattle.lookup.specs.Lookup.{Finds}
 use Rattle.figures.specs.declared.Figures.{Figures}
 use Rattle.figures.specs.Figures.{Tallied}
 use Rattle.verdicts.specs.Verdicts.{unfair, unfairNumber}

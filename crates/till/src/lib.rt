@@ -1,11 +1,11 @@
 // The calls (document 01: what the till answers): each checks a request in the paper's order and does what it says.
 use ledger::Answer;
 use logic::Interval;
+use lookup::Found;
 use reader::First;
 use reader::Head;
 use request::Kind;
 use steps::Row;
-use store::Found;
 use store::Store;
 use verdicts::Verdict;
 
@@ -96,7 +96,7 @@ pub fn withdraw(till: &mut Store, serial: u32) -> Answer
     requires { ⌜ Good (now till) ⌝ }
     ensures { λ r. ⌜ Handled (now (till .entry)) (withdrawRequest serial) r (now (till .exit)) ⌝ }
 {
-    let found = store::find(till, serial);
+    let found = lookup::find(till, serial);
     let Found::At(at, c) = found else {
         return Answer::Refused(24, 0);
     };

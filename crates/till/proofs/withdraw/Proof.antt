@@ -1,8 +1,8 @@
 use mathlib.Core.Path.{subst}
 use denote.Ref.{now}
 use borrow.Author.Needs.{needs}
-use Rattle.store.specs.declared.Found.{Found}
-use Rattle.store.specs.Store.{Finds}
+use Rattle.lookup.specs.declared.Found.{Found}
+use Rattle.lookup.specs.Lookup.{Finds}
 use Rattle.till.proofs.Laws.{withdraw-dead, withdraw-done}
 use Rattle.till.proofs.withdraw.Statement.{statement}
 use Rattle.till.proofs.withdraw.Tie as tie

@@ -1,9 +1,9 @@
 -- `found_at` meets its contract: each branch is a side of the test.
 use mathlib.Core.Path.{sym, _∙_}
 use borrow.Author.Needs.{needs}
-use Rattle.store.specs.Store.{foundAt}
-use Rattle.store.proofs.found_at.Statement.{statement}
-use Rattle.store.proofs.found_at.Tie as tie
+use Rattle.lookup.specs.Lookup.{foundAt}
+use Rattle.lookup.proofs.found_at.Statement.{statement}
+use Rattle.lookup.proofs.found_at.Tie as tie
 
 returns : tie.Need-returns
 unfolding foundAt

@@ -2,9 +2,9 @@
 use mathlib.Core.Path.{sym, _∙_}
 use borrow.Author.Needs.{needs}
 use native.Mathlib.Omega.{arith}
-use Rattle.store.proofs.Views.{found-row}
-use Rattle.store.proofs.find.Statement.{statement}
-use Rattle.store.proofs.find.Tie as tie
+use Rattle.lookup.proofs.Halves.{found-row}
+use Rattle.lookup.proofs.find.Statement.{statement}
+use Rattle.lookup.proofs.find.Tie as tie
 
 serial-requires : tie.Need-serial-requires
 serial-requires c κs =

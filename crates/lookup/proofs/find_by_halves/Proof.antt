@@ -3,9 +3,9 @@ use Prim.Native.Nat.{_-_}
 use borrow.Author.Needs.{needs}
 use native.Mathlib.Omega.{arith}
 use mathlib.Core.Path.{sym, _∙_}
-use Rattle.store.proofs.Views.{Halving, first-half, upper-half, lower-half, found-row, found-nothing}
-use Rattle.store.proofs.find_by_halves.Statement.{statement}
-use Rattle.store.proofs.find_by_halves.Tie as tie
+use Rattle.lookup.proofs.Halves.{Halving, first-half, upper-half, lower-half, found-row, found-nothing}
+use Rattle.lookup.proofs.find_by_halves.Statement.{statement}
+use Rattle.lookup.proofs.find_by_halves.Tie as tie
 
 abbrev Inv-loop : tie.InvT-loop
 Inv-loop store serial low₀ high₀ low high = Halving store serial low high

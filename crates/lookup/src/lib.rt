@@ -1,0 +1,60 @@
+// Looking up a live credential by its serial.
+use ledger::Credential;
+use store::Store;
+ghost use mathlib.Core.Path.{_≡_};
+ghost use Prim.Native.Nat.{_<_};
+ghost use Rattle.store.specs.Store.{Good};
+ghost use Rattle.lookup.specs.Lookup.{foundAt, Finds};
+
+// What `find` answers: where a live credential (document 01: a coupon) stands, and the credential.
+pub enum Found {
+    At(u32, Credential),
+    Nothing,
+}
+
+// What is found in a row: nothing in a gap.
+fn found_at(store: &Store, i: u32) -> Found
+    requires { ⌜ i < 1024 ⌝ }
+    ensures { λ r. ⌜ r ≡ foundAt (now (store .entry)) i ⌝ }
+{
+    if cells::gap(store, i) {
+        return Found::Nothing;
+    }
+    Found::At(i, cells::credential(store, i))
+}
+
+// The live credential of a serial: serials rise, so half of what is left goes with each look.
+fn find_by_halves(store: &Store, serial: u32) -> Found
+    requires { ⌜ Good (now store) ⌝ }
+    ensures { λ r. ⌜ Finds (now (store .entry)) serial r ⌝ }
+{
+    let mut low = 0;
+    let mut high = cells::row_count(store);
+    while low < high {
+        let middle = (low + high) / 2;
+        let seen = cells::serial(store, middle);
+        if seen == serial {
+            return found_at(store, middle);
+        }
+        if seen < serial {
+            low = middle + 1;
+        } else {
+            high = middle;
+        }
+    }
+    Found::Nothing
+}
+
+// The live credential of a serial: where the hint says, or else by halves.
+pub fn find(store: &Store, serial: u32) -> Found
+    requires { ⌜ Good (now store) ⌝ }
+    ensures { λ r. ⌜ Finds (now (store .entry)) serial r ⌝ }
+{
+    let i = cells::hint(store, serial);
+    if i < cells::row_count(store) {
+        if cells::serial(store, i) == serial {
+            return found_at(store, i);
+        }
+    }
+    find_by_halves(store, serial)
+}
