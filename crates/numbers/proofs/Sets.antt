@@ -1,67 +1,65 @@
 -- A set of labels, a digit at a time.
-use mathlib.Core.Path.{_≡_, refl, _∙_}
+use mathlib.Core.Path.{_≡_, refl, sym, _∙_}
+use mathlib.Core.Bool.{true, false, _&&_, _||_}
 use mathlib.Core.List.{List, [], _∷_}
 use mathlib.Core.Option.{none, some}
 use Prim.Native.Nat.{ℕ, _+_, _*_, _-_, _^_, _≤_, _<_}
 use native.Mathlib.Omega.{arith}
 use native.Mathlib.Nat.{pow-suc, pow-le-pow-right}
 use native.Mathlib.Numerals.{add-one}
-use lib.Dec.{eqb}
+use lib.Dec.{eqb, leb, ltb}
 use lib.ListN.{length, drop, length-drop}
-use borrow.Author.Tests.{ne-eqb, eqb-true, eqb-false, le-leb, lt-leb}
+use borrow.Author.Tests.{ne-eqb, eqb-true, eqb-false, le-leb, lt-leb, ltb-true, ltb-false}
+use Rattle.logic.proofs.Tests.{no-truth}
 use Rattle.request.specs.Text.{andThen, reads, hexDigit, labelSetIn}
-use Rattle.numbers.specs.Field.{DigitIs, Stop, fieldTo, setIn}
+use Rattle.numbers.specs.Field.{DigitRead, Stop, fieldTo, setIn}
 use Rattle.numbers.proofs.Then.{by-test}
+use Rattle.numbers.proofs.Decimals.{digit-range}
 use Rattle.numbers.proofs.Fields.{field-stop, field-on, field-no, field-same, field-short, digit-inside}
 
 -- Digits
 
-pub hex-low : (x : ℕ) → x < 48 → DigitIs hexDigit 16 x 16
+pub hex-number : (v x : ℕ) → (ltb x 48 || ltb 57 x) ≡ false → DigitRead v x (v * 16 + (x - 48))
 unfolding hexDigit
-hex-low x h = record {
-  is = λ l. absurd (omega arith);
-  no = λ l. rw (lt-leb 48 x h, lt-leb 97 x (omega arith), hexDigit);
-}
+hex-number v x e =
+    let r = digit-range x e in
+    record {
+      digit = x - 48;
+      is = rw (le-leb 48 x (r .0), le-leb x 57 (r .1), hexDigit);
+      below = omega (arith, r);
+      value = refl;
+    }
 
-pub hex-number : (x : ℕ) → 48 ≤ x → x < 58 → DigitIs hexDigit 16 x (x - 48)
-unfolding hexDigit
-hex-number x h k = record {
-  is = λ l. rw (le-leb 48 x h, le-leb x 57 (omega arith), hexDigit);
-  no = λ l. absurd (omega arith);
-}
+pub letter-range : (x : ℕ) → (ltb x 97 || ltb 102 x) ≡ false → (97 ≤ x) × (x ≤ 102)
+letter-range x e =
+    by-test (ltb x 97) (λ h. absurd (no-truth (sym (rw h at e))))
+    (λ h. (ltb-false x 97 h, ltb-false 102 x (rw h at e)))
 
-pub hex-between : (x : ℕ) → 58 ≤ x → x < 97 → DigitIs hexDigit 16 x 16
+pub hex-letter : (v x : ℕ) → (ltb x 97 || ltb 102 x) ≡ false → DigitRead v x (v * 16 + (x - 87))
 unfolding hexDigit
-hex-between x h k = record {
-  is = λ l. absurd (omega arith);
-  no = λ l. rw (le-leb 48 x (omega arith), lt-leb x 57 (omega arith), lt-leb 97 x k, hexDigit);
-}
+hex-letter v x e =
+    let r = letter-range x e in
+    record {
+      digit = x - 87;
+      is = rw (
+        le-leb 48 x (omega (arith, r)),
+        lt-leb x 57 (omega (arith, r)),
+        le-leb 97 x (r .0),
+        le-leb x 102 (r .1),
+        hexDigit,
+      );
+      below = omega (arith, r);
+      value = refl;
+    }
 
-pub hex-letter : (x : ℕ) → 97 ≤ x → x < 103 → DigitIs hexDigit 16 x (x - 87)
+pub hex-none : (x : ℕ) → (ltb x 48 || ltb 57 x) ≡ true → (ltb x 97 || ltb 102 x) ≡ true → hexDigit x ≡ none
 unfolding hexDigit
-hex-letter x h k = record {
-  is = λ l. rw (
-    le-leb 48 x (omega arith),
-    lt-leb x 57 (omega arith),
-    le-leb 97 x h,
-    le-leb x 102 (omega arith),
-    hexDigit,
-  );
-  no = λ l. absurd (omega arith);
-}
-
-pub hex-high : (x : ℕ) → 103 ≤ x → DigitIs hexDigit 16 x 16
-unfolding hexDigit
-hex-high x h = record {
-  is = λ l. absurd (omega arith);
-  no = λ l. rw (
-    le-leb 48 x (omega arith),
-    lt-leb x 57 (omega arith),
-    le-leb 97 x (omega arith),
-    lt-leb x 102 (omega arith),
-    hexDigit,
-  );
-}
+hex-none x e f = rw (range 48 57 x e, range 97 102 x f, hexDigit)
+  where
+    range : (a b x : ℕ) → (ltb x a || ltb b x) ≡ true → (leb a x && leb x b) ≡ false
+    range a b x e =
+        by-test (ltb x a) (λ h. rw (lt-leb a x (ltb-true x a h)))
+        (λ h. rw (le-leb a x (ltb-false x a h), lt-leb x b (ltb-true b x (rw h at e))))
 
 -- Texts
 
@@ -126,7 +124,7 @@ module _ (stop : ℕ) where
 pub hex-below : (k v d : ℕ) → v < 16 ^ k → d < 16 → v * 16 + d < 16 ^ (k + 1)
 hex-below k v d h l = rw (add-one, pow-suc) (omega arith)
 
-pub hex-fits : (k v d : ℕ) → k < 16 → v < 16 ^ k → d < 16 → v * 16 + d < 2 ^ 64
-hex-fits k v d i h l =
-    let m : 16 ^ (k + 1) ≤ 16 ^ 16 = pow-le-pow-right (omega arith) {i = k + 1} {j = 16} (omega arith) in
-    omega (arith, hex-below k v d h l, m)
+pub hex-room : (k v : ℕ) → k < 16 → v < 16 ^ k → v < 1152921504606846976
+hex-room k v i h =
+    let m : 16 ^ k ≤ 16 ^ 15 = pow-le-pow-right (omega arith) {i = k} {j = 15} (omega arith) in
+    omega (arith, m)

@@ -4,7 +4,7 @@ use mathlib.Core.Path.{_≡_}
 use mathlib.Core.List.{List, [], _∷_}
 use mathlib.Core.Option.{Option, none, some}
 use mathlib.Core.Bool.{Bool, true, false, _||_, _&&_}
-use Prim.Native.Nat.{ℕ, _+_, _≤_, _<_}
+use Prim.Native.Nat.{ℕ, _+_, _*_, _≤_, _<_}
 use lib.Dec.{eqb, leb}
 use lib.ListN.{length, drop}
 use Rattle.request.specs.Range.{Range, maxBytes}
@@ -14,6 +14,8 @@ use Rattle.numbers.specs.declared.Decimal.{Decimal}
 use Rattle.numbers.specs.declared.Decimal.the-variants.{Number, Broken as NoNumber}
 use Rattle.numbers.specs.declared.Labels.{Labels}
 use Rattle.numbers.specs.declared.Labels.the-variants.{Set, Broken as NoSet}
+use Rattle.numbers.specs.declared.Digits.{Digits}
+use Rattle.numbers.specs.declared.Digits.the-variants.{Value, Broken as NoDigits}
 use Rattle.numbers.specs.declared.Prefix.{Prefix}
 use Rattle.numbers.specs.declared.Prefix.the-variants.{Past, Absent}
 
@@ -70,10 +72,16 @@ moreIn r v t = andThen (more v t) (within r)
 unfoldable pub setIn : ℕ → ℕ → List ℕ → Option ℕ
 setIn k v t = pick (eqb (k + length t) 16) (reads hexDigit 16 v t) none
 
--- d is the value of the digit x; or x is no digit, and d is no value
-pub record DigitIs (digit : ℕ → Option ℕ) (base x d : ℕ) : Type 0 where
-  pub is : d < base → digit x ≡ some d
-  pub no : base ≤ d → digit x ≡ none
+-- the value of digits once the byte x is read after those of the value v; x may be no digit
+pub record DigitRead (v x w : ℕ) : Type 0 where
+  pub digit : ℕ
+  pub is : hexDigit x ≡ some digit
+  pub below : digit < 16
+  pub value : w ≡ v * 16 + digit
+
+abbrev pub DigitsAre : ℕ → ℕ → Digits → Type 0
+DigitsAre v x (Value w) = DigitRead v x w
+DigitsAre v x NoDigits = hexDigit x ≡ none
 
 -- what the reader of numbers asks: the length of a request, a byte that ends the field, a bound of some digits
 pub record NumberAsked (s : List ℕ) (last stop : ℕ) : Type 0 where

@@ -4,8 +4,8 @@ ghost use Prim.Native.Nat.{_≤_, _<_};
 ghost use lib.ListN.{length, drop};
 ghost use Rattle.request.specs.Range.{maxBytes, _‥_};
 ghost use Rattle.request.specs.Text.{hexDigit, numberIn, labelSetIn};
-ghost use Rattle.numbers.specs.Field.{Stop, DigitIs, NumberAsked, fieldTo, strip, moreIn, decimalOf};
-ghost use Rattle.numbers.specs.Field.{labelsOf, pastOf};
+ghost use Rattle.numbers.specs.Field.{Stop, NumberAsked, fieldTo, strip, moreIn, decimalOf};
+ghost use Rattle.numbers.specs.Field.{DigitsAre, labelsOf, pastOf};
 
 // A number of a range and the position after the byte that ends it.
 pub enum Decimal {
@@ -16,6 +16,12 @@ pub enum Decimal {
 // A set of labels (document 01: a share) and the position after the byte that ends it.
 pub enum Labels {
     Set(u64, u32),
+    Broken,
+}
+
+// The value of the digits read so far.
+enum Digits {
+    Value(u64),
     Broken,
 }
 
@@ -81,23 +87,18 @@ pub fn number(s: &[u8], at: u32, first: u32, last: u32, stop: u8) -> Decimal
     more_digits(s, i + 1, d, first, last, stop)
 }
 
-// The value of a hexadecimal digit, lower case; 16 for any other byte.
-fn hex(b: u8) -> u64
-    ensures { λ r. ⌜ DigitIs hexDigit 16 b r ⌝ }
+// The value of hexadecimal digits, lower case, once the byte b is read after those of the value v.
+fn with_digit(v: u64, b: u8) -> Digits
+    requires { ⌜ v < 1152921504606846976 ⌝ }
+    ensures { λ r. ⌜ DigitsAre v b r ⌝ }
 {
-    if b < 48 {
-        return 16;
+    if (b < 48) | (57 < b) {
+        if (b < 97) | (102 < b) {
+            return Digits::Broken;
+        }
+        return Digits::Value(v * 16 + (b - 87) as u64);
     }
-    if b < 58 {
-        return (b - 48) as u64;
-    }
-    if b < 97 {
-        return 16;
-    }
-    if b < 103 {
-        return (b - 87) as u64;
-    }
-    16
+    Digits::Value(v * 16 + (b - 48) as u64)
 }
 
 // A set of labels (document 01: a share): 16 hexadecimal digits, which the byte `stop` ends.
@@ -112,11 +113,11 @@ pub fn label_set(s: &[u8], at: u32, stop: u8) -> Labels
     let mut v: u64 = 0;
     let mut k: usize = 0;
     while k < 16 {
-        let d = hex(s[from + k]);
-        if 15 < d {
+        let read = with_digit(v, s[from + k]);
+        let Digits::Value(w) = read else {
             return Labels::Broken;
-        }
-        v = v * 16 + d;
+        };
+        v = w;
         k += 1;
     }
     if s[from + 16] != stop {

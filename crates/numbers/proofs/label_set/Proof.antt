@@ -1,5 +1,5 @@
 -- `label_set` meets its contract: each turn takes a digit. Assumes nothing.
-use Prim.Native.Nat.{_+_, _-_, _*_, _^_, _≤_, _<_}
+use Prim.Native.Nat.{_+_, _-_, _^_, _≤_, _<_}
 use mathlib.Core.Path.{_≡_, _∙_, sym}
 use mathlib.Core.List.{_∷_}
 use native.Mathlib.Nat.{add-zero}
@@ -8,10 +8,10 @@ use borrow.Author.Needs.{needs}
 use lib.ListN.{drop, getD}
 use denote.Ref.{now}
 use Rattle.request.specs.Text.{labelSetIn}
-use Rattle.numbers.specs.Field.{fieldTo, setIn}
+use Rattle.numbers.specs.Field.{fieldTo, setIn, DigitRead}
 use Rattle.numbers.proofs.Bytes.{here-on}
 use Rattle.numbers.proofs.Sets.{labels-short, set-start, hex-no, hex-on, set-stop, set-other}
-use Rattle.numbers.proofs.Sets.{hex-below, hex-fits}
+use Rattle.numbers.proofs.Sets.{hex-below, hex-room}
 use Rattle.numbers.proofs.label_set.Statement.{statement}
 use Rattle.numbers.proofs.label_set.Tie as tie
 
@@ -48,14 +48,24 @@ full c =
     let q : l .k ≡ 16 = omega (arith, c .loop-test .left) in
     l .inv .1 .1 ∙ rw (q, here-on (now (a .s)) (a .at) 16 (omega (arith, c .before .before .if1 .left)))
 
--- where a digit was read
-fits :
-    (c : tie.Else2 Inv-loop μ-loop) →
-    let l = c .before .before .before .before .loop in
-    l .v * 16 + c .before .hex .result < 2 ^ 64
-fits c =
-    let t = c .before .before .before in
-    hex-fits _ _ _ (t .loop-test .taken) (t .before .loop .inv .1 .0) (omega (arith, c .if2 .left))
+-- the digit that was read
+digit :
+    (c : tie.After-known-told Inv-loop μ-loop) →
+    let l = c .before .before .before .before .before .before .loop in
+    let a = c .before .before .before .before .before .before .before .before .before .args in
+    DigitRead (l .v) (getD (now (a .s)) (a .at + l .k) 0) (c .before .read .given .0 .0)
+digit c = rw (c .before .read .given .1) at (c .before .before .before .with-digit .ensures)
+
+loop-again : tie.Need-loop-again Inv-loop μ-loop
+loop-again c =
+    let t = c .before .before .before .before .before in
+    let d = digit c in (
+      search needs,
+      (
+        rw (d .value) (hex-below _ _ _ (t .before .loop .inv .1 .0) (d .below)),
+        turn t ∙ rw (d .value) (hex-on _ _ _ _ _ _ (d .is)),
+      ),
+    )
 
 pub label-set-spec : {M : Type 1} → statement M
 label-set-spec =
@@ -68,24 +78,18 @@ label-set-spec =
     (λ c. (search needs, (search needs, rw add-zero (set-start _ _))))
     (λ c. search needs)
     (λ c. search needs)
-    (λ c κs. search needs)
-    (λ c. let t = c .before .before .before in
+    (λ c κs. hex-room _ _ (c .before .loop-test .taken) (c .before .before .loop .inv .1 .0))
+    (λ c. search needs)
+    (λ c. search needs)
+    (λ c. let t = c .before .before .before .before in
     sym (turn t ∙ hex-no _ (t .before .before .before .before .pre .1) _ _ (t .loop-test .taken) _ _
-    (c .before .hex .ensures .no (c .if2 .taken))))
-    (λ c. omega (arith, fits c))
-    (λ c. omega (arith, fits c))
+    (rw (c .enum-told .given .1) at (c .before .before .with-digit .ensures))))
     (λ c. search needs)
     (λ c. search needs)
-    (λ c. let t = c .before .before .before in (
-      search needs,
-      (
-        hex-below _ _ _ (t .before .loop .inv .1 .0) (omega (arith, c .if2 .left)),
-        turn t ∙ hex-on _ _ _ _ _ _ (c .before .hex .ensures .is (omega (arith, c .if2 .left))),
-      ),
-    ))
+    loop-again
     (λ c. search needs)
     (λ c. search needs)
-    (λ c. sym (full (c .before .before) ∙ set-other _ _ _ _ (c .if3 .taken)))
+    (λ c. sym (full (c .before .before) ∙ set-other _ _ _ _ (c .if2 .taken)))
     (λ c. search needs)
     (λ c. let e = c .before .before in
-    sym (full e ∙ set-stop _ (e .before .before .before .before .pre .1) _ _ _ (c .if3 .left))))
+    sym (full e ∙ set-stop _ (e .before .before .before .before .pre .1) _ _ _ (c .if2 .left))))
