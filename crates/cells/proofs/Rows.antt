@@ -1,5 +1,5 @@
 -- What each store of numbers does to what can be read: the laws by which the other proofs go, so that none of them sees
--- an offset. The formula rows and the credential rows do not meet: work on the one leaves the other.
+-- where a table stands. The formula rows and the credential rows do not meet: work on the one leaves the other.
 use mathlib.Core.Path.{_≡_, refl, ap, _∙_}
 use mathlib.Core.List.{List}
 use mathlib.Core.Bool.{Bool, true, false}

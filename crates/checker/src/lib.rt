@@ -1,5 +1,5 @@
-// The step checker: the premise checker calls the step checker, which calls it for each premise; the step lines left
-// fall.
+// The step checker: the premise checker calls the step checker, which calls it for the last premise, and by
+// `check_first` for the first of two; the step lines left fall.
 use premises::begin;
 use premises::begin::Begun;
 use premises::flat;

@@ -21,7 +21,7 @@ pub fn at(column: &Column, n: u32) -> u32
     if n < 200 { column[n as usize] } else { 0 }
 }
 
-// The entry of a formula that the ledger has.
+// The entry of a number below 200.
 pub fn known(column: &Column, n: u32) -> u32
     requires { ⌜ (length (now column) ≡ maxFormulas) × (n < maxFormulas) ⌝ }
     ensures { λ r. ⌜ r ≡ entry (now (column .entry)) n ⌝ }

@@ -1,4 +1,5 @@
--- The live credentials of a store: what another store with the same rows has of them, and sums over them.
+-- The live credentials of a store: none in the empty one, what another store with the same rows has of them, the
+-- formulas they name, and sums over them.
 use mathlib.Core.Path.{_≡_, refl, sym, ap, subst, _∙_}
 use mathlib.Core.List.{List, []}
 use mathlib.Core.Option.{none, some}
@@ -48,7 +49,7 @@ empty-stands l h a b c d =
       ledger = e;
     }
 
--- m has l's formula rows, and t is the ledger of m
+-- m has l's formula rows
 module _ (l m : List ℕ) (g : Good l) (s : SameLines l m) where
   same-lines : ledgerOf m .lines ≡ ledgerOf l .lines
   unfolding ledgerOf

@@ -1,3 +1,4 @@
+-- `lines_ordered` meets its contract.
 use borrow.Author.Needs.{needs}
 use Rattle.logic.specs.Interval.{reversed}
 use Rattle.booking.proofs.lines_ordered.Statement.{statement}

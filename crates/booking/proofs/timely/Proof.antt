@@ -1,3 +1,4 @@
+-- `timely` meets its contract.
 use mathlib.Core.Path.{_∙_}
 use borrow.Author.Needs.{needs}
 use Rattle.judging.proofs.Laws.{untimely}

@@ -1,3 +1,4 @@
+-- `check_first`, `check_premise` and `check_step` meet their contracts; they call each other.
 use Prim.Native.Nat.{ℕ, _<_, _*_, _+_}
 use mathlib.Core.Path.{sym, _∙_}
 use Rattle.checker.proofs.Outcomes.{premise-is, premise-of, step-is, first-is, is-refused, is-closed, is-one}

@@ -1,3 +1,4 @@
+-- `check` meets its contract.
 use mathlib.Core.Path.{sym, _∙_}
 use native.Mathlib.Omega.{arith}
 use Rattle.checker.proofs.Outcomes.{premise-is, premise-of, whole-stops, whole-closes, whole-follows}

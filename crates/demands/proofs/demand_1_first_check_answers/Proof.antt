@@ -1,3 +1,4 @@
+-- `demand_1_first_check_answers` meets its contract.
 use Rattle.demands.proofs.Demand1.{demand-1}
 use Rattle.demands.proofs.demand_1_first_check_answers.Statement.{statement}
 use Rattle.demands.proofs.demand_1_first_check_answers.Tie as tie

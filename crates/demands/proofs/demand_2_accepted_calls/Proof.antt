@@ -1,3 +1,4 @@
+-- `demand_2_accepted_calls` meets its contract.
 use Rattle.demands.proofs.Demand1.{call-accepts}
 use Rattle.demands.proofs.Effects.{effects, serials-once}
 use Rattle.demands.proofs.demand_2_accepted_calls.Statement.{statement}

@@ -1,3 +1,4 @@
+-- `demand_2_completeness` meets its contract.
 use Rattle.demands.proofs.Completeness.{completeness}
 use Rattle.demands.proofs.demand_2_completeness.Statement.{statement}
 use Rattle.demands.proofs.demand_2_completeness.Tie as tie

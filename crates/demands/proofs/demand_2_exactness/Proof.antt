@@ -1,3 +1,4 @@
+-- `demand_2_exactness` meets its contract.
 use Rattle.demands.proofs.Exactness.{exactness}
 use Rattle.demands.proofs.demand_2_exactness.Statement.{statement}
 use Rattle.demands.proofs.demand_2_exactness.Tie as tie

@@ -1,3 +1,4 @@
+-- `demand_2_soundness` meets its contract.
 use Rattle.demands.proofs.Exactness.{soundness}
 use Rattle.demands.proofs.demand_2_soundness.Statement.{statement}
 use Rattle.demands.proofs.demand_2_soundness.Tie as tie

@@ -1,3 +1,4 @@
+-- `demand_3_sums` meets its contract.
 use Rattle.demands.proofs.Demand3.{demand-3}
 use Rattle.demands.proofs.demand_3_sums.Statement.{statement}
 use Rattle.demands.proofs.demand_3_sums.Tie as tie

@@ -1,3 +1,4 @@
+-- `linear_with` meets its contract.
 use borrow.Author.Needs.{needs}
 use Rattle.holds.proofs.linear_with.Statement.{statement}
 use Rattle.holds.proofs.linear_with.Tie as tie

@@ -1,3 +1,4 @@
+-- `unrestricted_with` meets its contract.
 use borrow.Author.Needs.{needs}
 use Rattle.holds.proofs.unrestricted_with.Statement.{statement}
 use Rattle.holds.proofs.unrestricted_with.Tie as tie

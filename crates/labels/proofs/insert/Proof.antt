@@ -1,3 +1,4 @@
+-- `insert` meets its contract.
 use borrow.Author.Needs.{needs}
 use Rattle.labels.proofs.insert.Statement.{statement}
 use Rattle.labels.proofs.insert.Tie as tie

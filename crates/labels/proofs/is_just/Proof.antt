@@ -1,3 +1,4 @@
+-- `is_just` meets its contract.
 use mathlib.Core.Path.{_∙_, ap}
 use mathlib.Core.Bool.{Bool, _&&_}
 use lib.Dec.{eqb}

@@ -1,3 +1,4 @@
+-- `remove` meets its contract.
 use mathlib.Core.Path.{_∙_}
 use borrow.Author.Needs.{needs}
 use Rattle.labels.proofs.remove.Statement.{statement}

@@ -1,3 +1,4 @@
+-- `without` meets its contract.
 use borrow.Author.Needs.{needs}
 use lib.Bits.{and-le-l, and-le-r}
 use Rattle.labels.proofs.without.Statement.{statement}

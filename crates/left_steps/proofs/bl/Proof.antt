@@ -1,3 +1,4 @@
+-- `bl` meets its contract.
 use mathlib.Core.Path.{_∙_}
 use borrow.Author.Needs.{needs}
 use Rattle.left_steps.proofs.bl.Statement.{statement}

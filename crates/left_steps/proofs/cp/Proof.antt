@@ -1,3 +1,4 @@
+-- `cp` meets its contract.
 use native.Mathlib.Omega.{arith}
 use Rattle.labels.proofs.Sets.{member-below}
 use Rattle.steps.specs.Plans.{when}

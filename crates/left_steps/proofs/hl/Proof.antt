@@ -1,3 +1,4 @@
+-- `hl` meets its contract.
 use mathlib.Core.Path.{_∙_}
 use borrow.Author.Needs.{needs}
 use Rattle.left_steps.proofs.hl.Statement.{statement}

@@ -1,3 +1,4 @@
+-- `w1` meets its contract.
 use mathlib.Core.Path.{_∙_}
 use borrow.Author.Needs.{needs}
 use Rattle.left_steps.proofs.w1.Statement.{statement}

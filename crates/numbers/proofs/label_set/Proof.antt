@@ -1,4 +1,4 @@
--- `label_set` meets its contract: each turn takes a digit. Assumes nothing.
+-- `label_set` meets its contract: each turn takes a digit.
 use Prim.Native.Nat.{_+_, _-_, _^_, _≤_, _<_}
 use mathlib.Core.Path.{_≡_, _∙_, sym}
 use mathlib.Core.List.{_∷_}

@@ -1,4 +1,4 @@
--- `more_digits` meets its contract: each turn takes a digit. Assumes nothing.
+-- `more_digits` meets its contract: each turn takes a digit.
 use Prim.Native.Nat.{_+_, _-_, _*_, _≤_}
 use mathlib.Core.Path.{_≡_, refl, _∙_, sym}
 use mathlib.Core.List.{_∷_}

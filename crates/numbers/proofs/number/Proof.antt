@@ -1,4 +1,4 @@
--- `number` meets its contract: the first digit, and the others. Assumes nothing.
+-- `number` meets its contract: the first digit, and the others.
 use Prim.Native.Nat.{_+_, _-_, _≤_}
 use mathlib.Core.Path.{_≡_, _∙_, sym}
 use mathlib.Core.List.{_∷_}

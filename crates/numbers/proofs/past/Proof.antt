@@ -1,4 +1,4 @@
--- `past` meets its contract: each turn takes a byte of the text. Assumes nothing.
+-- `past` meets its contract: each turn takes a byte of the text.
 use Prim.Native.Nat.{_+_, _-_, _≤_}
 use mathlib.Core.Path.{_≡_, _∙_, sym}
 use mathlib.Core.List.{_∷_}

@@ -1,3 +1,4 @@
+-- `contains` meets its contract.
 use Rattle.logic.specs.Interval.{contains}
 use borrow.Author.Needs.{needs}
 use Rattle.plans.proofs.contains.Statement.{statement}

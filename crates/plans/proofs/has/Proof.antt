@@ -1,3 +1,4 @@
+-- `has` meets its contract.
 use mathlib.Core.Path.{sym}
 use native.Mathlib.Omega.{arith}
 use Rattle.plans.proofs.Tests.{no-member}

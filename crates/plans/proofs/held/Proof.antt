@@ -1,3 +1,4 @@
+-- `held` meets its contract.
 use borrow.Author.Needs.{needs}
 use Rattle.plans.proofs.held.Statement.{statement}
 use Rattle.plans.proofs.held.Tie as tie

@@ -1,3 +1,4 @@
+-- `premise` meets its contract.
 use borrow.Author.Needs.{needs}
 use Rattle.plans.proofs.premise.Statement.{statement}
 use Rattle.plans.proofs.premise.Tie as tie

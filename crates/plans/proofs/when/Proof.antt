@@ -1,3 +1,4 @@
+-- `when` meets its contract.
 use Rattle.steps.specs.Plans.{when}
 use borrow.Author.Needs.{needs}
 use Rattle.plans.proofs.when.Statement.{statement}

@@ -1,3 +1,4 @@
+-- `put_byte` meets its contract.
 use borrow.Author.Needs.{needs}
 use Rattle.print.proofs.Writing.{wrote-byte}
 use Rattle.print.proofs.put_byte.Statement.{statement}

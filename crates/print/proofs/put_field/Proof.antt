@@ -1,3 +1,4 @@
+-- `put_field` meets its contract.
 use native.Mathlib.Omega.{arith}
 use borrow.Author.Needs.{needs}
 use Rattle.print.proofs.Writing.{wrote-then, digits-few}

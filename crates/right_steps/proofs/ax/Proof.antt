@@ -1,3 +1,4 @@
+-- `ax` meets its contract.
 use mathlib.Core.Path.{_∙_}
 use borrow.Author.Needs.{needs}
 use Rattle.plans.proofs.Tests.{when-and}

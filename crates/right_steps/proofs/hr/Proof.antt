@@ -1,3 +1,4 @@
+-- `hr` meets its contract.
 use mathlib.Core.Path.{_∙_}
 use borrow.Author.Needs.{needs}
 use Rattle.right_steps.proofs.hr.Statement.{statement}

@@ -1,3 +1,4 @@
+-- `or` meets its contract.
 use mathlib.Core.Path.{_∙_}
 use borrow.Author.Needs.{needs}
 use Rattle.plans.proofs.Tests.{when-and}

@@ -1,3 +1,4 @@
+-- `p1` meets its contract.
 use mathlib.Core.Path.{_∙_}
 use borrow.Author.Needs.{needs}
 use Rattle.right_steps.proofs.p1.Statement.{statement}

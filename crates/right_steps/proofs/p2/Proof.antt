@@ -1,3 +1,4 @@
+-- `p2` meets its contract.
 use mathlib.Core.Path.{_∙_}
 use borrow.Author.Needs.{needs}
 use Rattle.right_steps.proofs.p2.Statement.{statement}

@@ -1,3 +1,4 @@
+-- `wr` meets its contract.
 use mathlib.Core.Path.{_∙_}
 use borrow.Author.Needs.{needs}
 use Rattle.right_steps.proofs.wr.Statement.{statement}

@@ -1,3 +1,4 @@
+-- `at_left` meets its contract.
 use mathlib.Core.Path.{sym}
 use native.Mathlib.Omega.{arith}
 use Rattle.labels.proofs.Sets.{member-below}

@@ -1,3 +1,4 @@
+-- `at_right` meets its contract.
 use mathlib.Core.Path.{sym, _∙_}
 use native.Mathlib.Omega.{arith}
 use Rattle.steps.specs.Plans.{planOf, right}

@@ -1,3 +1,4 @@
+-- `rule` meets its contract.
 use mathlib.Core.Path.{sym}
 use native.Mathlib.Omega.{arith}
 use Rattle.steps.specs.Plans.{planOf, affirmed}

@@ -1,4 +1,4 @@
--- `append` meets its contract. The stores are those of `given`.
+-- `append` meets its contract. The stores are those of `given`, and the hint.
 use borrow.Author.Needs.{needs}
 use native.Mathlib.Omega.{arith}
 use Rattle.store.specs.Store.{ledgerOf}

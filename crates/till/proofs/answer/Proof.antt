@@ -1,3 +1,4 @@
+-- `answer` meets its contract.
 use denote.Ref.{now}
 use borrow.Author.Needs.{needs}
 use Rattle.verdicts.proofs.Laws.{by-verdict}

@@ -1,3 +1,4 @@
+-- `issue` meets its contract.
 use borrow.Author.Tests.{leb-false}
 use borrow.Author.Needs.{needs}
 use Rattle.verdicts.proofs.Laws.{by-verdict}

@@ -1,3 +1,4 @@
+-- `issue_fair` meets its contract.
 use borrow.Author.Needs.{needs}
 use Rattle.verdicts.proofs.Laws.{by-verdict}
 use Rattle.till.proofs.Laws.{issue-full, issue-used-up, issue-done, issue-gives}

@@ -1,3 +1,4 @@
+-- `tally` meets its contract.
 use borrow.Author.Needs.{needs}
 use denote.Ref.{now}
 use Rattle.till.proofs.Laws.{tally-done}

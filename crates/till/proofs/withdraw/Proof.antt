@@ -1,3 +1,4 @@
+-- `withdraw` meets its contract.
 use mathlib.Core.Path.{subst}
 use denote.Ref.{now}
 use borrow.Author.Needs.{needs}

@@ -1,3 +1,4 @@
+-- `word` meets its contract.
 use mathlib.Core.Path.{sym, ap, _∙_}
 use lib.Dec.{leb}
 use denote.Ref.{now}

@@ -1,3 +1,4 @@
+-- `main` meets its contract.
 use mathlib.Core.Path.{sym}
 use Prim.Native.Nat.{ℕ}
 use lib.ListN.{length-replicate}

@@ -1,3 +1,4 @@
+-- `balancedly` meets its contract.
 use mathlib.Core.Path.{_∙_}
 use borrow.Author.Needs.{needs}
 use Rattle.verdicts.proofs.balancedly.Statement.{statement}

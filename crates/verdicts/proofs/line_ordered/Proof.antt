@@ -1,3 +1,4 @@
+-- `line_ordered` meets its contract.
 use mathlib.Core.Path.{_∙_}
 use borrow.Author.Needs.{needs}
 use Rattle.store.specs.Store.{lineOf}

@@ -1,3 +1,4 @@
+-- `ordered` meets its contract.
 use Rattle.logic.specs.Interval.{reversed}
 use Rattle.verdicts.proofs.ordered.Statement.{statement}
 use Rattle.verdicts.proofs.ordered.Tie as tie

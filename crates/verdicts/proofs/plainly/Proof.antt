@@ -1,3 +1,4 @@
+-- `plainly` meets its contract.
 use mathlib.Core.Path.{_∙_}
 use borrow.Author.Needs.{needs}
 use Rattle.verdicts.proofs.plainly.Statement.{statement}

@@ -1,3 +1,4 @@
+-- `present` meets its contract.
 use mathlib.Core.Path.{_∙_}
 use borrow.Author.Needs.{needs}
 use Rattle.verdicts.proofs.present.Statement.{statement}

@@ -1,3 +1,4 @@
+-- `room` meets its contract.
 use mathlib.Core.Path.{_∙_}
 use Rattle.verdicts.proofs.Laws.{room-free}
 use borrow.Author.Needs.{needs}

@@ -1,3 +1,4 @@
+-- `unused` meets its contract.
 use mathlib.Core.Path.{_∙_}
 use borrow.Author.Needs.{needs}
 use Rattle.verdicts.proofs.unused.Statement.{statement}

@@ -1,4 +1,4 @@
--- `at_fields` meets its contract: each field is what its reader says. Assumes nothing.
+-- `at_fields` meets its contract: each field is what its reader says.
 use borrow.Author.Needs.{needs}
 use Rattle.request.specs.Text.{andThen}
 use Rattle.numbers.specs.Field.{decimalOf}

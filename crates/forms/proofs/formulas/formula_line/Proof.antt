@@ -1,4 +1,4 @@
--- `formula_line` meets its contract: a line by its letter. Assumes nothing.
+-- `formula_line` meets its contract: a line by its letter.
 use mathlib.Core.Path.{sym, ap, _∙_}
 use native.Mathlib.Omega.{arith}
 use borrow.Author.Needs.{needs}

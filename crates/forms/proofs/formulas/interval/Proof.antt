@@ -1,4 +1,4 @@
--- `interval` meets its contract: each field is what its reader says. Assumes nothing.
+-- `interval` meets its contract: each field is what its reader says.
 use borrow.Author.Needs.{needs}
 use Rattle.request.specs.Text.{andThen}
 use Rattle.numbers.specs.Field.{decimalOf}

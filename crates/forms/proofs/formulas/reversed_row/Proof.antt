@@ -1,4 +1,4 @@
--- `reversed_row` meets its contract. Assumes nothing.
+-- `reversed_row` meets its contract.
 use Rattle.forms.proofs.Letters.{told-at, told-none, told-first, told-second}
 use Rattle.forms.proofs.formulas.reversed_row.Statement.{statement}
 use Rattle.forms.proofs.formulas.reversed_row.Tie as tie

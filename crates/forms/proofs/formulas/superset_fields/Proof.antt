@@ -1,4 +1,4 @@
--- `superset_fields` meets its contract: each field is what its reader says. Assumes nothing.
+-- `superset_fields` meets its contract: each field is what its reader says.
 use borrow.Author.Needs.{needs}
 use Rattle.request.specs.Text.{andThen}
 use Rattle.forms.specs.Line.{supersetFields, spanOf}

@@ -1,4 +1,4 @@
--- `read_hold` meets its contract. Assumes nothing.
+-- `read_hold` meets its contract.
 use mathlib.Core.Path.{sym, _∙_}
 use borrow.Author.Needs.{needs}
 use Rattle.request.specs.Text.{bytes}

@@ -1,4 +1,4 @@
--- `implies_fields` meets its contract. Assumes nothing.
+-- `implies_fields` meets its contract.
 use mathlib.Core.Path.{sym, _∙_}
 use borrow.Author.Needs.{needs}
 use Rattle.tables.specs.Lines.{stepOf}

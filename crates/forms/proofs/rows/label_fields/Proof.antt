@@ -1,4 +1,4 @@
--- `label_fields` meets its contract. Assumes nothing.
+-- `label_fields` meets its contract.
 use mathlib.Core.Path.{sym, _∙_}
 use borrow.Author.Needs.{needs}
 use Rattle.numbers.specs.Field.{decimalOf}

@@ -1,4 +1,4 @@
--- `lolli_fields` meets its contract. Assumes nothing.
+-- `lolli_fields` meets its contract.
 use mathlib.Core.Path.{sym, _∙_}
 use borrow.Author.Needs.{needs}
 use Rattle.tables.specs.Lines.{stepOf}

@@ -1,4 +1,4 @@
--- `op_of` meets its contract: each word by its number. Assumes nothing.
+-- `op_of` meets its contract: each word by its number.
 use mathlib.Core.Path.{sym}
 use native.Mathlib.Omega.{arith}
 use borrow.Author.Needs.{needs}

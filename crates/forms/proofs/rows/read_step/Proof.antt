@@ -1,4 +1,4 @@
--- `read_step` meets its contract: a line by its word. Assumes nothing.
+-- `read_step` meets its contract: a line by its word.
 use mathlib.Core.Path.{sym, _∙_}
 use borrow.Author.Needs.{needs}
 use Rattle.forms.proofs.Ops.{step-short, step-plain, step-plain-on, step-bare, step-fields, step-label}

@@ -1,4 +1,4 @@
--- `set_fields` meets its contract. Assumes nothing.
+-- `set_fields` meets its contract.
 use mathlib.Core.Path.{sym, _∙_}
 use borrow.Author.Needs.{needs}
 use Rattle.tables.specs.Lines.{stepOf}

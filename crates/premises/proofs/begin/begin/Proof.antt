@@ -1,3 +1,4 @@
+-- `begin` meets its contract.
 use mathlib.Core.Path.{sym}
 use Rattle.premises.proofs.Beginnings.{nothing-full, nothing-begins, linear-full, linear-begins}
 use Rattle.premises.proofs.Beginnings.{unrestricted-full, unrestricted-begins, both-full, both-begins}

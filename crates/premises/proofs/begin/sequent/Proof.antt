@@ -1,3 +1,4 @@
+-- `sequent` meets its contract.
 use borrow.Author.Needs.{needs}
 use Rattle.premises.proofs.begin.sequent.Statement.{statement}
 use Rattle.premises.proofs.begin.sequent.Tie as tie

@@ -1,3 +1,4 @@
+-- `parts_of` meets its contract.
 use borrow.Author.Needs.{needs}
 use Rattle.premises.proofs.Flats.{with-goal}
 use Rattle.premises.proofs.flat.parts_of.Statement.{statement}

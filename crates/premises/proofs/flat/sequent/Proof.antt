@@ -1,3 +1,4 @@
+-- `sequent` meets its contract.
 use borrow.Author.Needs.{needs}
 use Rattle.premises.proofs.flat.sequent.Statement.{statement}
 use Rattle.premises.proofs.flat.sequent.Tie as tie

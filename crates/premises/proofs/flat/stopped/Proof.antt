@@ -1,3 +1,4 @@
+-- `stopped` meets its contract.
 use borrow.Author.Needs.{needs}
 use native.Mathlib.Omega.{arith}
 use Rattle.premises.proofs.Flats.{stopped-number}

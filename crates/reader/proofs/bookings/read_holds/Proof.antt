@@ -1,4 +1,4 @@
--- `read_holds` meets its contract: each turn reads a line. Assumes nothing.
+-- `read_holds` meets its contract: each turn reads a line.
 use Prim.Native.Nat.{_-_, _≤_}
 use mathlib.Core.Path.{_≡_, sym, _∙_}
 use native.Mathlib.Omega.{arith}

@@ -1,4 +1,4 @@
--- `read_steps` meets its contract: each turn reads a line. Assumes nothing.
+-- `read_steps` meets its contract: each turn reads a line.
 use Prim.Native.Nat.{_-_}
 use borrow.Author.Needs.{needs}
 use Rattle.forms.specs.Step.{stepLineOf}

@@ -1,4 +1,4 @@
--- `turns` meets its contract. Assumes nothing.
+-- `turns` meets its contract.
 use borrow.Author.Needs.{needs}
 use borrow.Author.Tests.{lt-ltb, le-ltb}
 use Rattle.reader.specs.Booking.{turned}

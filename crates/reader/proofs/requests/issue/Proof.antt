@@ -1,4 +1,4 @@
--- `issue` meets its contract. Assumes nothing.
+-- `issue` meets its contract.
 use mathlib.Core.Path.{ap}
 use borrow.Author.Needs.{needs}
 use Rattle.request.specs.Text.{bytes}

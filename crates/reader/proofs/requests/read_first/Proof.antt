@@ -1,4 +1,4 @@
--- `read_first` meets its contract. Assumes nothing.
+-- `read_first` meets its contract.
 use mathlib.Core.Path.{refl}
 use borrow.Author.Needs.{needs}
 use Rattle.request.specs.Text.{bytes}

@@ -1,4 +1,4 @@
--- `tally` meets its contract. Assumes nothing.
+-- `tally` meets its contract.
 use mathlib.Core.Path.{_∙_}
 use borrow.Author.Needs.{needs}
 use Rattle.numbers.specs.Field.{decimalOf}

@@ -1,4 +1,4 @@
--- `withdraw` meets its contract. Assumes nothing.
+-- `withdraw` meets its contract.
 use mathlib.Core.Path.{_∙_}
 use borrow.Author.Needs.{needs}
 use Rattle.numbers.specs.Field.{decimalOf}

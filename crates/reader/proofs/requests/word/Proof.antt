@@ -1,4 +1,4 @@
--- `word` meets its contract. Assumes nothing.
+-- `word` meets its contract.
 use borrow.Author.Needs.{needs}
 use Rattle.forms.specs.Line.{formulaOf}
 use Rattle.numbers.proofs.Then.{told}

@@ -1,3 +1,4 @@
+-- `held_at` meets its contract.
 use Rattle.tables.specs.Held.{heldAt}
 use borrow.Author.Needs.{needs}
 use Rattle.tables.proofs.held.held_at.Statement.{statement}

@@ -1,3 +1,4 @@
+-- `put_held` meets its contract.
 use native.Mathlib.Numerals.{add-one, add-two}
 use Rattle.tables.specs.Held.{putHeld}
 use borrow.Author.Needs.{needs}

@@ -1,3 +1,4 @@
+-- `put_step` meets its contract.
 use native.Mathlib.Numerals.{add-one, add-two, add-three, add-four, add-five}
 use Rattle.tables.specs.Lines.{putStepRow}
 use borrow.Author.Needs.{needs}

@@ -1,3 +1,4 @@
+-- `step_at` meets its contract.
 use Rattle.tables.specs.Lines.{stepRowAt}
 use borrow.Author.Needs.{needs}
 use Rattle.tables.proofs.lines.step_at.Statement.{statement}

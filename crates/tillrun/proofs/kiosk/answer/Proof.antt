@@ -1,3 +1,4 @@
+-- `answer` meets its contract.
 use mathlib.Core.Path.{ap}
 use borrow.Author.Needs.{needs}
 use Rattle.ledger.specs.declared.Answer.{Answer}
