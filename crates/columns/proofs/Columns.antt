@@ -1,11 +1,11 @@
 -- A column computed row by row: the law of one turn, whatever the value.
 use mathlib.Core.Path.{_≡_, refl, sym, ap, subst, _∙_}
-use mathlib.Core.List.{List, [], _∷_}
+use mathlib.Core.List.{List}
 use mathlib.Core.Bool.{Bool, true, false}
 use Prim.Native.Nat.{ℕ, zero, suc, _+_, _-_, _≤_, _<_}
 use native.Mathlib.Omega.{arith}
 use native.Mathlib.Numerals.{add-one}
-use native.Mathlib.Nat.{add-zero, add-suc, le-of-suc-le-suc, not-suc-le-zero}
+use native.Mathlib.Nat.{add-zero, add-suc}
 use native.Mathlib.Decide.{decLt}
 use lib.Dec.{eqb}
 use lib.ListN.{length, getD, take, set, replicate, length-take, length-set, length-replicate, getD-replicate}
@@ -18,20 +18,14 @@ use Rattle.ledger.specs.Table.{form, nth, build, formulas}
 use Rattle.ledger.specs.Ledger.{Ledger, formula}
 use Rattle.ledger.specs.Checks.{maxSize, maxFormulas}
 use Rattle.ledger.proofs.Tables.{formulas-length, formula-snoc, lineAt}
-use Rattle.columns.specs.Column.{early, Column, Small}
-
--- within the list the default does not matter
-pub getD-any : {A : Type 0} (xs : List A) (i : ℕ) (d e : A) → i < length xs → getD xs i d ≡ getD xs i e
-getD-any [] i d e h = absurd (not-suc-le-zero h)
-getD-any (x ∷ xs) zero d e h = refl
-getD-any (x ∷ xs) (suc i) d e h = getD-any xs i d e (le-of-suc-le-suc h)
+use Rattle.columns.specs.Column.{early, Column}
 
 module _ (t : Ledger) where
   -- the ledger of the first i lines
   abbrev firsts : ℕ → Ledger
   firsts i = record { lines = take i (t .lines); live = t .live; next = t .next }
 
-  pub early-next : (i k : ℕ) → i < length (t .lines)
+  early-next : (i k : ℕ) → i < length (t .lines)
       → early t (i + 1) k
       ≡ elim (eqb k i) as (λ z. Formula) [ true ↦ form (early t i) (lineAt t i) | false ↦ early t i k ]
   early-next i k h =
@@ -54,7 +48,7 @@ module _ (t : Ledger) where
   pub early-all : (k : ℕ) → early t (length (t .lines)) k ≡ formula t k
   early-all k = ap (λ (ls : List Line). nth (formulas ls) k) (take-length (t .lines))
 
-  pub early-is : (k i : ℕ) → k < i → i ≤ length (t .lines) → early t i k ≡ formula t k
+  early-is : (k i : ℕ) → k < i → i ≤ length (t .lines) → early t i k ≡ formula t k
   early-is k i h le =
       let n = length (t .lines) in
       let e : i + (n - i) ≡ n = omega arith in
@@ -103,16 +97,3 @@ module _ (t : Ledger) where
             ∙ getD-set-same xs i v d (omega (arith, c .long))
             ∙ e
         go k false q = getD-set-other xs i k v d (eqb-false k i q) ∙ c .holds k
-
-    pub column-is : (i : ℕ) (xs : List A) → i ≤ length (t .lines) → Column t value d i xs
-        → (k : ℕ) → k < i → getD xs k d ≡ value (formula t k)
-    column-is i xs le c k h = c .holds k ∙ ap value (early-is k i h le)
-
-  -- a column of what is never over the size has small entries
-  pub column-small : (value : Formula → ℕ) → ((a : Formula) → value a ≤ size a)
-      → ((n : ℕ) → size (formula t n) ≤ maxSize) → (i : ℕ) (xs : List ℕ) → i ≤ length (t .lines)
-      → Column t value 0 i xs → Small xs
-  column-small value v h i xs le c = record {
-    long = c .long;
-    small = λ k. omega (arith, c .holds k, v (early t i k), early-small h i k le);
-  }

@@ -7,12 +7,11 @@ use lib.Dec.{eqb}
 use borrow.Author.Tests.{eqb-true}
 use Rattle.logic.specs.Choice.{pick}
 use Rattle.logic.specs.Formula.{Formula, size, count, plain, seat, place, bit}
-use Rattle.logic.specs.Counts.{up, down, even, all}
+use Rattle.logic.specs.Counts.{all}
 use Rattle.logic.specs.Multiset.{sum}
 use Rattle.request.specs.Request.{Line}
 use Rattle.ledger.specs.Table.{form, names, rowOf}
-use Rattle.columns.specs.Rows.{partsOf, sizeRow, plainRow, both, atomBoth, bothRow, sideRow, upRow, downRow}
-use Rattle.columns.specs.Rows.{levelRow, evenRow}
+use Rattle.columns.specs.Rows.{partsOf, sizeRow, plainRow, both, atomBoth, bothRow}
 
 pub and-true : (x : Bool) → (x && true) ≡ x
 and-true true = refl
@@ -21,10 +20,6 @@ and-true false = refl
 pub and-false : (x : Bool) → (x && false) ≡ false
 and-false true = refl
 and-false false = refl
-
-and-assoc : (x y z : Bool) → ((x && y) && z) ≡ (x && (y && z))
-and-assoc true y z = refl
-and-assoc false y z = refl
 
 pub parts-row : (l : Line) → partsOf (rowOf l) ≡ names l
 unfolding partsOf
@@ -98,47 +93,3 @@ module _ (T : ℕ → Formula) where
   both-row s (Line.at i w) = omega arith
   both-row s (Line.says k i) = omega arith
   both-row s (Line.superset v w) = refl
-
-  module _ (s : ℕ) where
-    pub up-row : (l : Line) → up s (form T l) ≡ upRow s (λ k. up s (T k)) (λ k. down s (T k)) (rowOf l)
-    unfolding up sideRow
-    up-row (Line.atom p t) = refl
-    up-row Line.one = refl
-    up-row (Line.tensor i j) = refl
-    up-row (Line.with i j) = refl
-    up-row (Line.plus i j) = refl
-    up-row (Line.lolli i j) = refl
-    up-row (Line.implies i j) = refl
-    up-row (Line.bang i) = refl
-    up-row (Line.at i w) = refl
-    up-row (Line.says k i) = refl
-    up-row (Line.superset v w) = refl
-
-    pub down-row : (l : Line) → down s (form T l) ≡ downRow (λ k. up s (T k)) (λ k. down s (T k)) (rowOf l)
-    unfolding up sideRow
-    down-row (Line.atom p t) = refl
-    down-row Line.one = refl
-    down-row (Line.tensor i j) = refl
-    down-row (Line.with i j) = refl
-    down-row (Line.plus i j) = refl
-    down-row (Line.lolli i j) = refl
-    down-row (Line.implies i j) = refl
-    down-row (Line.bang i) = refl
-    down-row (Line.at i w) = refl
-    down-row (Line.says k i) = refl
-    down-row (Line.superset v w) = refl
-
-    pub even-row : (l : Line)
-        → even s (form T l) ≡ evenRow (λ k. up s (T k)) (λ k. down s (T k)) (λ k. even s (T k)) (rowOf l)
-    unfolding even evenRow levelRow partsOf all
-    even-row (Line.atom p t) = refl
-    even-row Line.one = refl
-    even-row (Line.tensor i j) = sym (simp and-true)
-    even-row (Line.with i j) = sym (simp (and-true, and-assoc))
-    even-row (Line.plus i j) = sym (simp (and-true, and-assoc))
-    even-row (Line.lolli i j) = sym (simp and-true)
-    even-row (Line.implies i j) = sym (simp (and-true, and-assoc))
-    even-row (Line.bang i) = sym (simp and-true)
-    even-row (Line.at i w) = sym (simp and-true)
-    even-row (Line.says k i) = sym (simp and-true)
-    even-row (Line.superset v w) = refl

@@ -1,7 +1,6 @@
 -- A column: a value of each formula of a ledger, kept by the formula's number.
 use mathlib.Core.Path.{_≡_}
 use mathlib.Core.List.{List}
-use mathlib.Core.Bool.{Bool, true}
 use Prim.Native.Nat.{ℕ, _*_, _≤_, _<_}
 use lib.ListN.{length, getD, take}
 use Rattle.logic.specs.Formula.{Formula}
@@ -23,14 +22,6 @@ pub record Column {A : Type 0} (t : Ledger) (value : Formula → A) (d : A) (i :
 
 abbrev pub entry : List ℕ → ℕ → ℕ
 entry xs k = getD xs k 0
-
-abbrev pub flag : List Bool → ℕ → Bool
-flag xs k = getD xs k true
-
--- room for every formula, and no entry above what a formula can have
-pub record Small (xs : List ℕ) : Type 0 where
-  pub long : length xs ≡ maxFormulas
-  pub small : (k : ℕ) → entry xs k ≤ maxSize
 
 -- a column of seats and places has an entry for each of the numbers, and none above what a formula can have
 pub record Addable (xs ns : List ℕ) : Type 0 where

@@ -4,7 +4,7 @@ use crate::parts::Parts;
 use steps::Row;
 ghost use mathlib.Core.Path.{_≡_};
 ghost use Prim.Native.Nat.{_<_};
-ghost use lib.ListN.{length, getD};
+ghost use lib.ListN.{length};
 ghost use Rattle.logic.specs.Multiset.{sum};
 ghost use Rattle.ledger.specs.Checks.{maxFormulas};
 ghost use Rattle.columns.specs.Column.{entry, Addable, Countable};
@@ -12,14 +12,6 @@ ghost use Rattle.columns.specs.Parts.{numbers};
 ghost use Rattle.columns.specs.Rows.{atomBoth, bothRow};
 
 pub type Column = [u32; 200];
-
-// The entry of formula n. A number that names none has that of 1, which is 0 in every column.
-pub fn at(column: &Column, n: u32) -> u32
-    requires { ⌜ length (now column) ≡ maxFormulas ⌝ }
-    ensures { λ r. ⌜ r ≡ getD (now (column .entry)) n 0 ⌝ }
-{
-    if n < 200 { column[n as usize] } else { 0 }
-}
 
 // The entry of a number below 200.
 pub fn known(column: &Column, n: u32) -> u32

@@ -52,7 +52,7 @@ pub none-missing : (t : Ledger) (ns : List ℕ) → not (any (missing t) ns) ≡
 none-missing t ns e = every-map (λ k q. leb-false _ _ q) ns (any-none (missing t) ns (not-true _ e))
 
 module _ (r : Row) (p q : Parts) (e : numbers p ≡ partsOf r) (g : p ≡ q) where
-  parts-are : numbers q ≡ partsOf r
+  pub parts-are : numbers q ≡ partsOf r
   parts-are = ap numbers (sym g) ∙ e
 
   parts-names : Canonical r → numbers q ≡ names (lineOf r)

@@ -1,81 +1,166 @@
--- The columns of weights for a session, row by row.
-use mathlib.Core.Path.{_≡_, refl, sym, ap, ap₂, fun-ext, _∙_}
-use mathlib.Core.List.{List}
-use mathlib.Core.Bool.{Bool, true, _&&_}
-use Prim.Native.Nat.{ℕ, _+_, _≤_, _<_}
+-- A row's weight and its sessions, from those of its parts.
+use mathlib.Core.Path.{_≡_, refl, sym, ap, subst, _∙_}
+use mathlib.Core.List.{List, [], _∷_, _++_, map}
+use mathlib.Core.Bool.{Bool, true, false, _&&_}
+use Prim.Native.Nat.{ℕ, _<_}
+use Prim.Native.Char.{code}
 use native.Mathlib.Omega.{arith}
 use lib.Dec.{eqb}
-use lib.ListN.{length, set, replicate}
-use Rattle.logic.specs.Weight.{counted}
-use Rattle.logic.specs.Counts.{up, down, even}
-use Rattle.ledger.specs.Table.{rowOf}
-use Rattle.ledger.specs.Ledger.{formula}
-use Rattle.ledger.specs.Checks.{maxFormulas}
-use Rattle.ledger.proofs.Tables.{lineAt}
+use borrow.Author.Tests.{eq-eqb, ne-eqb}
+use Rattle.logic.specs.Choice.{pick}
+use Rattle.logic.specs.Formula.{Formula, size}
+use Rattle.logic.specs.Counts.{up, even, sessionsOf, all}
+use Rattle.logic.specs.Multiset.{sum, Every}
+use Rattle.request.specs.Request.{Line}
 use Rattle.steps.specs.declared.Row.{Row}
+use Rattle.ledger.specs.Table.{form, names, rowOf}
+use Rattle.ledger.specs.Ledger.{formula}
+use Rattle.ledger.proofs.Tables.{There, lineAt}
 use Rattle.cells.specs.Layout.{rowAt}
-use Rattle.store.specs.Store.{ledgerOf, Good}
+use Rattle.store.specs.Store.{lineOf, ledgerOf, Good}
 use Rattle.store.proofs.Views.{row-is}
-use Rattle.columns.specs.Rows.{levelAt, fairFor, sideRow, upRow, downRow, evenRow}
-use Rattle.columns.specs.Column.{entry, flag, early, Column, Small}
-use Rattle.columns.proofs.Rows.{up-row, down-row, even-row}
+use Rattle.store.proofs.Lines.{line-of-row}
+use Rattle.columns.specs.Rows.{partsOf}
+use Rattle.columns.specs.declared.parts.Parts.{Parts}
+use Rattle.columns.specs.Parts.{numbers}
+use Rattle.columns.proofs.Rows.{and-true}
 use Rattle.columns.proofs.Limits.{weight-le}
-use Rattle.columns.proofs.Columns.{column-start, column-next, column-is, column-small}
+use Rattle.figures.specs.Figures.{Formable}
+use Rattle.figures.proofs.Named.{parts-are, parts-size}
+use Rattle.weights.specs.declared.Weight.{Weight}
+use Rattle.weights.specs.Weights.{weightOf, aloneWeight, underWeight, joinedWeight, Light}
 
--- what the first i formulas add and take away for session s, and whether they are well weighed
-pub record Weighed (l : List ℕ) (s i : ℕ) (xs ys : List ℕ) (zs : List Bool) : Type 0 where
-  pub ups : Column (ledgerOf l) (up s) 0 i xs
-  pub downs : Column (ledgerOf l) (down s) 0 i ys
-  pub evens : Column (ledgerOf l) (even s) true i zs
+-- by the parts' weights, and by their sessions
+abbrev pub weighed : ℕ → Row → List Weight → Weight
+weighed s r [] = aloneWeight s r
+weighed s r (x ∷ []) = underWeight (r .letter) x
+weighed s r (x ∷ y ∷ zs) = joinedWeight (r .letter) x y
 
-module _ (l : List ℕ) (s : ℕ) where
-  pub weighed-start : Weighed l s 0 (replicate maxFormulas 0) (replicate maxFormulas 0) (replicate maxFormulas true)
-  unfolding up even
-  weighed-start = record {
-    ups = column-start (ledgerOf l) (up s) 0 refl;
-    downs = column-start (ledgerOf l) (down s) 0 refl;
-    evens = column-start (ledgerOf l) (even s) true refl;
+abbrev pub gathered : Row → List (List ℕ) → List ℕ
+gathered r [] = pick (eqb (r .letter) (code "a")) (r .b ∷ []) []
+gathered r (x ∷ []) = x
+gathered r (x ∷ y ∷ zs) = x ++ y
+
+module _ (T : ℕ → Formula) where
+  weight-row : (s : ℕ) (l : Line)
+      → weighed s (rowOf l) (map (λ k. weightOf s (T k)) (partsOf (rowOf l))) ≡ weightOf s (form T l)
+  unfolding partsOf aloneWeight underWeight joinedWeight up even
+  weight-row s (Line.atom p t) = refl
+  weight-row s Line.one = refl
+  weight-row s (Line.tensor i j) = refl
+  weight-row s (Line.with i j) = refl
+  weight-row s (Line.plus i j) = refl
+  weight-row s (Line.lolli i j) = refl
+  weight-row s (Line.implies i j) = refl
+  weight-row s (Line.bang i) = refl
+  weight-row s (Line.at i w) = refl
+  weight-row s (Line.says k i) = refl
+  weight-row s (Line.superset v w) = refl
+
+  sessions-row : (l : Line)
+      → gathered (rowOf l) (map (λ k. sessionsOf (T k)) (partsOf (rowOf l))) ≡ sessionsOf (form T l)
+  unfolding partsOf sessionsOf
+  sessions-row (Line.atom p t) = refl
+  sessions-row Line.one = refl
+  sessions-row (Line.tensor i j) = refl
+  sessions-row (Line.with i j) = refl
+  sessions-row (Line.plus i j) = refl
+  sessions-row (Line.lolli i j) = refl
+  sessions-row (Line.implies i j) = refl
+  sessions-row (Line.bang i) = refl
+  sessions-row (Line.at i w) = refl
+  sessions-row (Line.says k i) = refl
+  sessions-row (Line.superset v w) = refl
+
+each-less : (f : ℕ → ℕ) (ns : List ℕ) {m : ℕ} → sum f ns < m → Every (λ k. f k < m) ns
+unfolding sum
+each-less f [] h = tt
+each-less f (k ∷ ns) h = (omega arith, each-less f ns (omega arith))
+
+-- of a row that the store can have, whose parts are known
+module _ (l : List ℕ) (r : Row) (f : Formable l r) (p q : Parts) (e : numbers p ≡ partsOf r) (g : p ≡ q) where
+  at-parts : {A : Type 0} (h : Row → List ℕ → A) → h r (numbers q) ≡ h (rowOf (lineOf r)) (partsOf (rowOf (lineOf r)))
+  at-parts h =
+      ap (h r) (parts-are r p q e g)
+      ∙ ap (λ (x : Row). h x (partsOf x)) (sym (f .canonical))
+
+  pub parts-less : Every (λ k. size (formula (ledgerOf l) k) < size (form (formula (ledgerOf l)) (lineOf r)))
+      (numbers q)
+  parts-less =
+      each-less (λ k. size (formula (ledgerOf l) k)) (numbers q) (omega (arith, parts-size r p q e g l f))
+
+  pub weight-is : (s : ℕ) → weighed s r (map (λ k. weightOf s (formula (ledgerOf l) k)) (numbers q))
+      ≡ weightOf s (form (formula (ledgerOf l)) (lineOf r))
+  weight-is s =
+      at-parts (λ x ns. weighed s x (map (λ k. weightOf s (formula (ledgerOf l) k)) ns))
+      ∙ weight-row (formula (ledgerOf l)) s (lineOf r)
+
+  pub sessions-are : gathered r (map (λ k. sessionsOf (formula (ledgerOf l) k)) (numbers q))
+      ≡ sessionsOf (form (formula (ledgerOf l)) (lineOf r))
+  sessions-are =
+      at-parts (λ x ns. gathered x (map (λ k. sessionsOf (formula (ledgerOf l) k)) ns))
+      ∙ sessions-row (formula (ledgerOf l)) (lineOf r)
+
+-- of the row of a number
+module _ (l : List ℕ) (g : Good l) (n : ℕ) {r : Row} (e : r ≡ rowAt l n) where
+  line-is : lineAt (ledgerOf l) n ≡ lineOf r
+  line-is = sym (line-of-row _) ∙ ap lineOf (row-is l g n ∙ sym e)
+
+  pub part-formable : Formable l r
+  part-formable = record {
+    good = g;
+    canonical = ap rowOf (sym line-is) ∙ row-is l g n ∙ sym e;
+    there = subst (λ (x : Line). There (ledgerOf l) (names x)) line-is (g .bounded .tabled .refs n);
   }
 
-  module _ (g : Good l) (i : ℕ) (xs ys : List ℕ) (zs : List Bool) (w : Weighed l s i xs ys zs) where
-    pub weighed-small : i ≤ length (ledgerOf l .lines) → Small xs × Small ys
-    weighed-small h = (
-      column-small (ledgerOf l) (up s) (λ a. omega (arith, weight-le s a)) (g .bounded .sizes) i xs h (w .ups),
-      column-small (ledgerOf l) (down s) (λ a. omega (arith, weight-le s a)) (g .bounded .sizes) i ys h (w .downs),
-    )
+  pub part-is : form (formula (ledgerOf l)) (lineOf r) ≡ formula (ledgerOf l) n
+  part-is = ap (form (formula (ledgerOf l))) (sym line-is) ∙ sym (g .bounded .tabled .reads n)
 
-    -- a row function of these columns, at the ledger's row
-    at-row : {A : Type 0} (f : (ℕ → ℕ) → (ℕ → ℕ) → (ℕ → Bool) → Row → A)
-        → f (entry xs) (entry ys) (flag zs) (rowAt l i)
-        ≡ f (λ k. up s (early (ledgerOf l) i k)) (λ k. down s (early (ledgerOf l) i k))
-        (λ k. even s (early (ledgerOf l) i k)) (rowOf (lineAt (ledgerOf l) i))
-    at-row f =
-        ap₂ (λ (a : ℕ → ℕ) (b : ℕ → ℕ). f a b (flag zs) (rowAt l i)) (fun-ext (w .ups .holds))
-        (fun-ext (w .downs .holds))
-        ∙ ap₂ (f _ _) (fun-ext (w .evens .holds)) (sym (row-is l g i))
+  pub part-below : {m t : ℕ} → m ≡ t → size (formula (ledgerOf l) n) < m
+      → size (form (formula (ledgerOf l)) (lineOf r)) < t
+  part-below q h = omega (arith, h, q, ap size part-is)
 
-    pub weighed-next : {r : Row} {k v u : ℕ} {e : Bool} → i < length (ledgerOf l .lines) → r ≡ rowAt l i
-        → k ≡ counted s (r .a) (r .b) → v ≡ sideRow k (entry xs) (entry ys) r → u ≡ sideRow 0 (entry ys) (entry xs) r
-        → e ≡ evenRow (entry xs) (entry ys) (flag zs) r
-        → Weighed l s (i + 1) (set xs i v) (set ys i u) (set zs i e)
-    weighed-next {r} {v = v} {u = u} {e = e} h row ek ev eu ee =
-        let T = early (ledgerOf l) i in
-        let line = lineAt (ledgerOf l) i in
-        record {
-          ups = column-next (ledgerOf l) (up s) 0 i xs v (g .bounded .lines) h (w .ups)
-              (ev ∙ ap (λ (n : ℕ). sideRow n (entry xs) (entry ys) r) ek ∙ ap (upRow s (entry xs) (entry ys)) row
-              ∙ at-row (λ a b c. upRow s a b) ∙ sym (up-row T s line));
-          downs = column-next (ledgerOf l) (down s) 0 i ys u (g .bounded .lines) h (w .downs)
-              (eu ∙ ap (downRow (entry xs) (entry ys)) row ∙ at-row (λ a b c. downRow a b) ∙ sym (down-row T s line));
-          evens = column-next (ledgerOf l) (even s) true i zs e (g .bounded .lines) h (w .evens)
-              (ee ∙ ap (evenRow (entry xs) (entry ys) (flag zs)) row ∙ at-row evenRow ∙ sym (even-row T s line));
-        }
+  pub part-weight : (s : ℕ) {x : Weight} → x ≡ weightOf s (form (formula (ledgerOf l)) (lineOf r))
+      → x ≡ weightOf s (formula (ledgerOf l) n)
+  part-weight s h = h ∙ ap (weightOf _) part-is
 
-    -- the test of a formula that has been weighed
-    pub weighed-is : (n : ℕ) → i ≤ length (ledgerOf l .lines) → n < i
-        → (levelAt (entry xs) (entry ys) n && flag zs n) ≡ fairFor s (formula (ledgerOf l) n)
-    weighed-is n h q =
-        ap₂ _&&_
-        (ap₂ eqb (column-is (ledgerOf l) (up s) 0 i xs h (w .ups) n q)
-        (column-is (ledgerOf l) (down s) 0 i ys h (w .downs) n q))
-        (column-is (ledgerOf l) (even s) true i zs h (w .evens) n q)
+  pub part-sessions : (f : ℕ → Bool) {b : Bool} → b ≡ all f (sessionsOf (form (formula (ledgerOf l)) (lineOf r)))
+      → b ≡ all f (sessionsOf (formula (ledgerOf l) n))
+  part-sessions f h = h ∙ ap (λ (a : Formula). all f (sessionsOf a)) part-is
+
+-- no formula of a store weighs much
+pub light : (l : List ℕ) → Good l → (s n : ℕ) {x : Weight} → x ≡ weightOf s (formula (ledgerOf l) n) → Light x
+light l g s n e =
+    let a = formula (ledgerOf l) n in
+    subst Light (sym e)
+    (record {
+      up = omega (arith, weight-le s a, g .bounded .sizes n);
+      down = omega (arith, weight-le s a, g .bounded .sizes n);
+    })
+
+-- a test of the sessions, from its answers for the parts'
+module _ (f : ℕ → Bool) where
+  all-append : (xs ys : List ℕ) → all f (xs ++ ys) ≡ (all f xs && all f ys)
+  unfolding all
+  all-append [] ys = refl
+  all-append (x ∷ xs) ys = go (f x) (all-append xs ys)
+    where
+      go : (b : Bool) → all f (xs ++ ys) ≡ (all f xs && all f ys)
+          → (b && all f (xs ++ ys)) ≡ ((b && all f xs) && all f ys)
+      go true e = e
+      go false e = refl
+
+  pub all-atom : (r : Row) → r .letter ≡ code "a" → f (r .b) ≡ all f (gathered r [])
+  unfolding all
+  all-atom r e = rw (eq-eqb _ _ e) (sym (and-true (f (r .b))))
+
+  pub all-other : (r : Row) → (r .letter ≡ code "a" → ⊥) → true ≡ all f (gathered r [])
+  unfolding all
+  all-other r n = rw (ne-eqb _ _ n) refl
+
+  module _ (xs ys : List ℕ) {x : Bool} (e : x ≡ all f xs) where
+    pub all-left : x ≡ false → false ≡ all f (xs ++ ys)
+    all-left q = sym (all-append xs ys ∙ rw (sym e, q))
+
+    pub all-right : x ≡ true → {y : Bool} → y ≡ all f ys → y ≡ all f (xs ++ ys)
+    all-right q h = h ∙ sym (all-append xs ys ∙ rw (sym e, q))

@@ -1,8 +1,8 @@
 -- `atom_weight` meets its contract.
 use borrow.Author.Tests.{eq-eqb, ne-eqb}
 use Rattle.columns.proofs.Rows.{and-false}
-use Rattle.weights.proofs.weight.atom_weight.Statement.{statement}
-use Rattle.weights.proofs.weight.atom_weight.Tie as tie
+use Rattle.weights.proofs.atom_weight.Statement.{statement}
+use Rattle.weights.proofs.atom_weight.Tie as tie
 
 pub atom-weight-spec : {M : Type 1} → statement M
 atom-weight-spec =
