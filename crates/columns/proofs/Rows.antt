@@ -1,6 +1,6 @@
 -- The row functions give the values of the formula of a line, over the formulas T of the numbers that it names.
 use mathlib.Core.Path.{_≡_, refl, sym}
-use mathlib.Core.Bool.{Bool, true, false, _&&_}
+use mathlib.Core.Bool.{Bool, true, false, _&&_, and-true}
 use Prim.Native.Nat.{ℕ, _+_, _*_}
 use native.Mathlib.Omega.{arith}
 use lib.Dec.{eqb}
@@ -12,14 +12,6 @@ use Rattle.logic.specs.Multiset.{sum}
 use Rattle.request.specs.Request.{Line}
 use Rattle.ledger.specs.Table.{form, names, rowOf}
 use Rattle.columns.specs.Rows.{partsOf, sizeRow, plainRow, both, atomBoth, bothRow}
-
-pub and-true : (x : Bool) → (x && true) ≡ x
-and-true true = refl
-and-true false = refl
-
-pub and-false : (x : Bool) → (x && false) ≡ false
-and-false true = refl
-and-false false = refl
 
 pub parts-row : (l : Line) → partsOf (rowOf l) ≡ names l
 unfolding partsOf

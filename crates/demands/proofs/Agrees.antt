@@ -24,6 +24,7 @@ use Rattle.demands.specs.History.{issued}
 use Rattle.demands.specs.History.{seatsAndPlacesOf, withdrawn}
 use Rattle.ledger.proofs.Credentials.{take-out, linearly}
 use Rattle.ledger.proofs.Tables.{formula-snoc, formula-stays, There, Tabled, line-tabled}
+use Rattle.ledger.proofs.Bounds.{same-table}
 use Rattle.ledger.proofs.Passed.{Fair}
 
 pub note-silent : (o : Option Request) (n k : ℕ) (h : History) → note o (Refused n k) h ≡ h
@@ -49,10 +50,6 @@ pub record Agrees (t : Ledger) (h : History) : Type 0 where
 
 abbrev pub event : Request → ℕ → Event
 event r n = record { request = r; answer = Accepted n }
-
-pub same-table : (t : Ledger) (cs : List Credential) (n : ℕ) → Tabled t
-    → Tabled (record { lines = t .lines; live = cs; next = n })
-same-table t cs n h = record { reads = h .reads; refs = h .refs }
 
 -- A new formula
 

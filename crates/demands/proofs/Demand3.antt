@@ -3,7 +3,7 @@
 use mathlib.Core.Path.{_≡_, refl, ap, _∙_}
 use mathlib.Core.List.{List, [], _∷_}
 use mathlib.Core.Option.{some}
-use mathlib.Core.Bool.{Bool, true, false, not}
+use mathlib.Core.Bool.{true, false, not}
 use Prim.Native.Nat.{ℕ, _+_, _≤_}
 use native.Mathlib.Omega.{arith}
 use lib.ListN.{length}
@@ -36,13 +36,14 @@ use Rattle.demands.specs.History.{withdrawn}
 use Rattle.ledger.proofs.Answers.{if-none, heard}
 use Rattle.ledger.proofs.Firsts.{if-false, handle-passes, call-read}
 use Rattle.ledger.proofs.Walk.{Keeps, walk}
-use Rattle.ledger.proofs.Credentials.{linearly, splits}
+use Rattle.ledger.proofs.Credentials.{linearly, only-sum, splits}
+use Rattle.ledger.proofs.Bounds.{same-table}
 use Rattle.ledger.proofs.Passed.{Fair, passed-word, passed-issue, passed-withdraw, PassedBook, passed-book}
 use Rattle.demands.specs.Demands.{hyp, hypsOf, Demand3}
 use Rattle.steps.specs.Limits.{Writable}
 use Rattle.demands.proofs.Demand2.{few-held, writable-steps, steps-derive}
 use Rattle.demands.proofs.Agrees.{note-silent}
-use Rattle.demands.proofs.Agrees.{Right, seatsAndPlacesIn, Agrees, event, new, given-right, same-table}
+use Rattle.demands.proofs.Agrees.{Right, seatsAndPlacesIn, Agrees, event, new, given-right}
 use Rattle.demands.proofs.Agrees.{word-keeps}
 use Rattle.demands.proofs.Agrees.{issue-keeps, withdraw-keeps, tally-keeps}
 
@@ -141,10 +142,6 @@ pub agrees : (bs : List (List ℕ)) → Agrees (after empty bs) (historyOf bs)
 agrees bs = walk note Agrees note-silent accept-keeps empty [] bs empty-agrees
 
 -- The figures of a tally
-
-only-sum : (b : Bool) (n : ℕ) → only b n + only (not b) n ≡ n
-only-sum true n = omega arith
-only-sum false n = omega arith
 
 by-sum : (k : Kind) (x y : ℕ) → byKind k (x + y) 0 ≡ byKind k x 0 + byKind k y 0
 by-sum Linear x y = refl

@@ -25,6 +25,7 @@ use Rattle.store.proofs.Live.{live-sum}
 use Rattle.columns.specs.Rows.{both}
 use Rattle.columns.specs.Column.{entry}
 use Rattle.figures.specs.Figures.{Counted}
+use Rattle.ledger.proofs.Credentials.{only-sum}
 use Rattle.columns.proofs.Columns.{early-all}
 use Rattle.columns.proofs.Limits.{count-le}
 use Rattle.figures.proofs.Counting.{counted-small}
@@ -81,10 +82,6 @@ only-zero false = refl
 only-both : (b : Bool) (x y z : ℕ) → x ≡ y + 131072 * z → only b x ≡ only b y + 131072 * only b z
 only-both true x y z e = e
 only-both false x y z e = omega arith
-
-only-parts : (b : Bool) (n : ℕ) → n ≡ only b n + only (not b) n
-only-parts true n = omega arith
-only-parts false n = omega arith
 
 module _ (t : Ledger) (s : ℕ) where
   both-of : (c : Credential) → bothOf t s c ≡ seatsOf t s c + 131072 * placesOf t s c
@@ -166,7 +163,7 @@ module _ (l : List ℕ) (s m : ℕ) where
         (λ c. only-both (has (c .interval) m) _ _ _ (both-of u s c)) cs in
         let r =
         sum-plus (seatsOf u s) (opened u s m) (closed u s m)
-        (λ c. only-parts (has (c .interval) m) (seatsOf u s c)) cs in
+        (λ c. sym (only-sum (has (c .interval) m) (seatsOf u s c))) cs in
         let small = sum-le (seatsOf u s) (rowCount l) (seats-le u s (g .bounded .sizes)) cs
         (length-tab (rowCount l) (credentialAt l)) in
         let few = g .ordered .few in

@@ -81,7 +81,7 @@ below-snoc : (n : ℕ) (cs : List Credential) (c : Credential) → c .serial ≡
 below-snoc n cs c e b =
     every-snoc (λ c. c .serial < n + 1) cs c (every-map (λ d l. omega arith) cs b) (omega arith)
 
-same-table : (t : Ledger) (cs : List Credential) (n : ℕ) → Tabled t
+pub same-table : (t : Ledger) (cs : List Credential) (n : ℕ) → Tabled t
     → Tabled (record { lines = t .lines; live = cs; next = n })
 same-table t cs n h = record { reads = h .reads; refs = h .refs }
 

@@ -2,7 +2,7 @@
 use mathlib.Core.Path.{_≡_, refl, sym, ap, subst, _∙_}
 use mathlib.Core.List.{List, [], _∷_}
 use mathlib.Core.Option.{Option, none, some}
-use mathlib.Core.Bool.{Bool, true, false, _||_}
+use mathlib.Core.Bool.{Bool, true, false, _||_, not}
 use Prim.Native.Nat.{ℕ, suc, _+_, _≤_}
 use native.Mathlib.Omega.{arith}
 use lib.Dec.{eqb}
@@ -16,6 +16,7 @@ use Rattle.request.specs.declared.Kind.the-variants.{Linear, Unrestricted}
 use Rattle.ledger.specs.declared.Credential.{Credential}
 use Rattle.ledger.specs.Ledger.{Ledger, byKind, find, withoutSerial, isNone, consSome, held, linearCount, spend}
 use Rattle.ledger.specs.Checks.{any, dead, twice}
+use Rattle.ledger.specs.Calls.{only}
 use Rattle.ledger.proofs.Answers.{some-none, some-inj}
 
 -- What is found can be taken out.
@@ -114,6 +115,11 @@ held-all cs (n ∷ ns) a = go (find cs n) (a .0) (held-all cs ns (a .1))
 -- what counts for linear credentials alone
 abbrev pub linearly : (Credential → ℕ) → Credential → ℕ
 linearly f c = byKind (c .kind) (f c) 0
+
+-- what counts where the test holds, and where it does not, is all of it
+pub only-sum : (b : Bool) (n : ℕ) → only b n + only (not b) n ≡ n
+only-sum true n = omega arith
+only-sum false n = omega arith
 
 -- what is left of the credentials once c is held
 abbrev left : Credential → List Credential → List Credential

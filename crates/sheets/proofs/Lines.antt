@@ -1,7 +1,7 @@
 -- Empty lines in bytes, and the search for the first.
 use mathlib.Core.Path.{_≡_, refl, sym, ap, _∙_}
 use mathlib.Core.List.{List, [], _∷_, _++_}
-use mathlib.Core.Bool.{Bool, true, false, _&&_, _||_}
+use mathlib.Core.Bool.{Bool, true, false, _&&_, _||_, or-true, or-false, or-assoc}
 use Prim.Native.Nat.{ℕ, _+_, _≤_, _<_}
 use native.Mathlib.Numerals.{add-one}
 use native.Mathlib.Omega.{arith}
@@ -35,21 +35,6 @@ right-true false false e = e
 both-false : {a b : Bool} → a ≡ false → b ≡ false → (a || b) ≡ false
 both-false {a} {b} e f = rw (e, f)
 
-or-false : (a : Bool) → (a || false) ≡ a
-or-false false = refl
-or-false true = refl
-
-or-true : (a : Bool) → (a || true) ≡ true
-or-true false = refl
-or-true true = refl
-
-or-assoc : (a b c : Bool) → (a || (b || c)) ≡ ((a || b) || c)
-or-assoc false b c = refl
-or-assoc true false false = refl
-or-assoc true false true = refl
-or-assoc true true false = refl
-or-assoc true true true = refl
-
 -- Bytes after bytes
 
 empty-append : (f : Bool) (b c : List ℕ) → emptyLine f (b ++ c) ≡ (emptyLine f b || emptyLine (lineBegins f b) c)
@@ -57,7 +42,7 @@ unfolding emptyLine lineBegins
 empty-append f [] c = refl
 empty-append f (y ∷ b) c =
     ap (λ (z : Bool). (f && eqb y 10) || z) (empty-append (eqb y 10) b c)
-    ∙ or-assoc (f && eqb y 10) (emptyLine (eqb y 10) b) (emptyLine (lineBegins (eqb y 10) b) c)
+    ∙ sym (or-assoc (f && eqb y 10) (emptyLine (eqb y 10) b) (emptyLine (lineBegins (eqb y 10) b) c))
 
 pub begins-snoc : (f : Bool) (b : List ℕ) (x : ℕ) → lineBegins f (b ++ (x ∷ [])) ≡ eqb x 10
 unfolding lineBegins

@@ -1,7 +1,7 @@
 -- A row's weight and its sessions, from those of its parts.
 use mathlib.Core.Path.{_≡_, refl, sym, ap, subst, _∙_}
 use mathlib.Core.List.{List, [], _∷_, _++_, map}
-use mathlib.Core.Bool.{Bool, true, false, _&&_}
+use mathlib.Core.Bool.{Bool, true, false, _&&_, and-true}
 use Prim.Native.Nat.{ℕ, _<_}
 use Prim.Native.Char.{code}
 use native.Mathlib.Omega.{arith}
@@ -23,7 +23,6 @@ use Rattle.store.proofs.Lines.{line-of-row}
 use Rattle.columns.specs.Rows.{partsOf}
 use Rattle.columns.specs.declared.parts.Parts.{Parts}
 use Rattle.columns.specs.Parts.{numbers}
-use Rattle.columns.proofs.Rows.{and-true}
 use Rattle.columns.proofs.Limits.{weight-le}
 use Rattle.figures.specs.Figures.{Formable}
 use Rattle.figures.proofs.Named.{parts-are, parts-size}

@@ -1,6 +1,6 @@
 -- `names_there` meets its contract.
 use mathlib.Core.Path.{_≡_, sym, _∙_}
-use mathlib.Core.Bool.{true, _&&_, not}
+use mathlib.Core.Bool.{true, _&&_, not, and-true}
 use borrow.Author.Needs.{needs}
 use borrow.Author.Tests.{lt-ltb, le-ltb}
 use lib.Dec.{ltb}
@@ -9,7 +9,6 @@ use Rattle.logic.specs.Counts.{all}
 use Rattle.ledger.specs.Table.{names}
 use Rattle.ledger.specs.Checks.{any, missing}
 use Rattle.store.specs.Store.{lineOf, ledgerOf}
-use Rattle.columns.proofs.Rows.{and-true}
 use Rattle.figures.proofs.Named.{all-below}
 use Rattle.figures.proofs.names_there.Statement.{statement}
 use Rattle.figures.proofs.names_there.Tie as tie

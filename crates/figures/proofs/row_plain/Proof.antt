@@ -1,7 +1,7 @@
 -- `row_plain` meets its contract.
 use mathlib.Core.Path.{_≡_, sym, _∙_}
 use mathlib.Core.List.{[], _∷_}
-use mathlib.Core.Bool.{true, _&&_}
+use mathlib.Core.Bool.{true, _&&_, and-true}
 use borrow.Author.Needs.{needs}
 use borrow.Author.Tests.{not-true, not-false}
 use denote.Ref.{now}
@@ -12,7 +12,6 @@ use Rattle.ledger.specs.Ledger.{formula}
 use Rattle.ledger.proofs.Tables.{There}
 use Rattle.store.specs.Store.{lineOf, ledgerOf}
 use Rattle.columns.specs.Rows.{among, plains}
-use Rattle.columns.proofs.Rows.{and-true}
 use Rattle.figures.proofs.Named.{other-letter, parts-there, parts-plain}
 use Rattle.figures.proofs.row_plain.Statement.{statement}
 use Rattle.figures.proofs.row_plain.Tie as tie

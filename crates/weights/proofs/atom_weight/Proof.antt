@@ -1,6 +1,6 @@
 -- `atom_weight` meets its contract.
 use borrow.Author.Tests.{eq-eqb, ne-eqb}
-use Rattle.columns.proofs.Rows.{and-false}
+use mathlib.Core.Bool.{and-false}
 use Rattle.weights.proofs.atom_weight.Statement.{statement}
 use Rattle.weights.proofs.atom_weight.Tie as tie
 
