@@ -8,7 +8,7 @@ use native.Mathlib.Decide.{decLt}
 use lib.ListN.{length, getD}
 use lib.Seq.{sets, length-sets}
 use Rattle.cells.specs.Layout.{cell, putRow}
-use Rattle.cells.proofs.Sets.{sets-below, sets-above, sets-in}
+use Rattle.logic.proofs.Stores.{sets-below, sets-above, sets-in}
 
 -- rows do not overlap
 row-gap : (w i k : ℕ) → k < i → k * w + w ≤ i * w

@@ -1,3 +1,2 @@
-pub mod Sets
 pub mod Cells
 pub mod Rows

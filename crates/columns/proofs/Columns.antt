@@ -8,7 +8,7 @@ use native.Mathlib.Numerals.{add-one}
 use native.Mathlib.Nat.{add-zero, add-suc}
 use native.Mathlib.Decide.{decLt}
 use lib.Dec.{eqb}
-use lib.ListN.{length, getD, take, set, replicate, length-take, length-set, length-replicate, getD-replicate}
+use lib.ListN.{length, getD, take, set, replicate, length-take, length-set, length-replicate}
 use lib.ListN.{List·getD-eq-default}
 use lib.Seq.{take-suc, take-length, length-take-le, getD-set-same, getD-set-other}
 use borrow.Author.Tests.{eqb-true, eqb-false, ne-eqb}
@@ -19,6 +19,12 @@ use Rattle.ledger.specs.Ledger.{Ledger, formula}
 use Rattle.ledger.specs.Checks.{maxSize, maxFormulas}
 use Rattle.ledger.proofs.Tables.{formulas-length, formula-snoc, lineAt}
 use Rattle.columns.specs.Column.{early, Column}
+
+-- a list of one value has it everywhere
+pub replicate-is : {A : Type 0} (d : A) (n k : ℕ) → getD (replicate n d) k d ≡ d
+replicate-is d zero k = refl
+replicate-is d (suc n) zero = refl
+replicate-is d (suc n) (suc k) = replicate-is d n k
 
 module _ (t : Ledger) where
   -- the ledger of the first i lines
@@ -74,13 +80,8 @@ module _ (t : Ledger) where
     unfolding formulas build
     column-start e = record {
       long = length-replicate maxFormulas d;
-      holds = λ k. go k (decLt k maxFormulas) ∙ sym e;
+      holds = λ k. replicate-is d maxFormulas k ∙ sym e;
     }
-      where
-        go : (k : ℕ) → Dec (k < maxFormulas) → getD (replicate maxFormulas d) k d ≡ d
-        go k (yes q) = getD-replicate maxFormulas k d d q
-        go k (no q) =
-            List·getD-eq-default (replicate maxFormulas d) d {n = k} (omega (arith, length-replicate maxFormulas d))
 
     pub column-next : (i : ℕ) (xs : List A) (v : A) → length (t .lines) ≤ maxFormulas → i < length (t .lines)
         → Column t value d i xs → v ≡ value (form (early t i) (lineAt t i)) → Column t value d (i + 1) (set xs i v)

@@ -23,7 +23,7 @@ use Rattle.columns.specs.Column.{entry, early, Countable}
 use Rattle.figures.specs.Figures.{Blank, Counted}
 use Rattle.columns.proofs.Rows.{parts-row, both-row}
 use Rattle.columns.proofs.Limits.{both-le}
-use Rattle.columns.proofs.Columns.{column-start, column-next, early-small}
+use Rattle.columns.proofs.Columns.{replicate-is, column-start, column-next, early-small}
 
 sum-zero : (f : ℕ → ℕ) → ((k : ℕ) → f k ≡ 0) → (ns : List ℕ) → sum f ns ≡ 0
 unfolding sum
@@ -36,12 +36,7 @@ set-zero (suc n) zero = refl
 set-zero (suc n) (suc i) = ap (λ (xs : List ℕ). 0 ∷ xs) (set-zero n i)
 
 blank-zero : (xs : List ℕ) → Blank xs → (k : ℕ) → entry xs k ≡ 0
-blank-zero xs e k = ap (λ (ys : List ℕ). entry ys k) e ∙ go maxFormulas k
-  where
-    go : (n k : ℕ) → entry (replicate n 0) k ≡ 0
-    go zero k = refl
-    go (suc n) zero = refl
-    go (suc n) (suc k) = go n k
+blank-zero xs e k = ap (λ (ys : List ℕ). entry ys k) e ∙ replicate-is 0 maxFormulas k
 
 module _ (l : List ℕ) (s : ℕ) where
   pub counted-start : (xs : List ℕ) → Blank xs → Counted l s 0 xs

@@ -5,10 +5,9 @@ use mathlib.Core.Option.{none, some}
 use mathlib.Core.Bool.{Bool, true, false}
 use Prim.Native.Nat.{ℕ, _+_, _*_, _≤_, _<_}
 use native.Mathlib.Omega.{arith}
-use native.Mathlib.Decide.{decLt}
 use lib.Dec.{eqb}
 use lib.Seq.{length-take-le}
-use lib.ListN.{length, take, getD, replicate, length-map, length-replicate, getD-replicate, List·getD-eq-default}
+use lib.ListN.{length, take, getD, replicate, length-map, length-replicate}
 use borrow.Author.Tests.{eqb-true, eqb-false}
 use Rattle.logic.specs.declared.Interval.{Interval}
 use Rattle.request.specs.Request.{Step}
@@ -24,6 +23,7 @@ use Rattle.cells.specs.Layout.{rowAt}
 use Rattle.store.specs.Store.{ledgerOf, Good}
 use Rattle.store.proofs.Views.{rows-are}
 use Rattle.tables.specs.Held.{heldAt, putHeld}
+use Rattle.columns.proofs.Columns.{replicate-is}
 use Rattle.tables.specs.Lines.{stepsFrom}
 use Rattle.tables.proofs.LabelTable.{heldTable, held-good}
 use Rattle.checker.specs.declared.Checked.{Checked}
@@ -61,11 +61,7 @@ abbrev zeros : List ℕ
 zeros = replicate 192 0
 
 zero-at : (k : ℕ) → getD zeros k 0 ≡ 0
-zero-at k = go (decLt k 192)
-  where
-    go : Dec (k < 192) → getD zeros k 0 ≡ 0
-    go (yes h) = getD-replicate 192 k 0 0 h
-    go (no h) = List·getD-eq-default zeros 0 {n = k} (omega (arith, length-replicate {A = ℕ} 192 0))
+zero-at k = replicate-is 0 192 k
 
 no-labels : heldAt zeros ≡ noLabels
 unfolding heldAt

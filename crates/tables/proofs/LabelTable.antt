@@ -11,7 +11,7 @@ use Rattle.steps.specs.declared.Hypothesis.{Hypothesis}
 use Rattle.steps.specs.Check.{maxLabels}
 use Rattle.steps.proofs.Tables.{Table}
 use Rattle.tables.specs.Held.{heldAt, putHeld}
-use Rattle.tables.proofs.Cells.{outside, inside}
+use Rattle.logic.proofs.Stores.{sets-outside, sets-in}
 
 abbrev cells : Hypothesis → List ℕ
 cells h = h .formula ∷ h .interval .from ∷ h .interval .to ∷ []
@@ -24,7 +24,7 @@ reads : (t : List ℕ) (n : ℕ) (h : Hypothesis) → length t ≡ 192 → n < m
 unfolding heldAt putHeld maxLabels
 reads t n h g l =
     let at : (f : ℕ) → f < 3 → getD (sets t (n * 3) (cells h)) (n * 3 + f) 0 ≡ getD (cells h) f 0 =
-    λ f k. inside t (n * 3) (cells h) f k (omega arith) in
+    λ f k. sets-in 0 (cells h) t (n * 3) f (omega arith) k in
     let first : n * 3 ≡ n * 3 + 0 = omega arith in
     λ i. record {
       formula = (ap (λ (k : ℕ). getD (sets t (n * 3) (cells h)) k 0) first ∙ at 0 (omega arith)) i;
@@ -35,7 +35,7 @@ keeps : (t : List ℕ) (n k : ℕ) (h : Hypothesis) → (k ≡ n → ⊥) → he
 unfolding heldAt putHeld
 keeps t n k h d =
     let kept : (f : ℕ) → f < 3 → getD (sets t (n * 3) (cells h)) (k * 3 + f) 0 ≡ getD t (k * 3 + f) 0 =
-    λ f l. outside t (n * 3) (cells h) (k * 3 + f) (apart f l (decLt k n)) in
+    λ f l. sets-outside 0 (cells h) t (n * 3) (k * 3 + f) (apart f l (decLt k n)) in
     let first : k * 3 + 0 ≡ k * 3 = omega arith in
     λ i. record {
       formula = (rw first at (kept 0 (omega arith))) i;

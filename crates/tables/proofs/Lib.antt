@@ -1,3 +1,2 @@
-pub mod Cells
 pub mod LabelTable
 pub mod StepRows

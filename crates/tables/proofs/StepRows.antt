@@ -11,7 +11,7 @@ use lib.Seq.{sets, length-sets}
 use Rattle.request.specs.Request.{Step}
 use Rattle.tables.specs.declared.StepRow.{StepRow}
 use Rattle.tables.specs.Lines.{stepRowAt, putStepRow, stepOf, stepAt, stepsFrom}
-use Rattle.tables.proofs.Cells.{outside, inside}
+use Rattle.logic.proofs.Stores.{sets-outside, sets-in}
 
 abbrev cells : StepRow → List ℕ
 cells r = r .op ∷ r .label ∷ r .high ∷ r .low ∷ r .from ∷ r .to ∷ []
@@ -24,7 +24,7 @@ row-put : (l : List ℕ) (k : ℕ) (r : StepRow) → k * 6 + 6 ≤ length l → 
 unfolding stepRowAt putStepRow
 row-put l k r h =
     let at : (f : ℕ) → f < 6 → getD (sets l (k * 6) (cells r)) (k * 6 + f) 0 ≡ getD (cells r) f 0 =
-    λ f m. inside l (k * 6) (cells r) f m h in
+    λ f m. sets-in 0 (cells r) l (k * 6) f h m in
     let first : k * 6 ≡ k * 6 + 0 = omega arith in
     λ i. record {
       op = (ap (λ (n : ℕ). getD (sets l (k * 6) (cells r)) n 0) first ∙ at 0 (omega arith)) i;
@@ -39,7 +39,7 @@ row-kept : (l : List ℕ) (k j : ℕ) (r : StepRow) → (j ≡ k → ⊥) → st
 unfolding stepRowAt putStepRow
 row-kept l k j r d =
     let kept : (f : ℕ) → f < 6 → getD (sets l (k * 6) (cells r)) (j * 6 + f) 0 ≡ getD l (j * 6 + f) 0 =
-    λ f m. outside l (k * 6) (cells r) (j * 6 + f) (apart f m (decLt j k)) in
+    λ f m. sets-outside 0 (cells r) l (k * 6) (j * 6 + f) (apart f m (decLt j k)) in
     let first : j * 6 + 0 ≡ j * 6 = omega arith in
     λ i. record {
       op = (rw first at (kept 0 (omega arith))) i;
