@@ -88,7 +88,7 @@ fn book_steps(
     };
     let serial = store::next_serial(till);
     holds::spend(till, serials, head.holds);
-    store::give(till, Kind::Linear, head.formula, head.interval);
+    credentials::give(till, Kind::Linear, head.formula, head.interval);
     Answer::Accepted(serial)
 }
 

@@ -18,9 +18,9 @@ use Rattle.steps.specs.declared.Row.{Row}
 use Rattle.ledger.specs.declared.Credential.{Credential}
 use Rattle.ledger.specs.Table.{rowOf}
 use Rattle.cells.specs.Layout.{cells, maxRows, cell, lineCount, liveCount, nextSerial, rowCount, rowFrom}
-use Rattle.cells.specs.Layout.{lineCell, rowAt, sizeAt, plainAt, lineCells, putLine, kindFrom, kindNumber}
-use Rattle.cells.specs.Layout.{credentialFrom, credentialAt, gapAt, entryAt, credentialCells, putCredential}
-use Rattle.cells.specs.Layout.{putGap, putHint}
+use Rattle.cells.specs.Layout.{lineCell, rowAt, sizeAt, plainAt, balancedAt, lineCells, putLine, kindFrom}
+use Rattle.cells.specs.Layout.{kindNumber, credentialFrom, credentialAt, gapAt, entryAt, credentialCells}
+use Rattle.cells.specs.Layout.{putCredential, putGap, putHint}
 use Rattle.cells.proofs.Cells.{length-putRow, row-same, row-other, put-below, put-above}
 
 -- a row is known by its cells
@@ -71,15 +71,15 @@ row-past l n h = go (decLt n 200)
 pub record SameLines (l m : List ℕ) : Type 0 where
   pub long : length m ≡ cells
   pub count : lineCount m ≡ lineCount l
-  pub rows : (k : ℕ) → 4 ≤ k → k < 1404 → getD m k 0 ≡ getD l k 0
+  pub rows : (k : ℕ) → 4 ≤ k → k < 1604 → getD m k 0 ≡ getD l k 0
 
 pub lines-self : (l : List ℕ) → length l ≡ cells → SameLines l l
 lines-self l h = record { long = h; count = refl; rows = λ k p q. refl }
 
 module _ (l m : List ℕ) (s : SameLines l m) where
-  same-cell : (i f : ℕ) → i < 200 → f < 7 → lineCell m i f ≡ lineCell l i f
+  same-cell : (i f : ℕ) → i < 200 → f < 8 → lineCell m i f ≡ lineCell l i f
   unfolding lineCell cell
-  same-cell i f h q = s .rows (4 + i * 7 + f) (omega arith) (omega arith)
+  same-cell i f h q = s .rows (4 + i * 8 + f) (omega arith) (omega arith)
 
   pub same-row : (n : ℕ) → rowAt m n ≡ rowAt l n
   unfolding rowAt
@@ -97,14 +97,18 @@ module _ (l m : List ℕ) (s : SameLines l m) where
   unfolding plainAt
   same-plain n h = same-cell n 6 h (omega arith)
 
+  pub same-balanced : (n : ℕ) → n < 200 → balancedAt m n ≡ balancedAt l n
+  unfolding balancedAt
+  same-balanced n h = same-cell n 7 h (omega arith)
+
 -- row i of the credentials stands in m as in l
 abbrev pub Stays : List ℕ → List ℕ → ℕ → Type 0
-Stays l m i = (f : ℕ) → f < 5 → cell m 1404 5 i f ≡ cell l 1404 5 i f
+Stays l m i = (f : ℕ) → f < 5 → cell m 1604 5 i f ≡ cell l 1604 5 i f
 
 module _ (l m : List ℕ) (i : ℕ) (s : Stays l m i) where
   pub stays-credential : credentialAt m i ≡ credentialAt l i
   unfolding credentialAt
-  stays-credential = credential-ext (cell m 1404 5 i) (cell l 1404 5 i) s
+  stays-credential = credential-ext (cell m 1604 5 i) (cell l 1604 5 i) s
 
   pub stays-gap : gapAt m i ≡ gapAt l i
   unfolding gapAt
@@ -125,7 +129,7 @@ module _ (l : List ℕ) (i : ℕ) where
   -- a gap reads as unrestricted
   pub gap-kind : gapAt l i ≡ true → credentialAt l i .kind ≡ Unrestricted
   unfolding gapAt credentialAt
-  gap-kind e = rw (eqb-true (cell l 1404 5 i 1) 2 e)
+  gap-kind e = rw (eqb-true (cell l 1604 5 i 1) 2 e)
 
   pub entry-there : gapAt l i ≡ false → entryAt l i ≡ some (credentialAt l i)
   unfolding entryAt
@@ -156,11 +160,11 @@ head-other m h v k n = getD-set-other m h k v 0 n
 
 pub head-stays : (m : List ℕ) (h v i : ℕ) → h < 4 → Stays m (set m h v) i
 unfolding cell
-head-stays m h v i q f p = getD-set-other m h (1404 + i * 5 + f) v 0 (omega arith)
+head-stays m h v i q f p = getD-set-other m h (1604 + i * 5 + f) v 0 (omega arith)
 
 pub head-line : (m : List ℕ) (h v i f : ℕ) → h < 4 → lineCell (set m h v) i f ≡ lineCell m i f
 unfolding lineCell cell
-head-line m h v i f q = getD-set-other m h (4 + i * 7 + f) v 0 (omega arith)
+head-line m h v i f q = getD-set-other m h (4 + i * 8 + f) v 0 (omega arith)
 
 pub count-live : (l m : List ℕ) (v : ℕ) → SameLive l m → SameLive l (set m 0 v)
 count-live l m v s = record {
@@ -172,41 +176,41 @@ count-live l m v s = record {
 }
 
 -- A formula row is put.
-module _ (m : List ℕ) (i : ℕ) (r : Row) (s : ℕ) (p : Bool) where
-  pub line-same : length m ≡ cells → i < 200 → (f : ℕ) → f < 7
-      → lineCell (putLine m i r s p) i f ≡ getD (lineCells r s p) f 0
+module _ (m : List ℕ) (i : ℕ) (r : Row) (s : ℕ) (p b : Bool) where
+  pub line-same : length m ≡ cells → i < 200 → (f : ℕ) → f < 8
+      → lineCell (putLine m i r s p b) i f ≡ getD (lineCells r s p b) f 0
   unfolding lineCell putLine
-  line-same n h f q = row-same m 4 7 i (lineCells r s p) f (omega arith) (omega arith)
+  line-same n h f q = row-same m 4 8 i (lineCells r s p b) f (omega arith) (omega arith)
 
-  pub line-other : (k f : ℕ) → (k ≡ i → ⊥) → f < 7 → lineCell (putLine m i r s p) k f ≡ lineCell m k f
+  pub line-other : (k f : ℕ) → (k ≡ i → ⊥) → f < 8 → lineCell (putLine m i r s p b) k f ≡ lineCell m k f
   unfolding lineCell putLine
-  line-other k f h q = row-other m 4 7 i (lineCells r s p) refl k f h q
+  line-other k f h q = row-other m 4 8 i (lineCells r s p b) refl k f h q
 
-  line-before : (k : ℕ) → k < 4 → getD (putLine m i r s p) k 0 ≡ getD m k 0
+  line-before : (k : ℕ) → k < 4 → getD (putLine m i r s p b) k 0 ≡ getD m k 0
   unfolding putLine
-  line-before k h = put-below m 4 7 i (lineCells r s p) k h
+  line-before k h = put-below m 4 8 i (lineCells r s p b) k h
 
-  pub line-live : length m ≡ cells → i < 200 → SameLive m (putLine m i r s p)
+  pub line-live : length m ≡ cells → i < 200 → SameLive m (putLine m i r s p b)
   unfolding putLine cell
   line-live n h = record {
-    long = length-putRow m 4 7 i (lineCells r s p) ∙ n;
+    long = length-putRow m 4 8 i (lineCells r s p b) ∙ n;
     count = line-before 1 (omega arith);
     next = line-before 2 (omega arith);
     used = line-before 3 (omega arith);
-    rows = λ k a f b. put-above m 4 7 i (lineCells r s p) (1404 + k * 5 + f) (omega arith);
+    rows = λ k x f q. put-above m 4 8 i (lineCells r s p b) (1604 + k * 5 + f) (omega arith);
   }
 
 -- A credential is put.
 module _ (m : List ℕ) (i : ℕ) (c : Credential) where
   module _ (n : length m ≡ cells) (h : i < maxRows) where
-    put-cell : (f : ℕ) → f < 5 → cell (putCredential m i c) 1404 5 i f ≡ getD (credentialCells c) f 0
+    put-cell : (f : ℕ) → f < 5 → cell (putCredential m i c) 1604 5 i f ≡ getD (credentialCells c) f 0
     unfolding putCredential
-    put-cell f q = row-same m 1404 5 i (credentialCells c) f (omega arith) (omega arith)
+    put-cell f q = row-same m 1604 5 i (credentialCells c) f (omega arith) (omega arith)
 
     pub credential-same : credentialAt (putCredential m i c) i ≡ c
     unfolding credentialAt
     credential-same =
-        credential-ext (cell (putCredential m i c) 1404 5 i) (λ f. getD (credentialCells c) f 0) put-cell
+        credential-ext (cell (putCredential m i c) 1604 5 i) (λ f. getD (credentialCells c) f 0) put-cell
         ∙ rw (kind-number (c .kind))
 
     pub credential-there : gapAt (putCredential m i c) i ≡ false
@@ -215,15 +219,15 @@ module _ (m : List ℕ) (i : ℕ) (c : Credential) where
 
   pub credential-stays : (k : ℕ) → (k ≡ i → ⊥) → Stays m (putCredential m i c) k
   unfolding putCredential
-  credential-stays k h f q = row-other m 1404 5 i (credentialCells c) refl k f h q
+  credential-stays k h f q = row-other m 1604 5 i (credentialCells c) refl k f h q
 
-  pub credential-before : (k : ℕ) → k < 1404 → getD (putCredential m i c) k 0 ≡ getD m k 0
+  pub credential-before : (k : ℕ) → k < 1604 → getD (putCredential m i c) k 0 ≡ getD m k 0
   unfolding putCredential
-  credential-before k h = put-below m 1404 5 i (credentialCells c) k h
+  credential-before k h = put-below m 1604 5 i (credentialCells c) k h
 
   pub credential-long : length (putCredential m i c) ≡ length m
   unfolding putCredential
-  credential-long = length-putRow m 1404 5 i (credentialCells c)
+  credential-long = length-putRow m 1604 5 i (credentialCells c)
 
   pub credential-lines : (l : List ℕ) → SameLines l m → SameLines l (putCredential m i c)
   credential-lines l s = record {
@@ -236,49 +240,49 @@ module _ (m : List ℕ) (i : ℕ) (c : Credential) where
 module _ (m : List ℕ) (i : ℕ) where
   pub gap-here : length m ≡ cells → i < maxRows → gapAt (putGap m i) i ≡ true
   unfolding gapAt putGap cell
-  gap-here n h = ap (λ (x : ℕ). eqb x 2) (getD-set-same m (1404 + i * 5 + 1) 2 0 (omega arith))
+  gap-here n h = ap (λ (x : ℕ). eqb x 2) (getD-set-same m (1604 + i * 5 + 1) 2 0 (omega arith))
 
   pub gap-stays : (k : ℕ) → (k ≡ i → ⊥) → Stays m (putGap m i) k
   unfolding putGap cell
-  gap-stays k h f q = getD-set-other m (1404 + i * 5 + 1) (1404 + k * 5 + f) 2 0 (omega arith)
+  gap-stays k h f q = getD-set-other m (1604 + i * 5 + 1) (1604 + k * 5 + f) 2 0 (omega arith)
 
   pub gap-serial : (k : ℕ) → credentialAt (putGap m i) k .serial ≡ credentialAt m k .serial
   unfolding credentialAt putGap cell
-  gap-serial k = getD-set-other m (1404 + i * 5 + 1) (1404 + k * 5 + 0) 2 0 (omega arith)
+  gap-serial k = getD-set-other m (1604 + i * 5 + 1) (1604 + k * 5 + 0) 2 0 (omega arith)
 
   pub gap-of : (k : ℕ) → credentialAt (putGap m i) k .formula ≡ credentialAt m k .formula
   unfolding credentialAt putGap cell
-  gap-of k = getD-set-other m (1404 + i * 5 + 1) (1404 + k * 5 + 2) 2 0 (omega arith)
+  gap-of k = getD-set-other m (1604 + i * 5 + 1) (1604 + k * 5 + 2) 2 0 (omega arith)
 
-  pub gap-before : (k : ℕ) → k < 1404 → getD (putGap m i) k 0 ≡ getD m k 0
+  pub gap-before : (k : ℕ) → k < 1604 → getD (putGap m i) k 0 ≡ getD m k 0
   unfolding putGap
-  gap-before k h = getD-set-other m (1404 + i * 5 + 1) k 2 0 (omega arith)
+  gap-before k h = getD-set-other m (1604 + i * 5 + 1) k 2 0 (omega arith)
 
   pub gap-lines : (l : List ℕ) → SameLines l m → SameLines l (putGap m i)
   unfolding putGap
   gap-lines l s = record {
-    long = length-set m (1404 + i * 5 + 1) 2 ∙ s .long;
+    long = length-set m (1604 + i * 5 + 1) 2 ∙ s .long;
     count = gap-before 0 (omega arith) ∙ s .count;
     rows = λ k a b. gap-before k b ∙ s .rows k a b;
   }
 
 -- A hint is put: all else stays.
 module _ (m : List ℕ) (s v : ℕ) where
-  pub hint-before : (k : ℕ) → k < 6524 → getD (putHint m s v) k 0 ≡ getD m k 0
+  pub hint-before : (k : ℕ) → k < 6724 → getD (putHint m s v) k 0 ≡ getD m k 0
   unfolding putHint
-  hint-before k h = getD-set-other m (6524 + s % 1024) k v 0 (omega arith)
+  hint-before k h = getD-set-other m (6724 + s % 1024) k v 0 (omega arith)
 
   pub hint-lines : (l : List ℕ) → SameLines l m → SameLines l (putHint m s v)
   unfolding putHint
   hint-lines l w = record {
-    long = length-set m (6524 + s % 1024) v ∙ w .long;
+    long = length-set m (6724 + s % 1024) v ∙ w .long;
     count = hint-before 0 (omega arith) ∙ w .count;
     rows = λ k a b. hint-before k (omega arith) ∙ w .rows k a b;
   }
 
   pub hint-stays : (i : ℕ) → i < maxRows → Stays m (putHint m s v) i
   unfolding cell
-  hint-stays i h f q = hint-before (1404 + i * 5 + f) (omega arith)
+  hint-stays i h f q = hint-before (1604 + i * 5 + f) (omega arith)
 
   pub hint-live : length m ≡ cells → SameLive m (putHint m s v)
   hint-live n = record {

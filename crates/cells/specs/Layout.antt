@@ -6,14 +6,15 @@
 --   1           the count of live credentials
 --   2           the next serial
 --   3           the count of credential rows in use
---   4 ..        200 rows of 7: a formula line's (document 01: a wording's) letter, a, b, c, d; then its formula's size
---               and whether it is plain (1 or 0), kept so that no later request goes through the formula's parts again
---   1404 ..     1,024 rows of 5: a credential's (a coupon's) serial, kind (0 linear: single-use, 1 unrestricted:
+--   4 ..        200 rows of 8: a formula line's (document 01: a wording's) letter, a, b, c, d; then its formula's
+--               size, whether it is plain and whether it is balanced (1 or 0), kept so that no later request goes
+--               through the formula's parts again
+--   1604 ..     1,024 rows of 5: a credential's (a coupon's) serial, kind (0 linear: single-use, 1 unrestricted:
 --               standing, 2 for one that has left: a gap), formula number (wording), and its interval (window), from
 --               and to. Rows stand in the order of their serials, and a row that leaves is only marked, so that no
 --               other one moves; there are twice as many rows as may live, and when all are in use the live ones are
 --               moved together
---   6524 ..     1,024 hints: at serial mod 1,024 the row where the credential of that serial may stand. A hint is only
+--   6724 ..     1,024 hints: at serial mod 1,024 the row where the credential of that serial may stand. A hint is only
 --               a guess that the search tests first: nothing is asked of its value
 use mathlib.Core.List.{List, [], _∷_}
 use mathlib.Core.Bool.{Bool}
@@ -34,7 +35,7 @@ use Rattle.ledger.specs.Checks.{maxFormulas}
 use Rattle.logic.specs.Choice.{pick}
 
 abbrev pub cells : ℕ
-cells = 7548
+cells = 7748
 
 -- how many credential rows there are
 abbrev pub maxRows : ℕ
@@ -76,7 +77,7 @@ putRowCount l n = set l 3 n
 -- Formula rows
 
 unfoldable pub lineCell : List ℕ → ℕ → ℕ → ℕ
-lineCell l i f = cell l 4 7 i f
+lineCell l i f = cell l 4 8 i f
 
 abbrev pub rowFrom : (ℕ → ℕ) → Row
 rowFrom g = record { letter = g 0; a = g 1; b = g 2; c = g 3; d = g 4 }
@@ -92,11 +93,15 @@ sizeAt l n = lineCell l n 5
 unfoldable pub plainAt : List ℕ → ℕ → ℕ
 plainAt l n = lineCell l n 6
 
-abbrev pub lineCells : Row → ℕ → Bool → List ℕ
-lineCells r size plain = r .letter ∷ r .a ∷ r .b ∷ r .c ∷ r .d ∷ size ∷ bit plain ∷ []
+unfoldable pub balancedAt : List ℕ → ℕ → ℕ
+balancedAt l n = lineCell l n 7
 
-unfoldable pub putLine : List ℕ → ℕ → Row → ℕ → Bool → List ℕ
-putLine l i r size plain = putRow l 4 7 i (lineCells r size plain)
+abbrev pub lineCells : Row → ℕ → Bool → Bool → List ℕ
+lineCells r size plain balanced =
+    r .letter ∷ r .a ∷ r .b ∷ r .c ∷ r .d ∷ size ∷ bit plain ∷ bit balanced ∷ []
+
+unfoldable pub putLine : List ℕ → ℕ → Row → ℕ → Bool → Bool → List ℕ
+putLine l i r size plain balanced = putRow l 4 8 i (lineCells r size plain balanced)
 
 -- Credential rows
 
@@ -111,11 +116,11 @@ abbrev pub credentialFrom : (ℕ → ℕ) → Credential
 credentialFrom g = record { serial = g 0; kind = kindFrom (g 1); formula = g 2; interval = span (g 3) (g 4) }
 
 unfoldable pub credentialAt : List ℕ → ℕ → Credential
-credentialAt l i = credentialFrom (cell l 1404 5 i)
+credentialAt l i = credentialFrom (cell l 1604 5 i)
 
 -- whether the credential of row i has left
 unfoldable pub gapAt : List ℕ → ℕ → Bool
-gapAt l i = eqb (cell l 1404 5 i 1) 2
+gapAt l i = eqb (cell l 1604 5 i 1) 2
 
 -- the credential that stands in row i, if it has not left
 unfoldable pub entryAt : List ℕ → ℕ → Option Credential
@@ -126,17 +131,17 @@ credentialCells c =
     c .serial ∷ kindNumber (c .kind) ∷ c .formula ∷ c .interval .from ∷ c .interval .to ∷ []
 
 unfoldable pub putCredential : List ℕ → ℕ → Credential → List ℕ
-putCredential l i c = putRow l 1404 5 i (credentialCells c)
+putCredential l i c = putRow l 1604 5 i (credentialCells c)
 
 -- the credential of row i leaves
 unfoldable pub putGap : List ℕ → ℕ → List ℕ
-putGap l i = set l (1404 + i * 5 + 1) 2
+putGap l i = set l (1604 + i * 5 + 1) 2
 
 -- Hints
 
 -- the row where the credential of serial s may stand: a guess, of which nothing is known
 unfoldable pub hintAt : List ℕ → ℕ → ℕ
-hintAt l s = getD l (6524 + s % 1024) 0
+hintAt l s = getD l (6724 + s % 1024) 0
 
 unfoldable pub putHint : List ℕ → ℕ → ℕ → List ℕ
-putHint l s i = set l (6524 + s % 1024) i
+putHint l s i = set l (6724 + s % 1024) i

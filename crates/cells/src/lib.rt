@@ -9,18 +9,18 @@ ghost use Prim.Native.Nat.{_<_};
 ghost use Rattle.logic.specs.Formula.{bit};
 ghost use Rattle.cells.specs.Layout.{lineCount, liveCount, nextSerial, rowCount};
 ghost use Rattle.cells.specs.Layout.{putLineCount, putLiveCount, putNext, putRowCount};
-ghost use Rattle.cells.specs.Layout.{rowFrom, lineCell, sizeAt, plainAt, putLine};
+ghost use Rattle.cells.specs.Layout.{rowFrom, lineCell, sizeAt, plainAt, balancedAt, putLine};
 ghost use Rattle.cells.specs.Layout.{kindFrom, kindNumber, credentialAt, gapAt, putCredential, putGap};
 ghost use Rattle.cells.specs.Layout.{hintAt, putHint};
 
-pub type Store = [u32; 7548];
+pub type Store = [u32; 7748];
 
 // where the tables start
 const LINES: usize = 4;
 
-const CREDENTIALS: usize = 1404;
+const CREDENTIALS: usize = 1604;
 
-const HINTS: usize = 6524;
+const HINTS: usize = 6724;
 
 // the kind of a credential that has left
 const GAP: u32 = 2;
@@ -77,7 +77,7 @@ pub fn line_row(store: &Store, i: u32) -> Row
     requires { ⌜ i < 200 ⌝ }
     ensures { λ r. ⌜ r ≡ rowFrom (lineCell (now (store .entry)) i) ⌝ }
 {
-    let at = LINES + (i as usize) * 7;
+    let at = LINES + (i as usize) * 8;
     Row {
         letter: store[at],
         a: store[at + 1],
@@ -91,14 +91,21 @@ pub fn size(store: &Store, i: u32) -> u32
     requires { ⌜ i < 200 ⌝ }
     ensures { λ r. ⌜ r ≡ sizeAt (now (store .entry)) i ⌝ }
 {
-    store[LINES + (i as usize) * 7 + 5]
+    store[LINES + (i as usize) * 8 + 5]
 }
 
 pub fn plain(store: &Store, i: u32) -> u32
     requires { ⌜ i < 200 ⌝ }
     ensures { λ r. ⌜ r ≡ plainAt (now (store .entry)) i ⌝ }
 {
-    store[LINES + (i as usize) * 7 + 6]
+    store[LINES + (i as usize) * 8 + 6]
+}
+
+pub fn balanced(store: &Store, i: u32) -> u32
+    requires { ⌜ i < 200 ⌝ }
+    ensures { λ r. ⌜ r ≡ balancedAt (now (store .entry)) i ⌝ }
+{
+    store[LINES + (i as usize) * 8 + 7]
 }
 
 fn bit_of(b: bool) -> u32
@@ -107,12 +114,13 @@ fn bit_of(b: bool) -> u32
     if b { 1 } else { 0 }
 }
 
-pub fn put_line(store: &mut Store, i: u32, row: Row, size: u32, plain: bool)
+pub fn put_line(store: &mut Store, i: u32, row: Row, size: u32, plain: bool, balanced: bool)
     requires { ⌜ i < 200 ⌝ }
-    ensures { λ _. ⌜ now (store .exit) ≡ putLine (now (store .entry)) i row size plain ⌝ }
+    ensures { λ _. ⌜ now (store .exit) ≡ putLine (now (store .entry)) i row size plain balanced ⌝ }
 {
     let p = bit_of(plain);
-    let at = LINES + (i as usize) * 7;
+    let b = bit_of(balanced);
+    let at = LINES + (i as usize) * 8;
     store[at] = row.letter;
     store[at + 1] = row.a;
     store[at + 2] = row.b;
@@ -120,6 +128,7 @@ pub fn put_line(store: &mut Store, i: u32, row: Row, size: u32, plain: bool)
     store[at + 4] = row.d;
     store[at + 5] = size;
     store[at + 6] = p;
+    store[at + 7] = b;
 }
 
 fn kind_from(n: u32) -> Kind

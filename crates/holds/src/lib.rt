@@ -143,7 +143,7 @@ fn spend_one(till: &mut Store, serial: u32)
     };
     let kind = c.kind;
     match kind {
-        Kind::Linear => store::remove(till, at),
+        Kind::Linear => credentials::remove(till, at),
         Kind::Unrestricted => {}
     }
 }

@@ -3,7 +3,3 @@ pub mod Search
 pub mod Lines
 pub mod Views
 pub mod Live
-pub mod Given
-pub mod Removed
-pub mod Gather
-pub mod Added

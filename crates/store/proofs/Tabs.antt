@@ -6,7 +6,7 @@ use mathlib.Core.Option.{Option, none, some}
 use native.Mathlib.Omega.{arith}
 use native.Mathlib.Numerals.{add-one}
 use native.Mathlib.Nat.{le-of-suc-le-suc, not-suc-le-zero}
-use lib.ListN.{length, getD, drop}
+use lib.ListN.{length, getD}
 use Rattle.logic.specs.Multiset.{Every, sum}
 use Rattle.ledger.specs.Ledger.{consSome}
 use Rattle.store.specs.Tab.{tab, present}
@@ -35,13 +35,6 @@ module _ {A : Type 0} where
   tab-ext zero f g h = refl
   tab-ext (suc n) f g h =
       cc (h zero (omega arith), tab-ext n (λ k. f (suc k)) (λ k. g (suc k)) (λ i q. h (suc i) (omega arith)))
-
-  -- what stands from i on
-  pub drop-tab : (n : ℕ) (f : ℕ → A) (i : ℕ) → i < n → drop i (tab n f) ≡ f i ∷ drop (suc i) (tab n f)
-  unfolding tab
-  drop-tab zero f i h = absurd (not-suc-le-zero h)
-  drop-tab (suc n) f zero h = refl
-  drop-tab (suc n) f (suc i) h = drop-tab n (λ k. f (suc k)) i (le-of-suc-le-suc h)
 
   -- the last one stands at the end
   pub tab-snoc : (n : ℕ) (f : ℕ → A) → tab (suc n) f ≡ tab n f ++ (f n ∷ [])
@@ -75,7 +68,7 @@ module _ {A : Type 0} where
       go none e rest = rest
       go (some a) e rest = (h zero a (omega arith) e, rest)
 
-  pub present-snoc : (os : List (Option A)) (o : Option A)
+  present-snoc : (os : List (Option A)) (o : Option A)
       → present (os ++ (o ∷ [])) ≡ present os ++ consSome o []
   unfolding present
   present-snoc [] o = refl

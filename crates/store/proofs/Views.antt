@@ -1,22 +1,26 @@
 -- What is read of a store is what its ledger has.
 use mathlib.Core.Path.{_≡_, refl, sym, ap, _∙_}
 use mathlib.Core.List.{List}
-use mathlib.Core.Option.{some}
-use mathlib.Core.Bool.{true, false}
+use mathlib.Core.Bool.{Bool, true, false}
 use Prim.Native.Nat.{ℕ, _<_}
 use native.Mathlib.Omega.{arith}
 use native.Mathlib.Decide.{decLt}
+use lib.Dec.{eqb}
 use lib.ListN.{length}
+use Rattle.logic.specs.Formula.{bit}
 use Rattle.request.specs.Request.{Line}
-use Rattle.steps.specs.declared.Row.{Row}
 use Rattle.ledger.specs.Table.{rowOf}
-use Rattle.ledger.specs.Ledger.{row, find}
-use Rattle.ledger.specs.Checks.{any, sameRow}
-use Rattle.cells.specs.Layout.{lineCount, rowCount, rowAt, credentialAt, gapAt, entryAt}
-use Rattle.store.specs.Store.{lineOf, ledgerOf, Good, Occupied}
+use Rattle.ledger.specs.Ledger.{row}
+use Rattle.cells.specs.Layout.{lineCount, rowCount, rowAt, credentialAt}
+use Rattle.store.specs.Store.{lineOf, ledgerOf, Good}
 use Rattle.store.proofs.Tabs.{length-tab, getD-tab, getD-past}
-use Rattle.store.proofs.Search.{Only, find-row, any-none, any-at}
+use Rattle.store.proofs.Search.{Only}
 use Rattle.cells.proofs.Rows.{row-past}
+
+-- what is kept of yes or no, read again
+pub bit-one : (b : Bool) → eqb (bit b) 1 ≡ b
+bit-one true = refl
+bit-one false = refl
 
 module _ (l : List ℕ) where
   pub lines-length : length (ledgerOf l .lines) ≡ lineCount l
@@ -37,19 +41,6 @@ module _ (l : List ℕ) where
   pub rows-are : Good l → row (ledgerOf l) ≡ rowAt l
   rows-are g j n = row-is g n j
 
-  -- what a search through the rows has found
-  module _ (g : Good l) (r : Row) where
-    pub has-at : (i : ℕ) → i < lineCount l → sameRow r (rowAt l i) ≡ true
-        → any (λ x. sameRow r (rowOf x)) (ledgerOf l .lines) ≡ true
-    unfolding ledgerOf
-    has-at i q e = any-at (λ x. sameRow r (rowOf x)) (lineCount l) _ i q (ap (sameRow r) (g .canonical i q) ∙ e)
-
-    pub has-none : ((i : ℕ) → i < lineCount l → sameRow r (rowAt l i) ≡ false)
-        → any (λ x. sameRow r (rowOf x)) (ledgerOf l .lines) ≡ false
-    unfolding ledgerOf
-    has-none h =
-        any-none (λ x. sameRow r (rowOf x)) (lineCount l) _ (λ i q. ap (sameRow r) (g .canonical i q) ∙ h i q)
-
   module _ (g : Good l) (s : ℕ) where
     -- no other row has the serial of row i
     pub only-here : (i : ℕ) → i < rowCount l → credentialAt l i .serial ≡ s
@@ -59,10 +50,3 @@ module _ (l : List ℕ) where
         apart : (k : ℕ) → k < rowCount l → (k ≡ i → ⊥) → credentialAt l k .serial ≡ s → Dec (k < i) → ⊥
         apart k p n z (yes y) = omega (arith, g .ordered .between k i y q)
         apart k p n z (no y) = omega (arith, g .ordered .between i k (omega arith) p)
-
-  -- the credential that stands in a row is found by its serial
-  pub occupied-found : Good l → (i : ℕ) → Occupied l i
-      → find (ledgerOf l .live) (credentialAt l i .serial) ≡ some (credentialAt l i)
-  unfolding ledgerOf entryAt
-  occupied-found g i o =
-      find-row _ (rowCount l) (credentialAt l) (gapAt l) i (o .0) (only-here g _ i (o .0) refl) ∙ o .1

@@ -10,6 +10,7 @@ use lib.Dec.{eqb}
 use lib.ListN.{length}
 use Rattle.logic.specs.Interval.{span}
 use Rattle.logic.specs.Formula.{size, plain, bit}
+use Rattle.logic.specs.Counts.{balanced}
 use Rattle.request.specs.Range.{serial}
 use Rattle.request.specs.Request.{Line}
 use Rattle.steps.specs.declared.Row.{Row}
@@ -21,7 +22,7 @@ use Rattle.ledger.proofs.Bounds.{Bounded}
 use Rattle.logic.specs.Choice.{pick}
 use Rattle.store.specs.Tab.{tab, present}
 use Rattle.cells.specs.Layout.{cells, maxRows, lineCount, liveCount, nextSerial, rowCount, rowAt, sizeAt, plainAt}
-use Rattle.cells.specs.Layout.{credentialAt, entryAt}
+use Rattle.cells.specs.Layout.{balancedAt, credentialAt, entryAt}
 
 -- the line of a row, by its letter; 1 for any other letter
 unfoldable pub lineOf : Row → Line
@@ -67,6 +68,7 @@ pub record Good (l : List ℕ) : Type 0 where
   pub canonical : (i : ℕ) → i < lineCount l → Canonical (rowAt l i)
   pub sizes : (i : ℕ) → i < lineCount l → sizeAt l i ≡ size (formula (ledgerOf l) i)
   pub plains : (i : ℕ) → i < lineCount l → plainAt l i ≡ bit (plain (formula (ledgerOf l) i))
+  pub balances : (i : ℕ) → i < lineCount l → balancedAt l i ≡ bit (balanced (formula (ledgerOf l) i))
   pub bounded : Bounded (ledgerOf l)
 
 -- what a function that changes the store leaves: a good store that stands for the ledger t
@@ -74,14 +76,16 @@ pub record StandsFor (l : List ℕ) (t : Ledger) : Type 0 where
   pub good : Good l
   pub ledger : ledgerOf l ≡ t
 
--- what the checks of a formula line have found before its row is added, with its formula's size and whether it is plain
-pub record Addable (l : List ℕ) (r : Row) (s : ℕ) (p : Bool) : Type 0 where
+-- what the checks of a formula line have found before its row is added, with its formula's size, whether it is plain
+-- and whether it is balanced
+pub record Wordable (l : List ℕ) (r : Row) (s : ℕ) (p b : Bool) : Type 0 where
   pub good : Good l
   pub room : length (ledgerOf l .lines) < maxFormulas
   pub canonical : Canonical r
   pub there : There (ledgerOf l) (names (lineOf r))
   pub sized : s ≡ size (form (formula (ledgerOf l)) (lineOf r))
   pub plainly : p ≡ plain (form (formula (ledgerOf l)) (lineOf r))
+  pub balancedly : b ≡ balanced (form (formula (ledgerOf l)) (lineOf r))
   pub small : s ≤ maxSize
 
 -- what the checks of an issue or a booking have found before a credential of formula n is given

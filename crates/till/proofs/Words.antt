@@ -9,6 +9,7 @@ use lib.ListN.{length}
 use borrow.Author.Tests.{leb-false, ltb-false}
 use Rattle.logic.specs.Interval.{reversed}
 use Rattle.logic.specs.Formula.{size, plain}
+use Rattle.logic.specs.Counts.{balanced}
 use Rattle.logic.proofs.Multisets.{every-map}
 use Rattle.request.specs.Request.{Line, Request, word, lineIntervals, intervals}
 use Rattle.steps.specs.declared.Row.{Row}
@@ -21,7 +22,7 @@ use Rattle.ledger.specs.Statements.{Pass, FirstFails}
 use Rattle.ledger.proofs.Credentials.{any-none}
 use Rattle.ledger.proofs.Tables.{There}
 use Rattle.ledger.proofs.Firsts.{if-false, if-true, skip, hit}
-use Rattle.store.specs.Store.{lineOf, ledgerOf, Good, Canonical, StandsFor, Addable}
+use Rattle.store.specs.Store.{lineOf, ledgerOf, Good, Canonical, StandsFor, Wordable}
 use Rattle.till.specs.Handled.{Handled}
 use Rattle.till.proofs.Laws.{refused, accepted}
 
@@ -78,14 +79,16 @@ module _ (l : List ℕ) (x : Row) (g : Good l) (canonical : Canonical x) where
               (hit (if-true 14 _ e))))))
 
           module _ (room : leb maxFormulas (length (t .lines)) ≡ false) where
-            pub word-addable : (p : Bool) → p ≡ plain (form (formula t) line) → Addable l x z p
-            word-addable p q = record {
+            pub word-addable : (p b : Bool) → p ≡ plain (form (formula t) line) → b ≡ balanced (form (formula t) line)
+                → Wordable l x z p b
+            word-addable p b q y = record {
               good = g;
               room = leb-false maxFormulas (length (t .lines)) room;
               canonical = canonical;
               there = names-there t line m;
               sized = sized;
               plainly = q;
+              balancedly = y;
               small = ltb-false maxSize z small;
             }
 

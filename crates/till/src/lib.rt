@@ -35,7 +35,7 @@ fn issue_fair(till: &mut Store, kind: Kind, formula: u32, interval: Interval) ->
         return Answer::Refused(23, 0);
     };
     let serial = store::next_serial(till);
-    store::give(till, kind, formula, interval);
+    credentials::give(till, kind, formula, interval);
     Answer::Accepted(serial)
 }
 
@@ -77,7 +77,7 @@ fn word(till: &mut Store, row: Row) -> Answer
     let Verdict::Passed = small else {
         return Answer::Refused(12, 0);
     };
-    let new = verdicts::tested(store::has_row(till, row));
+    let new = verdicts::tested(formula_rows::has_row(till, row));
     let Verdict::Passed = new else {
         return Answer::Refused(13, 0);
     };
@@ -87,7 +87,7 @@ fn word(till: &mut Store, row: Row) -> Answer
     };
     let plain = figures::row_plain(till, row);
     let number = store::formula_count(till);
-    store::add_row(till, row, size, plain);
+    formula_rows::add_row(till, row, size, plain);
     Answer::Accepted(number)
 }
 
@@ -100,7 +100,7 @@ pub fn withdraw(till: &mut Store, serial: u32) -> Answer
     let Found::At(at, c) = found else {
         return Answer::Refused(24, 0);
     };
-    store::remove(till, at);
+    credentials::remove(till, at);
     Answer::Accepted(serial)
 }
 

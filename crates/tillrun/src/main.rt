@@ -84,7 +84,7 @@ fn play(till: &mut Store, rows: &mut Rows, begun: &mut [u8], text: &mut [u8], pi
 }
 
 fn main() {
-    let mut till = [0u32; 7548];
+    let mut till = [0u32; 7748];
     store::start(&mut till);
     let mut begun = [0u8; 16385];
     let mut text = [0u8; 589824];

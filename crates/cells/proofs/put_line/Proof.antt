@@ -1,4 +1,4 @@
--- `put_line` meets its contract: seven stores are the row.
+-- `put_line` meets its contract: eight stores are the row.
 use native.Mathlib.Numerals.{towards-suc}
 use Rattle.cells.specs.Layout.{putRow, putLine}
 use borrow.Author.Needs.{needs}
@@ -7,13 +7,17 @@ use Rattle.cells.proofs.put_line.Tie as tie
 
 returns : tie.Need-returns
 unfolding putLine putRow
-returns c = rw (c .bit-of .ensures) (simp towards-suc)
+returns c = rw (c .before .bit-of .ensures, c .bit-of2 .ensures) (simp towards-suc)
 
 pub put-line-spec : {M : Type 1} → statement M
 put-line-spec =
     tie.close
     (tie.spec
     (λ c κs. search needs)
+    (λ c κs. search needs)
+    (λ c. search needs)
+    (λ c. search needs)
+    (λ c. search needs)
     (λ c. search needs)
     (λ c. search needs)
     (λ c. search needs)

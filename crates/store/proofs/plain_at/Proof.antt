@@ -1,18 +1,12 @@
 -- `plain_at` meets its contract. What is kept is 1 for plain.
-use mathlib.Core.Path.{_≡_, refl, ap, _∙_}
-use mathlib.Core.Bool.{Bool, true, false}
+use mathlib.Core.Path.{ap, _∙_}
 use borrow.Author.Needs.{needs}
 use native.Mathlib.Omega.{arith}
 use denote.Ref.{now}
 use lib.Dec.{eqb}
-use Rattle.logic.specs.Formula.{bit}
-use Rattle.store.proofs.Views.{lines-length}
+use Rattle.store.proofs.Views.{bit-one, lines-length}
 use Rattle.store.proofs.plain_at.Statement.{statement}
 use Rattle.store.proofs.plain_at.Tie as tie
-
-bit-one : (b : Bool) → eqb (bit b) 1 ≡ b
-bit-one true = refl
-bit-one false = refl
 
 returns : tie.Need-returns
 returns c =

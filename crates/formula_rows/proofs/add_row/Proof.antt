@@ -2,10 +2,10 @@
 use borrow.Author.Needs.{needs}
 use native.Mathlib.Omega.{arith}
 use denote.Ref.{now}
 use Rattle.store.proofs.Views.{lines-length}
-use Rattle.store.proofs.Added.{add-done}
-use Rattle.store.proofs.add_row.Statement.{statement}
-use Rattle.store.proofs.add_row.Tie as tie
+use Rattle.formula_rows.proofs.Added.{add-done}
+use Rattle.formula_rows.proofs.add_row.Statement.{statement}
+use Rattle.formula_rows.proofs.add_row.Tie as tie
 
 put-line-requires : tie.Need-put-line-requires
 put-line-requires c κs =
@@ -15,7 +15,7 @@ put-line-requires c κs =
 returns : tie.Need-returns
 returns c =
     let at = c .before .before .before .before in
-    add-done _ _ _ _ (at .before .before .pre) (at .line-count .ensures) (c .before .before .put-line .ensures)
+    add-done _ _ _ _ _ (at .before .before .pre) (at .line-count .ensures) (c .before .before .put-line .ensures)
     (c .put-line-count .ensures)
 
 pub add-row-spec : {M : Type 1} → statement M

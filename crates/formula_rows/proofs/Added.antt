@@ -9,33 +9,36 @@ use native.Mathlib.Decide.{ℕ-discrete}
 use borrow.Author.Tests.{eq-eqb}
 use lib.ListN.{getD}
 use Rattle.logic.specs.Formula.{Formula, size, plain, bit}
+use Rattle.logic.specs.Counts.{balanced}
 use Rattle.steps.specs.declared.Row.{Row}
 use Rattle.ledger.specs.Table.{form}
 use Rattle.ledger.specs.Ledger.{Ledger, formula}
 use Rattle.ledger.specs.Calls.{withLine}
 use Rattle.ledger.proofs.Tables.{formula-snoc, formula-stays}
 use Rattle.ledger.proofs.Bounds.{Bounded, line-bounded}
 use Rattle.store.specs.Tab.{tab}
-use Rattle.cells.specs.Layout.{lineCount, lineCell, rowAt, sizeAt, plainAt, lineCells, putLineCount, putLine}
-use Rattle.store.specs.Store.{lineOf, ledgerOf, Canonical, StandsFor, Addable}
+use Rattle.cells.specs.Layout.{lineCount, lineCell, rowAt, sizeAt, plainAt, balancedAt, lineCells, putLineCount}
+use Rattle.cells.specs.Layout.{putLine}
+use Rattle.store.specs.Store.{lineOf, ledgerOf, Canonical, StandsFor, Wordable}
 use Rattle.store.proofs.Tabs.{tab-append}
 use Rattle.cells.proofs.Rows.{row-ext, row-below, SameLive, count-live, head-same, head-line, line-same, line-other}
 use Rattle.cells.proofs.Rows.{line-live}
 use Rattle.store.proofs.Views.{lines-length}
 use Rattle.store.proofs.Live.{same-live, same-ordered}
 
 -- what is kept of row i is right
 record Right (m : List ℕ) (i : ℕ) : Type 0 where
   canonical : Canonical (rowAt m i)
   sized : sizeAt m i ≡ size (formula (ledgerOf m) i)
   plainly : plainAt m i ≡ bit (plain (formula (ledgerOf m) i))
+  balancedly : balancedAt m i ≡ bit (balanced (formula (ledgerOf m) i))
 
-module _ (l : List ℕ) (r : Row) (s : ℕ) (p : Bool) (a : Addable l r s p) where
+module _ (l : List ℕ) (r : Row) (s : ℕ) (p b : Bool) (a : Wordable l r s p b) where
   abbrev n : ℕ
   n = lineCount l
 
   abbrev rowed : List ℕ
-  rowed = putLine l n r s p
+  rowed = putLine l n r s p b
 
   abbrev m : List ℕ
   m = putLineCount rowed (n + 1)
@@ -47,7 +50,7 @@ module _ (l : List ℕ) (r : Row) (s : ℕ) (p : Bool) (a : Addable l r s p) whe
   room = omega (arith, lines-length l, a .room)
 
   rowed-live : SameLive l rowed
-  rowed-live = line-live l n r s p (a .good .long) room
+  rowed-live = line-live l n r s p b (a .good .long) room
 
   live : SameLive l m
   live = count-live l rowed (n + 1) rowed-live
@@ -55,16 +58,16 @@ module _ (l : List ℕ) (r : Row) (s : ℕ) (p : Bool) (a : Addable l r s p) whe
   count : lineCount m ≡ n + 1
   count = head-same rowed 0 (n + 1) (rowed-live .long) (omega arith)
 
-  new-cell : (f : ℕ) → f < 7 → lineCell m n f ≡ getD (lineCells r s p) f 0
-  new-cell f q = head-line rowed 0 (n + 1) n f (omega arith) ∙ line-same l n r s p (a .good .long) room f q
+  new-cell : (f : ℕ) → f < 8 → lineCell m n f ≡ getD (lineCells r s p b) f 0
+  new-cell f q = head-line rowed 0 (n + 1) n f (omega arith) ∙ line-same l n r s p b (a .good .long) room f q
 
-  old-cell : (k f : ℕ) → k < n → f < 7 → lineCell m k f ≡ lineCell l k f
-  old-cell k f h q = head-line rowed 0 (n + 1) k f (omega arith) ∙ line-other l n r s p k f (omega arith) q
+  old-cell : (k f : ℕ) → k < n → f < 8 → lineCell m k f ≡ lineCell l k f
+  old-cell k f h q = head-line rowed 0 (n + 1) k f (omega arith) ∙ line-other l n r s p b k f (omega arith) q
 
   new-row : rowAt m n ≡ r
   new-row =
       row-below m n (omega (arith, count)) room
-      ∙ row-ext (lineCell m n) (λ f. getD (lineCells r s p) f 0) (λ f q. new-cell f (omega arith))
+      ∙ row-ext (lineCell m n) (λ f. getD (lineCells r s p b) f 0) (λ f q. new-cell f (omega arith))
 
   old-row : (k : ℕ) → k < n → rowAt m k ≡ rowAt l k
   old-row k h =
@@ -85,7 +88,7 @@ module _ (l : List ℕ) (r : Row) (s : ℕ) (p : Bool) (a : Addable l r s p) whe
   new-formula : formula (ledgerOf m) n ≡ form (formula t) (lineOf r)
   new-formula =
       ap (λ (x : Ledger). formula x n) ledger ∙ formula-snoc t (lineOf r) n
-      ∙ ap (λ (b : Bool). elim b as (λ z. Formula) [ true ↦ form (formula t) (lineOf r) | false ↦ formula t n ])
+      ∙ ap (λ (z : Bool). elim z as (λ _. Formula) [ true ↦ form (formula t) (lineOf r) | false ↦ formula t n ])
       (eq-eqb n _ (sym (lines-length l)))
 
   old-formula : (k : ℕ) → k < n → formula (ledgerOf m) k ≡ formula t k
@@ -93,19 +96,22 @@ module _ (l : List ℕ) (r : Row) (s : ℕ) (p : Bool) (a : Addable l r s p) whe
       ap (λ (x : Ledger). formula x k) ledger ∙ formula-stays t (lineOf r) k (omega (arith, lines-length l))
 
   new-right : Right m n
-  unfolding sizeAt plainAt
+  unfolding sizeAt plainAt balancedAt
   new-right = record {
     canonical = subst Canonical (sym new-row) (a .canonical);
     sized = new-cell 5 (omega arith) ∙ a .sized ∙ ap size (sym new-formula);
     plainly = new-cell 6 (omega arith) ∙ ap bit (a .plainly ∙ ap plain (sym new-formula));
+    balancedly = new-cell 7 (omega arith) ∙ ap bit (a .balancedly ∙ ap balanced (sym new-formula));
   }
 
   old-right : (k : ℕ) → k < n → Right m k
-  unfolding sizeAt plainAt
+  unfolding sizeAt plainAt balancedAt
   old-right k h = record {
     canonical = subst Canonical (sym (old-row k h)) (a .good .canonical k h);
     sized = old-cell k 5 h (omega arith) ∙ a .good .sizes k h ∙ ap size (sym (old-formula k h));
     plainly = old-cell k 6 h (omega arith) ∙ a .good .plains k h ∙ ap (λ x. bit (plain x)) (sym (old-formula k h));
+    balancedly = old-cell k 7 h (omega arith) ∙ a .good .balances k h
+        ∙ ap (λ x. bit (balanced x)) (sym (old-formula k h));
   }
 
   right : (k : ℕ) → k < lineCount m → Right m k
@@ -124,6 +130,7 @@ module _ (l : List ℕ) (r : Row) (s : ℕ) (p : Bool) (a : Addable l r s p) whe
       canonical = λ k h. right k h .canonical;
       sizes = λ k h. right k h .sized;
       plains = λ k h. right k h .plainly;
+      balances = λ k h. right k h .balancedly;
       bounded = subst Bounded (sym ledger) (line-bounded t (a .good .bounded) (lineOf r) (a .room) (a .there)
           (omega (arith, a .sized, a .small)));
     };
@@ -131,6 +138,6 @@ module _ (l : List ℕ) (r : Row) (s : ℕ) (p : Bool) (a : Addable l r s p) whe
   }
 
   -- by the stores that make it
-  pub add-done : {m₀ m₁ : List ℕ} {i : ℕ} → i ≡ lineCount l → m₀ ≡ putLine l i r s p → m₁ ≡ putLineCount m₀ (i + 1)
+  pub add-done : {m₀ m₁ : List ℕ} {i : ℕ} → i ≡ lineCount l → m₀ ≡ putLine l i r s p b → m₁ ≡ putLineCount m₀ (i + 1)
       → StandsFor m₁ (withLine (ledgerOf l) (lineOf r))
   add-done e e₀ e₁ = rw (e₁, e₀, e) added

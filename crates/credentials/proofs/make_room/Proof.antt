@@ -2,8 +2,8 @@
 use mathlib.Core.Path.{refl}
 use borrow.Author.Needs.{needs}
 use native.Mathlib.Omega.{arith}
-use Rattle.store.proofs.make_room.Statement.{statement}
-use Rattle.store.proofs.make_room.Tie as tie
+use Rattle.credentials.proofs.make_room.Statement.{statement}
+use Rattle.credentials.proofs.make_room.Tie as tie
 
 returns : tie.Need-returns
 returns c =

@@ -1,9 +1,9 @@
 -- `remove` meets its contract. The stores are the mark and the count.
 use borrow.Author.Needs.{needs}
 use native.Mathlib.Omega.{arith}
-use Rattle.store.proofs.Removed.{some-live, remove-done}
-use Rattle.store.proofs.remove.Statement.{statement}
-use Rattle.store.proofs.remove.Tie as tie
+use Rattle.credentials.proofs.Removed.{some-live, remove-done}
+use Rattle.credentials.proofs.remove.Statement.{statement}
+use Rattle.credentials.proofs.remove.Tie as tie
 
 put-gap-requires : tie.Need-put-gap-requires
 put-gap-requires c κs =

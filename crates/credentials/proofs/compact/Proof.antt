@@ -5,9 +5,10 @@ use borrow.Author.Needs.{needs}
 use borrow.Author.Tests.{not-true, not-false}
 use native.Mathlib.Omega.{arith}
 use Rattle.cells.specs.Layout.{maxRows}
-use Rattle.store.proofs.Gather.{Gathering, gather-start, gather-gap, gather-move, gather-hint, compact-done}
-use Rattle.store.proofs.compact.Statement.{statement}
-use Rattle.store.proofs.compact.Tie as tie
+use Rattle.credentials.proofs.Gather.{Gathering, gather-start, gather-gap, gather-move, gather-hint}
+use Rattle.credentials.proofs.Gather.{compact-done}
+use Rattle.credentials.proofs.compact.Statement.{statement}
+use Rattle.credentials.proofs.compact.Tie as tie
 
 abbrev Inv-loop : tie.InvT-loop
 Inv-loop store₀ n i₀ k₀ store i k = (i ≤ n) × Gathering store₀ store i k

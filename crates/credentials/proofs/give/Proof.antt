@@ -1,8 +1,8 @@
 -- `give` meets its contract: room is made, and the ledger stays; then the credential is appended.
 use native.Mathlib.Omega.{arith}
-use Rattle.store.proofs.Given.{still-givable}
-use Rattle.store.proofs.give.Statement.{statement}
-use Rattle.store.proofs.give.Tie as tie
+use Rattle.credentials.proofs.Given.{still-givable}
+use Rattle.credentials.proofs.give.Statement.{statement}
+use Rattle.credentials.proofs.give.Tie as tie
 
 make-room-requires : tie.Need-make-room-requires
 make-room-requires c κs = let p = c .before .pre in (p .good, omega (arith, p .room))

@@ -2,26 +2,38 @@
 use Prim.Native.Nat.{ℕ, _+_, _<_, _≤_}
 use mathlib.Core.Path.{_≡_, refl, sym, ap, subst, _∙_}
 use mathlib.Core.List.{List, [], _∷_, _++_, append-nil}
-use mathlib.Core.Option.{some}
-use mathlib.Core.Bool.{true, false}
+use mathlib.Core.Option.{none, some}
+use mathlib.Core.Bool.{Bool, true, false}
 use native.Mathlib.Omega.{arith}
 use native.Mathlib.Decide.{decLt}
 use lib.ListN.{length}
+use Rattle.logic.specs.Choice.{pick}
 use Rattle.logic.specs.Multiset.{Every}
 use Rattle.ledger.specs.declared.Credential.{Credential}
 use Rattle.ledger.specs.Ledger.{Ledger}
+use Rattle.ledger.proofs.Answers.{some-none, some-inj}
 use Rattle.ledger.proofs.Bounds.{Rises, Below}
 use Rattle.store.specs.Tab.{tab, present}
-use Rattle.cells.specs.Layout.{maxRows, liveCount, nextSerial, rowCount, credentialAt, gapAt, entryAt, putCredential}
-use Rattle.cells.specs.Layout.{putRowCount, putHint}
+use Rattle.cells.specs.Layout.{maxRows, lineCount, liveCount, nextSerial, rowCount, credentialAt, gapAt, entryAt}
+use Rattle.cells.specs.Layout.{putCredential, putRowCount, putHint}
 use Rattle.store.specs.Store.{ledgerOf, Ordered, Good, Compacted}
-use Rattle.store.proofs.Tabs.{length-tab, tab-ext, tab-append, every-tab, present-next, present-all}
-use Rattle.store.proofs.Search.{rises-between}
+use Rattle.store.proofs.Tabs.{length-tab, tab-ext, tab-append, every-tab, every-present, present-next, present-all}
+use Rattle.credentials.proofs.Serials.{rises-between}
 use Rattle.cells.proofs.Rows.{SameLines, lines-self, Stays, stays-credential, stays-gap, entry-gap, entry-there}
 use Rattle.cells.proofs.Rows.{head-lines, head-same, head-other, head-stays, credential-same, credential-there}
 use Rattle.cells.proofs.Rows.{credential-stays, credential-before, credential-lines, hint-before, hint-lines}
 use Rattle.cells.proofs.Rows.{hint-stays}
-use Rattle.store.proofs.Live.{stands-live, ledger-live, live-named}
+use Rattle.credentials.proofs.Stands.{stands-live, ledger-live}
+
+-- Every live credential is of a formula of the ledger.
+live-named : (l : List ℕ) → Ordered l → Every (λ c. c .formula < lineCount l) (ledgerOf l .live)
+unfolding ledgerOf entryAt
+live-named l o = every-present _ (rowCount l) (entryAt l) (λ i c q. go i c q (gapAt l i))
+  where
+    go : (i : ℕ) (c : Credential) → i < rowCount l → (b : Bool)
+        → pick b none (some (credentialAt l i)) ≡ some c → c .formula < lineCount l
+    go i c q true e = absurd (some-none (sym e))
+    go i c q false e = subst (λ (d : Credential). d .formula < lineCount l) (some-inj e) (o .named i q)
 
 -- l is the store at the start, m when row i is next: the live ones of the rows before it stand in the first k rows
 pub record Gathering (l m : List ℕ) (i k : ℕ) : Type 0 where

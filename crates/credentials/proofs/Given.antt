@@ -10,19 +10,19 @@ use lib.ListN.{length, length-append}
 use Rattle.logic.specs.declared.Interval.{Interval}
 use Rattle.request.specs.declared.Kind.{Kind}
 use Rattle.ledger.specs.declared.Credential.{Credential}
-use Rattle.ledger.specs.Ledger.{Ledger, formula}
+use Rattle.ledger.specs.Ledger.{Ledger}
 use Rattle.ledger.specs.Calls.{withCredential}
 use Rattle.ledger.proofs.Bounds.{credential-bounded}
 use Rattle.store.specs.Tab.{tab, present}
 use Rattle.cells.specs.Layout.{maxRows, lineCount, liveCount, nextSerial, rowCount, credentialAt, entryAt, putRowCount}
 use Rattle.cells.specs.Layout.{putLiveCount, putNext, putCredential, putHint}
 use Rattle.store.specs.Store.{ledgerOf, Ordered, StandsFor, Givable}
 use Rattle.store.proofs.Tabs.{tab-ext, present-next}
 use Rattle.cells.proofs.Rows.{SameLines, lines-self, head-lines, head-same, Stays, stays-credential, stays-entry}
 use Rattle.cells.proofs.Rows.{stays-serial, entry-there, head-other, head-stays, credential-same, credential-there}
 use Rattle.cells.proofs.Rows.{credential-stays, credential-lines}
 use Rattle.store.proofs.Views.{lines-length}
-use Rattle.store.proofs.Live.{stands-live, ledger-live, hint-stands}
+use Rattle.credentials.proofs.Stands.{stands-live, ledger-live, hint-stands}
 
 -- another store of the same ledger has room for the credential too
 pub still-givable : {l m : List ℕ} {n : ℕ} → Givable l n → StandsFor m (ledgerOf l) → Givable m n
@@ -34,7 +34,7 @@ still-givable r s = record {
 }
 
 -- The store after a credential is given.
-abbrev pub given : List ℕ → Credential → List ℕ
+abbrev given : List ℕ → Credential → List ℕ
 given l c =
     putNext (putLiveCount (putRowCount (putCredential l (rowCount l) c) (rowCount l + 1)) (liveCount l + 1))
     (nextSerial l + 1)
@@ -152,7 +152,7 @@ module _ (l : List ℕ) (k : Kind) (n : ℕ) (w : Interval) (r : Givable l n) (f
     named = λ i q. given-named i q (decLt i (rowCount l));
   }
 
-  pub give-stands : StandsFor m (withCredential (ledgerOf l) k n w)
+  give-stands : StandsFor m (withCredential (ledgerOf l) k n w)
   give-stands =
       stands-live l m (r .good) given-lines _ given-ordered given-ledger
       (credential-bounded (ledgerOf l) (r .good .bounded) k n w (r .room) (r .unused))

@@ -1,10 +1,10 @@
 -- `append` meets its contract. The stores are those of `given`, and the hint.
 use borrow.Author.Needs.{needs}
 use native.Mathlib.Omega.{arith}
 use Rattle.store.specs.Store.{ledgerOf}
-use Rattle.store.proofs.Given.{give-done}
-use Rattle.store.proofs.append.Statement.{statement}
-use Rattle.store.proofs.append.Tie as tie
+use Rattle.credentials.proofs.Given.{give-done}
+use Rattle.credentials.proofs.append.Statement.{statement}
+use Rattle.credentials.proofs.append.Tie as tie
 
 add-put-next : tie.Need-add-put-next
 unfolding ledgerOf

@@ -4,8 +4,8 @@ use borrow.Author.Tests.{eq-eqb, ne-eqb}
 use lib.Dec.{eqb}
 use Rattle.steps.specs.declared.Row.{Row}
 use Rattle.ledger.specs.Checks.{sameRow}
-use Rattle.store.proofs.same_row.Statement.{statement}
-use Rattle.store.proofs.same_row.Tie as tie
+use Rattle.formula_rows.proofs.same_row.Statement.{statement}
+use Rattle.formula_rows.proofs.same_row.Tie as tie
 
 module _ (x y : Row) where
   stops-letter : (x .letter ≡ y .letter → ⊥) → eqb (x .letter) (y .letter) ≡ sameRow x y

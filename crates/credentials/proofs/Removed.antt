@@ -12,15 +12,23 @@ use Rattle.ledger.specs.Ledger.{find, withoutSerial}
 use Rattle.ledger.specs.Calls.{withLive}
 use Rattle.ledger.proofs.Bounds.{without-bounded}
 use Rattle.ledger.proofs.Credentials.{take-out}
 use Rattle.store.specs.Tab.{tab, present}
 use Rattle.cells.specs.Layout.{liveCount, nextSerial, rowCount, credentialAt, gapAt, entryAt, putLiveCount, putGap}
 use Rattle.store.specs.Store.{ledgerOf, Ordered, Good, StandsFor, Occupied}
-use Rattle.store.proofs.Search.{without-row}
+use Rattle.credentials.proofs.Serials.{without-row}
 use Rattle.cells.proofs.Rows.{SameLines, lines-self, head-lines, head-same, Stays, stays-entry, stays-serial}
-use Rattle.cells.proofs.Rows.{stays-credential, entry-gap}
-use Rattle.cells.proofs.Rows.{head-other, head-stays, gap-here, gap-stays, gap-serial, gap-of, gap-before, gap-lines}
-use Rattle.store.proofs.Views.{only-here, occupied-found}
-use Rattle.store.proofs.Live.{stands-live, ledger-live}
+use Rattle.cells.proofs.Rows.{stays-credential, entry-gap, head-other, head-stays, gap-here, gap-stays, gap-serial}
+use Rattle.cells.proofs.Rows.{gap-of, gap-before, gap-lines}
+use Rattle.store.proofs.Search.{find-row}
+use Rattle.store.proofs.Views.{only-here}
+use Rattle.credentials.proofs.Stands.{stands-live, ledger-live}
+
+-- the credential that stands in a row is found by its serial
+occupied-found : (l : List ℕ) → Good l → (i : ℕ) → Occupied l i
+    → find (ledgerOf l .live) (credentialAt l i .serial) ≡ some (credentialAt l i)
+unfolding ledgerOf entryAt
+occupied-found l g i o =
+    find-row _ (rowCount l) (credentialAt l) (gapAt l) i (o .0) (only-here l g _ i (o .0) refl) ∙ o .1
 
 -- The store after the credential of a row has left.
 module _ (l : List ℕ) (at : ℕ) (g : Good l) (o : Occupied l at) where

@@ -8,9 +8,10 @@ use native.Mathlib.Omega.{arith}
 use denote.Ref.{now}
 use Rattle.ledger.specs.Checks.{sameRow}
 use Rattle.cells.specs.Layout.{lineCount, rowAt}
-use Rattle.store.proofs.Views.{lines-length, has-at, has-none}
-use Rattle.store.proofs.has_row.Statement.{statement}
-use Rattle.store.proofs.has_row.Tie as tie
+use Rattle.store.proofs.Views.{lines-length}
+use Rattle.formula_rows.proofs.Found.{has-at, has-none}
+use Rattle.formula_rows.proofs.has_row.Statement.{statement}
+use Rattle.formula_rows.proofs.has_row.Tie as tie
 
 abbrev Inv-loop : tie.InvT-loop
 Inv-loop store row n i₀ i =

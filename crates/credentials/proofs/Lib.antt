@@ -1,0 +1,5 @@
+mod Serials
+mod Stands
+mod Removed
+mod Gather
+mod Given

@@ -1,0 +1,43 @@
+// The formula lines of a store (document 01: the wordings): whether a row stands there, and one more.
+use steps::Row;
+use store::Store;
+ghost use mathlib.Core.Path.{_≡_};
+ghost use Rattle.ledger.specs.Table.{rowOf};
+ghost use Rattle.ledger.specs.Checks.{any, sameRow};
+ghost use Rattle.ledger.specs.Calls.{withLine};
+ghost use Rattle.store.specs.Store.{lineOf, ledgerOf, Good, StandsFor, Wordable};
+
+// Equal letters and equal fields.
+fn same_row(x: Row, y: Row) -> bool
+    ensures { λ r. ⌜ r ≡ sameRow x y ⌝ }
+{
+    x.letter == y.letter && (x.a == y.a && (x.b == y.b && (x.c == y.c && x.d == y.d)))
+}
+
+// Whether a line of the ledger has this row.
+pub fn has_row(store: &Store, row: Row) -> bool
+    requires { ⌜ Good (now store) ⌝ }
+    ensures { λ r. ⌜ r ≡ any (λ m. sameRow row (rowOf m)) (ledgerOf (now (store .entry)) .lines) ⌝ }
+{
+    let n = cells::line_count(store);
+    let mut i = 0;
+    while i < n {
+        let other = store::line_at(store, i);
+        if same_row(row, other) {
+            return true;
+        }
+        i += 1;
+    }
+    false
+}
+
+// One formula line (document 01: a wording) more, with its formula's size, whether it is plain and whether it is
+// balanced.
+pub fn add_row(store: &mut Store, row: Row, size: u32, plain: bool, balanced: bool)
+    requires { ⌜ Wordable (now store) row size plain balanced ⌝ }
+    ensures { λ _. ⌜ StandsFor (now (store .exit)) (withLine (ledgerOf (now (store .entry))) (lineOf row)) ⌝ }
+{
+    let n = cells::line_count(store);
+    cells::put_line(store, n, row, size, plain, balanced);
+    cells::put_line_count(store, n + 1);
+}
