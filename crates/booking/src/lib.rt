@@ -23,7 +23,8 @@ ghost use Rattle.logic.specs.Interval.{has, reversed};
 ghost use Rattle.store.specs.Store.{Good};
 ghost use Rattle.premises.specs.Begin.{sequent};
 ghost use Rattle.verdicts.specs.Verdicts.{fails};
-ghost use Rattle.till.specs.Handled.{Handled, Called};
+ghost use Rattle.calls.specs.Handled.{Handled};
+ghost use Rattle.till.specs.Replied.{Called};
 ghost use Rattle.judging.specs.Booking.{bookingAt, Lent, ReadLines, Bookable, Steppable, Opened};
 
 // 3: the goal's interval is reversed, or a step's is.

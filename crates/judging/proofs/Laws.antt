@@ -30,8 +30,8 @@ use Rattle.tables.specs.Lines.{stepsFrom}
 use Rattle.reader.specs.declared.Head.{Head}
 use Rattle.holds.specs.declared.Sides.{Sides}
 use Rattle.holds.specs.Holds.{AllHeld, Spendable}
-use Rattle.till.specs.Handled.{Handled}
-use Rattle.till.proofs.Laws.{refused, accepted}
+use Rattle.calls.specs.Handled.{Handled}
+use Rattle.calls.proofs.Laws.{refused, accepted}
 use Rattle.judging.specs.Booking.{bookingAt, ReadLines, Bookable, Steppable}
 
 -- 30, as the code tests it

@@ -21,8 +21,9 @@ use Rattle.reader.specs.declared.Head.{Head}
 use Rattle.reader.specs.Booking.{readLines, allLines, StepsAre, LinesAsked}
 use Rattle.reader.proofs.Several.{no-holds, no-steps, booking-read}
 use Rattle.store.specs.Store.{Good}
-use Rattle.till.specs.Handled.{Handled, Called, Pending}
-use Rattle.till.proofs.Laws.{refused}
+use Rattle.calls.specs.Handled.{Handled}
+use Rattle.till.specs.Replied.{Called, Pending}
+use Rattle.calls.proofs.Laws.{refused}
 use Rattle.till.proofs.Sheets.{called-broken, called-read}
 use Rattle.judging.specs.Booking.{bookingAt, Opened}
 

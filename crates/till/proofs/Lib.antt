@@ -1,3 +1,1 @@
-pub mod Laws
-pub mod Words
 pub mod Sheets

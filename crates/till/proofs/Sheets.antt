@@ -2,7 +2,7 @@
 use mathlib.Core.Path.{_≡_, refl, sym, ap, subst, _∙_}
 use mathlib.Core.List.{List}
 use mathlib.Core.Option.{Option, none, some}
-use mathlib.Core.Bool.{true, false}
+use mathlib.Core.Bool.{true}
 use Prim.Native.Nat.{ℕ, _≤_}
 use lib.Dec.{ltb}
 use lib.ListN.{length}
@@ -13,7 +13,7 @@ use Rattle.request.specs.Read.{requestOf}
 use Rattle.steps.specs.declared.Row.{Row}
 use Rattle.ledger.specs.declared.Answer.{Answer}
 use Rattle.ledger.specs.declared.Answer.the-variants.{Refused}
-use Rattle.ledger.specs.Calls.{Reply, call, handle}
+use Rattle.ledger.specs.Calls.{Reply, call}
 use Rattle.ledger.proofs.Firsts.{call-long, call-none, call-read}
 use Rattle.store.specs.Store.{lineOf, ledgerOf, Canonical, Good}
 use Rattle.store.proofs.Lines.{line-of-row, row-canonical}
@@ -22,7 +22,8 @@ use Rattle.reader.specs.First.{WordIs, FirstIs}
 use Rattle.verdicts.specs.declared.Verdict.{Verdict}
 use Rattle.verdicts.specs.declared.Verdict.the-variants.{Passed}
 use Rattle.verdicts.specs.Verdicts.{fails}
-use Rattle.till.specs.Handled.{Handled, Called}
+use Rattle.calls.specs.Handled.{Handled}
+use Rattle.till.specs.Replied.{Called}
 use Rattle.verdicts.proofs.Laws.{by-verdict}
 
 module _ (l b : List ℕ) where

@@ -76,7 +76,7 @@ fn balancedly(till: &Store, n: u32) -> Verdict
     requires { ⌜ Good (now till) × (n < length (ledgerOf (now till) .lines)) ⌝ }
     ensures { λ r. ⌜ fails r ≡ not (balanced (formula (ledgerOf (now (till .entry))) n)) ⌝ }
 {
-    tested(!weights::balanced(till, n))
+    tested(!store::balanced_at(till, n))
 }
 
 // 20 or 21: the formula is not what an issue of this kind asks.

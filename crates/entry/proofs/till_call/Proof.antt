@@ -4,7 +4,7 @@ use mathlib.Core.List.{List}
 use Prim.Native.Nat.{ℕ}
 use borrow.Author.Needs.{needs}
 use Rattle.ledger.specs.declared.Answer.{Answer}
-use Rattle.till.specs.Handled.{Called}
+use Rattle.till.specs.Replied.{Called}
 use Rattle.entry.specs.Entered.{numbersOf, Entered}
 use Rattle.entry.proofs.till_call.Statement.{statement}
 use Rattle.entry.proofs.till_call.Tie as tie

@@ -10,4 +10,4 @@ balancedly-spec =
     (tie.spec
     (λ c κs. search needs)
     (λ c κs. search needs)
-    (λ c. c .tested .ensures ∙ simp (c .before .balanced .ensures)))
+    (λ c. c .tested .ensures ∙ simp (c .before .balanced-at .ensures)))

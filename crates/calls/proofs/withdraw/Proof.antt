@@ -4,9 +4,9 @@ use denote.Ref.{now}
 use borrow.Author.Needs.{needs}
 use Rattle.lookup.specs.declared.Found.{Found}
 use Rattle.lookup.specs.Lookup.{Finds}
-use Rattle.till.proofs.Laws.{withdraw-dead, withdraw-done}
-use Rattle.till.proofs.withdraw.Statement.{statement}
-use Rattle.till.proofs.withdraw.Tie as tie
+use Rattle.calls.proofs.Laws.{withdraw-dead, withdraw-done}
+use Rattle.calls.proofs.withdraw.Statement.{statement}
+use Rattle.calls.proofs.withdraw.Tie as tie
 
 returns : tie.Need-returns
 returns c =

@@ -2,9 +2,9 @@
 use borrow.Author.Tests.{leb-false}
 use borrow.Author.Needs.{needs}
 use Rattle.verdicts.proofs.Laws.{by-verdict}
-use Rattle.till.proofs.Laws.{issue-reversed, issue-missing, issue-unfair}
-use Rattle.till.proofs.issue.Statement.{statement}
-use Rattle.till.proofs.issue.Tie as tie
+use Rattle.calls.proofs.Laws.{issue-reversed, issue-missing, issue-unfair}
+use Rattle.calls.proofs.issue.Statement.{statement}
+use Rattle.calls.proofs.issue.Tie as tie
 
 returns : tie.Need-returns
 returns c =

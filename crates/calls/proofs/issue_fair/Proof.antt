@@ -1,9 +1,9 @@
 -- `issue_fair` meets its contract.
 use borrow.Author.Needs.{needs}
 use Rattle.verdicts.proofs.Laws.{by-verdict}
-use Rattle.till.proofs.Laws.{issue-full, issue-used-up, issue-done, issue-gives}
-use Rattle.till.proofs.issue_fair.Statement.{statement}
-use Rattle.till.proofs.issue_fair.Tie as tie
+use Rattle.calls.proofs.Laws.{issue-full, issue-used-up, issue-done, issue-gives}
+use Rattle.calls.proofs.issue_fair.Statement.{statement}
+use Rattle.calls.proofs.issue_fair.Tie as tie
 
 returns : tie.Need-returns
 returns c =

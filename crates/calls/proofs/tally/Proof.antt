@@ -1,9 +1,9 @@
 -- `tally` meets its contract.
 use borrow.Author.Needs.{needs}
 use denote.Ref.{now}
-use Rattle.till.proofs.Laws.{tally-done}
-use Rattle.till.proofs.tally.Statement.{statement}
-use Rattle.till.proofs.tally.Tie as tie
+use Rattle.calls.proofs.Laws.{tally-done}
+use Rattle.calls.proofs.tally.Statement.{statement}
+use Rattle.calls.proofs.tally.Tie as tie
 
 returns : tie.Need-returns
 returns c =

@@ -1,7 +1,7 @@
 -- One law for each way out of a call.
 use mathlib.Core.Path.{_≡_, refl, sym, ap, subst, _∙_}
 use mathlib.Core.List.{List, [], _∷_}
-use mathlib.Core.Option.{none, some}
+use mathlib.Core.Option.{some}
 use mathlib.Core.Bool.{Bool, true, false}
 use Prim.Native.Nat.{ℕ, _-_}
 use lib.ListN.{length}
@@ -29,7 +29,7 @@ use Rattle.lookup.specs.Lookup.{Finds}
 use Rattle.figures.specs.declared.Figures.{Figures}
 use Rattle.figures.specs.Figures.{Tallied}
 use Rattle.verdicts.specs.Verdicts.{unfair, unfairNumber}
-use Rattle.till.specs.Handled.{Handled, Issuable}
+use Rattle.calls.specs.Handled.{Handled, Issuable}
 
 abbrev IsDone : Answer → Type 0
 IsDone (Accepted n) = Unit {0}

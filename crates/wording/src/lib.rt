@@ -1,0 +1,60 @@
+// Word (document 01: a wording comes): its checks in the paper's order; then the line is added, with what is known of its
+// formula.
+use ledger::Answer;
+use steps::Row;
+use store::Store;
+use verdicts::Verdict;
+ghost use mathlib.Core.Path.{_≡_};
+ghost use Rattle.request.specs.Request.{word as wordRequest};
+ghost use Rattle.store.specs.Store.{lineOf, Canonical, Good};
+ghost use Rattle.calls.specs.Handled.{Handled};
+ghost use Rattle.wording.specs.Wording.{Named, Fitting};
+
+// A line that has passed all checks is added.
+fn add(till: &mut Store, row: Row, size: u32) -> Answer
+    requires { ⌜ Fitting (now till) row size ⌝ }
+    ensures { λ r. ⌜ Handled (now (till .entry)) (wordRequest (lineOf row)) r (now (till .exit)) ⌝ }
+{
+    let plain = figures::row_plain(till, row);
+    let balanced = weights::row_balanced(till, row);
+    let number = store::formula_count(till);
+    formula_rows::add_row(till, row, size, plain, balanced);
+    Answer::Accepted(number)
+}
+
+// 12, 13, 14 of a line that names what is there.
+fn word_named(till: &mut Store, row: Row) -> Answer
+    requires { ⌜ Named (now till) row ⌝ }
+    ensures { λ r. ⌜ Handled (now (till .entry)) (wordRequest (lineOf row)) r (now (till .exit)) ⌝ }
+{
+    let size = figures::row_size(till, row);
+    let small = verdicts::tested(64 < size);
+    let Verdict::Passed = small else {
+        return Answer::Refused(12, 0);
+    };
+    let new = verdicts::tested(formula_rows::has_row(till, row));
+    let Verdict::Passed = new else {
+        return Answer::Refused(13, 0);
+    };
+    let free = verdicts::tested(200 <= store::formula_count(till));
+    let Verdict::Passed = free else {
+        return Answer::Refused(14, 0);
+    };
+    add(till, row, size)
+}
+
+// Word: 3, 10, then as above.
+pub fn word(till: &mut Store, row: Row) -> Answer
+    requires { ⌜ Good (now till) × Canonical row ⌝ }
+    ensures { λ r. ⌜ Handled (now (till .entry)) (wordRequest (lineOf row)) r (now (till .exit)) ⌝ }
+{
+    let ordered = verdicts::line_ordered(row);
+    let Verdict::Passed = ordered else {
+        return Answer::Refused(3, 0);
+    };
+    let present = verdicts::names_present(till, row);
+    let Verdict::Passed = present else {
+        return Answer::Refused(10, 0);
+    };
+    word_named(till, row)
+}
