@@ -1,15 +1,15 @@
 // Booking (document 01: book): its checks in the paper's order, and what an accepted one does; and the one call, which
 // tells the five requests apart.
+use booking_lines::HoldsRead;
+use booking_lines::StepsRead;
+use booking_lines::read_holds;
+use booking_lines::read_steps;
 use checker::Checked;
 use holds::Held;
 use holds::Sides;
 use ledger::Answer;
 use logic::Interval;
 use reader::Head;
-use reader::HoldsRead;
-use reader::StepsRead;
-use reader::bookings::read_holds;
-use reader::bookings::read_steps;
 use request::Kind;
 use steps::Goal;
 use steps::Sequent;

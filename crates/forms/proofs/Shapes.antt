@@ -9,9 +9,9 @@ use borrow.Author.Tests.{eqb-true}
 use Rattle.logic.specs.declared.Interval.{Interval}
 use Rattle.logic.specs.Interval.{span}
 use Rattle.request.specs.Range.{Range, minute}
-use Rattle.request.specs.Text.{andThen, numberIn, labelSetIn}
+use Rattle.request.specs.Text.{andThen, numberIn}
 use Rattle.request.specs.Reader.{Reader, return, _>>=_, next, whole, ended}
-use Rattle.request.specs.Read.{number, labelSet, interval}
+use Rattle.request.specs.Read.{number, interval}
 use Rattle.logic.specs.Choice.{pick}
 use Rattle.numbers.specs.Field.{ends, Stop, cut, fieldTo}
 use Rattle.forms.specs.Line.{readLine, intervalTo}
@@ -73,28 +73,13 @@ module _ {A B : Type 0} (read : List ℕ → Option A) (f : A → B) where
           (λ q. rw (eqb-true e 44 q, atStop) (line-return (f a) b))
           (λ q. let z : eqb e 10 ≡ true = rw q at h in rw (q, z, atStop))
 
-next-shape : {A : Type 0} (read : List ℕ → Option A) → Shape (next read) (λ stop. fieldTo stop read)
+pub next-shape : {A : Type 0} (read : List ℕ → Option A) → Shape (next read) (λ stop. fieldTo stop read)
 unfolding next
 next-shape read = record { some-field = refl; more = next-more read; last = next-last read }
 
 pub number-shape : (r : Range) → Shape (number r) (λ stop. fieldTo stop (numberIn r))
 unfolding number
 number-shape r = next-shape (numberIn r)
-
-pub set-shape : Shape labelSet (λ stop. fieldTo stop labelSetIn)
-unfolding labelSet
-set-shape = next-shape labelSetIn
-
--- one field alone
-pub alone-shape : {A : Type 0} {r : Reader A} {p : ℕ → List ℕ → Option (A × List ℕ)} → Shape r p
-    → (b : List ℕ) → readLine r b ≡ p 10 b
-unfolding _>>=_ return andThen
-alone-shape {r} {p} d b =
-    line-same (λ ts. sym (again (r ts))) b ∙ d .last (λ a. a) b ∙ again (p 10 b)
-  where
-    again : {A B : Type 0} (o : Option (A × B)) → andThen o (λ x. some (x .0, x .1)) ≡ o
-    again none = refl
-    again (some x) = refl
 
 -- Two fields, one after the other
 

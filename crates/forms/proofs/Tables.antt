@@ -1,26 +1,27 @@
 -- Tables of words: the line of a word that the bytes begin with.
 use mathlib.Core.Path.{_≡_, refl, sym, ap, _∙_}
-use mathlib.Core.List.{List, [], _∷_, _++_, map}
+use mathlib.Core.List.{List, [], _∷_, _++_}
 use mathlib.Core.Option.{Option, none, some}
-use mathlib.Core.Bool.{Bool, true, false, _&&_}
+use mathlib.Core.Bool.{Bool, true, false, not, _&&_, _||_, and-eq-true-iff}
 use Prim.Native.Nat.{ℕ, _*_, _+_, _≤_, _<_}
 use Prim.Native.String.{String}
 use mathlib.Core.Logic.{_⊎_, ⊎-elim}
 use native.Mathlib.Omega.{arith}
 use lib.Dec.{eqb}
 use lib.ListN.{length, length-append}
-use borrow.Author.Tests.{ne-eqb, eqb-true}
+use borrow.Author.Tests.{ne-eqb, eqb-true, not-true}
 use Rattle.logic.specs.Multiset.{Every}
+use Rattle.logic.proofs.Tests.{no-truth}
 use Rattle.request.specs.Text.{bytes, sameBytes, andThen}
 use Rattle.request.specs.Reader.{Reader, return, named, choose, whole, ended}
 use Rattle.request.proofs.Gives.{Gives, just}
+use Rattle.request.proofs.Readers.{same-bytes}
 use Rattle.logic.specs.Choice.{pick}
 use Rattle.numbers.specs.Field.{ends, Stop, cut, strip}
-use Rattle.forms.specs.Line.{readLine}
+use Rattle.forms.specs.Line.{readLine, lookup}
 use Rattle.numbers.proofs.Then.{then-then, then-same, then-none, by-test}
-use Rattle.forms.proofs.Cut.{atStop, line-cut, line-same, line-none, line-return, whole-none, stop-none}
+use Rattle.forms.proofs.Cut.{atStop, line-cut, line-none, line-return, whole-none, stop-none}
 use Rattle.forms.proofs.Cut.{cut-stop}
-use Rattle.forms.specs.Step.{lookup}
 
 abbrev pub Table : Type 0 → Type 0
 Table A = List (String × Reader A)
@@ -28,14 +29,11 @@ Table A = List (String × Reader A)
 -- no byte of a text ends a field
 unfoldable pub inside : List ℕ → Bool
 inside [] = true
-inside (x ∷ xs) = pick (ends x) false (inside xs)
-
-no-truth : {P : Type 0} → false ≡ true → P
-no-truth e = absurd (let z : _≡_ {A = ℕ} (pick false 1 0) (pick true 1 0) = ap (λ b. pick b 1 0) e in omega arith)
+inside (x ∷ xs) = not (ends x) && inside xs
 
 inside-both : (x : ℕ) (xs : List ℕ) → inside (x ∷ xs) ≡ true → (ends x ≡ false) × (inside xs ≡ true)
 unfolding inside
-inside-both x xs h = by-test (ends x) (λ e. no-truth (rw e at h)) (λ e. (e, rw e at h))
+inside-both x xs h = let k = and-eq-true-iff (not (ends x)) (inside xs) .0 h in (not-true (ends x) (k .0), k .1)
 
 apart : (x c : ℕ) → ends x ≡ false → Stop c → x ≡ c → ⊥
 apart x c e h q = no-truth (sym e ∙ ap ends q ∙ h)
@@ -84,11 +82,7 @@ chosen (e ∷ es) b = unless (strip (then-comma (e .0)) b) (readLine (e .1))
 -- no word of the table has a byte that ends a field
 abbrev pub plain : {A : Type 0} → Table A → Bool
 plain [] = true
-plain (e ∷ es) = pick (inside (bytes (e .0))) (plain es) false
-
-plain-both : {A : Type 0} (e : String × Reader A) (es : Table A) → plain (e ∷ es) ≡ true
-    → (inside (bytes (e .0)) ≡ true) × (plain es ≡ true)
-plain-both e es h = by-test (inside (bytes (e .0))) (λ q. (q, rw q at h)) (λ q. no-truth (rw q at h))
+plain (e ∷ es) = inside (bytes (e .0)) && plain es
 
 stop-ten : (e : ℕ) → Stop e → eqb e 44 ≡ false → eqb e 10 ≡ true
 stop-ten e h q = rw q at h
@@ -98,7 +92,7 @@ module _ {A : Type 0} (b : List ℕ) where
   unfolding chosen andThen
   chosen-none [] h k = refl
   chosen-none (e ∷ es) h k =
-      let i = plain-both e es h in
+      let i = and-eq-true-iff (inside (bytes (e .0))) (plain es) .0 h in
       rw (strip-cut (bytes (e .0)) b 44 (i .0) refl, strip-cut (bytes (e .0)) b 10 (i .0) refl, k, andThen)
       (chosen-none es (i .1) k)
 
@@ -107,7 +101,7 @@ module _ {A : Type 0} (b : List ℕ) where
   unfolding chosen named andThen atStop
   chosen-some [] h t e c s k = stop-none _ (λ ts. whole-none _ ts refl) e c
   chosen-some (x ∷ es) h t e c s k =
-      let i = plain-both x es h in
+      let i = and-eq-true-iff (inside (bytes (x .0))) (plain es) .0 h in
       rw (strip-cut (bytes (x .0)) b 44 (i .0) refl, strip-cut (bytes (x .0)) b 10 (i .0) refl, k, andThen)
       (by-test (sameBytes t (bytes (x .0)))
       (λ q. by-test (eqb e 44) (λ f. rw (q, f, named, atStop)) (λ f. rw (q, f, stop-ten e s f, named, atStop)))
@@ -175,12 +169,13 @@ onward-none r h e b = by-test (eqb e 44) (λ p. rw (p, onward) (line-none r h b)
 
 abbrev sized : {A : Type 0} → ℕ → Table A → Bool
 sized n [] = true
-sized n (e ∷ es) = pick (eqb (length (bytes (e .0))) n) (sized n es) false
+sized n (e ∷ es) = eqb (length (bytes (e .0))) n && sized n es
 
 sized-both : {A : Type 0} (n : ℕ) (e : String × Reader A) (es : Table A) → sized n (e ∷ es) ≡ true
     → (length (bytes (e .0)) ≡ n) × (sized n es ≡ true)
-sized-both n e es h = by-test (eqb (length (bytes (e .0))) n)
-    (λ q. (eqb-true (length (bytes (e .0))) n q, rw q at h)) (λ q. no-truth (rw q at h))
+sized-both n e es h =
+    let k = and-eq-true-iff (eqb (length (bytes (e .0))) n) (sized n es) .0 h in
+    (eqb-true (length (bytes (e .0))) n (k .0), k .1)
 
 strip-sized : (w p : List ℕ) (c e : ℕ) (t : List ℕ) → length w ≡ length p
     → strip (w ++ (c ∷ [])) (p ++ (e ∷ t)) ≡ pick (sameBytes p w && eqb e c) (some t) none
@@ -237,11 +232,6 @@ pub onward-comma : {A : Type 0} (r : Reader A) {e : ℕ} (b : List ℕ) → e �
 unfolding onward
 onward-comma r b q = rw (q, onward)
 
-pub onward-same : {A : Type 0} {r q : Reader A} → ((ts : List (List ℕ)) → r ts ≡ q ts)
-    → (e : ℕ) (b : List ℕ) → onward e r b ≡ onward e q b
-unfolding onward whole
-onward-same h e b = rw (line-same h b, h [])
-
 -- a reader that wants no field
 pub onward-end : {A : Type 0} (a : A) {e : ℕ} (b : List ℕ) → e ≡ 10 → onward e (return a) b ≡ some (a, b)
 unfolding onward whole return ended andThen
@@ -266,7 +256,7 @@ module _ {A : Type 0} (t : List ℕ) where
   unfolding choose named
   no-field [] h = refl
   no-field (e ∷ es) h = by-test (sameBytes t (bytes (e .0)))
-      (λ b. rw (b, named) (⊎-elim (λ q. no-truth (sym q ∙ b)) (λ q. q) (h .0)))
+      (λ b. rw (b, named) (⊎-elim (λ q. absurd (no-truth (sym q ∙ b))) (λ q. q) (h .0)))
       (λ b. rw (b, named) (no-field es (h .1)))
 
 pub one-other : (x y : ℕ) → (x ≡ y → ⊥) → sameBytes (x ∷ []) (y ∷ []) ≡ false
@@ -287,23 +277,15 @@ Others x (y ∷ ys) = Others x ys × (x ≡ y → ⊥)
 
 abbrev among : ℕ → List ℕ → Bool
 among x [] = false
-among x (y ∷ ys) = pick (eqb x y) true (among x ys)
+among x (y ∷ ys) = eqb x y || among x ys
 
 abbrev pub keyed : {A : Type 0} → List ℕ → List (String × A) → Bool
 keyed ys [] = true
-keyed ys (e ∷ es) = pick (among (key (bytes (e .0))) ys) (keyed ys es) false
+keyed ys (e ∷ es) = among (key (bytes (e .0))) ys && keyed ys es
 
 none-among : (x : ℕ) (ys : List ℕ) → Others x ys → among x ys ≡ false
 none-among x [] n = refl
 none-among x (y ∷ ys) n = rw (ne-eqb x y (n .1)) (none-among x ys (n .0))
-
-same-text : (s t : List ℕ) → sameBytes s t ≡ true → s ≡ t
-unfolding sameBytes
-same-text [] [] e = refl
-same-text [] (y ∷ t) e = no-truth e
-same-text (x ∷ s) [] e = no-truth e
-same-text (x ∷ s) (y ∷ t) e = by-test (eqb x y)
-    (λ q. rw (eqb-true x y q, same-text s t (rw (q, sameBytes) at e))) (λ q. no-truth (rw (q, sameBytes) at e))
 
 -- a text whose number is none of the words'
 pub no-key : {A : Type 0} (t : List ℕ) (ys : List ℕ) → Others (key t) ys → (d : A) (table : List (String × A))
@@ -311,12 +293,10 @@ pub no-key : {A : Type 0} (t : List ℕ) (ys : List ℕ) → Others (key t) ys �
 unfolding lookup
 no-key t ys n d [] h = refl
 no-key t ys n d (e ∷ es) h =
-    let m : among (key (bytes (e .0))) ys ≡ true =
-    by-test (among (key (bytes (e .0))) ys) (λ q. q) (λ q. no-truth (rw q at h)) in
+    let m = and-eq-true-iff (among (key (bytes (e .0))) ys) (keyed ys es) .0 h in
     by-test (sameBytes t (bytes (e .0)))
-    (λ q. let f : key t ≡ key (bytes (e .0)) = ap key (same-text t (bytes (e .0)) q) in
-    no-truth (sym (none-among (key t) ys n) ∙ rw f m))
-    (λ q. rw (q, lookup) (no-key t ys n d es (rw m at h)))
+    (λ q. absurd (no-truth (sym (none-among (key t) ys n) ∙ rw (← same-bytes t (bytes (e .0)) q) (m .0))))
+    (λ q. rw (q, lookup) (no-key t ys n d es (m .1)))
 
 -- a table of readers
 pub choose-lookup : {A : Type 0} (table : Table A) (t : List ℕ) (ts : List (List ℕ))
@@ -325,11 +305,3 @@ unfolding choose named lookup
 choose-lookup [] t ts = refl
 choose-lookup (e ∷ es) t ts = by-test (sameBytes t (bytes (e .0))) (λ q. rw (q, named, lookup))
     (λ q. rw (q, named, lookup) (choose-lookup es t ts))
-
--- a table whose entries are named by others
-pub lookup-by : {A B : Type 0} (f : A → B) (table : List (String × A)) (d : A) (t : List ℕ)
-    → lookup (map (λ e. (e .0, f (e .1))) table) (f d) t ≡ f (lookup table d t)
-unfolding lookup
-lookup-by f [] d t = refl
-lookup-by f (e ∷ es) d t = by-test (sameBytes t (bytes (e .0))) (λ q. rw (q, lookup))
-    (λ q. rw (q, lookup) (lookup-by f es d t))

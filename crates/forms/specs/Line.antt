@@ -3,12 +3,13 @@
 use mathlib.Core.List.{List, [], _∷_}
 use mathlib.Core.Option.{Option, none, some}
 use Prim.Native.Nat.{ℕ, _≤_}
+use Prim.Native.String.{String}
 use lib.Dec.{eqb}
 use lib.ListN.{length, drop}
 use Rattle.logic.specs.declared.Interval.{Interval}
 use Rattle.logic.specs.Interval.{span}
 use Rattle.request.specs.Range.{minute, formulaNumber, maxBytes, _‥_}
-use Rattle.request.specs.Text.{andThen, fields, numberIn}
+use Rattle.request.specs.Text.{bytes, sameBytes, andThen, fields, numberIn}
 use Rattle.request.specs.Reader.{Reader, whole}
 use Rattle.request.specs.Request.{Line}
 use Rattle.steps.specs.declared.Row.{Row}
@@ -28,6 +29,11 @@ split (x ∷ xs) = pick (eqb x 10) (some ([], xs)) (andThen (split xs) (λ p. so
 -- what r reads from the fields of the first line, all of them, and the bytes after that line
 unfoldable pub readLine : {A : Type 0} → Reader A → List ℕ → Option (A × List ℕ)
 readLine r b = andThen (split b) (λ p. andThen (whole r (fields (p .0))) (λ a. some (a, p .1)))
+
+-- what a table has for a text, or else d
+unfoldable pub lookup : {A : Type 0} → List (String × A) → A → List ℕ → A
+lookup [] d t = d
+lookup (e ∷ es) d t = pick (sameBytes t (bytes (e .0))) (e .1) (lookup es d t)
 
 -- `from,to`, which the byte `stop` ends
 unfoldable pub intervalTo : ℕ → List ℕ → Option (Interval × List ℕ)

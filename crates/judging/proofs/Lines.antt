@@ -18,8 +18,8 @@ use Rattle.ledger.proofs.Firsts.{if-true, hit}
 use Rattle.forms.specs.Line.{split, readLine}
 use Rattle.tables.specs.Lines.{stepsFrom}
 use Rattle.reader.specs.declared.Head.{Head}
-use Rattle.reader.specs.Booking.{readLines, allLines, StepsAre, LinesAsked}
-use Rattle.reader.proofs.Several.{no-holds, no-steps, booking-read}
+use Rattle.booking_lines.specs.Booking.{readLines, allLines, StepsAre, LinesAsked}
+use Rattle.booking_lines.proofs.Several.{no-holds, no-steps, booking-read}
 use Rattle.store.specs.Store.{Good}
 use Rattle.calls.specs.Handled.{Handled}
 use Rattle.till.specs.Replied.{Called, Pending}

@@ -15,7 +15,7 @@ use Rattle.store.specs.Store.{ledgerOf, Good}
 use Rattle.tables.specs.Lines.{stepsFrom}
 use Rattle.reader.specs.declared.Head.{Head}
 use Rattle.reader.specs.First.{BookIs}
-use Rattle.reader.specs.Booking.{booked}
+use Rattle.booking_lines.specs.Booking.{booked}
 use Rattle.holds.specs.declared.Sides.{Sides}
 use Rattle.holds.specs.Holds.{Serials, AllHeld}
 

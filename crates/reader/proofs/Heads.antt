@@ -130,15 +130,15 @@ issue-kinds (t ∷ ts) = by-test (sameBytes t (bytes "s")) (λ e. rw (e, named, 
     by-test (sameBytes t (bytes "r")) (λ f. rw (e, f, named, andThen)) (λ f. rw (e, f, named, andThen)))
 
 module _ (b c : List ℕ) where
-  pub issue-single : strip (then-comma "s") b ≡ some c
+  pub issue-linear : strip (then-comma "s") b ≡ some c
       → readLine (after "issue") b ≡ readLine (issueFields Linear) c
   unfolding kinds choose named sameBytes bytes inside
-  issue-single e = line-same issue-kinds b ∙ word-found kinds "s" b c refl e
+  issue-linear e = line-same issue-kinds b ∙ word-found kinds "s" b c refl e
 
-  pub issue-standing : strip (then-comma "r") b ≡ some c
+  pub issue-unrestricted : strip (then-comma "r") b ≡ some c
       → readLine (after "issue") b ≡ readLine (issueFields Unrestricted) c
   unfolding kinds choose named sameBytes bytes inside
-  issue-standing e = line-same issue-kinds b ∙ word-found kinds "r" b c refl e
+  issue-unrestricted e = line-same issue-kinds b ∙ word-found kinds "r" b c refl e
 
 pub no-kind : (b : List ℕ) → strip (then-comma "s") b ≡ none → strip (then-comma "r") b ≡ none
     → readLine (after "issue") b ≡ none

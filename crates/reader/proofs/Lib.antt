@@ -1,5 +1,2 @@
 pub mod Split
-pub mod Heads
-pub mod Several
-pub mod Reversals
-pub mod Reading
+mod Heads

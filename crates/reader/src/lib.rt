@@ -1,6 +1,5 @@
-// The reader of requests (document 01: sheets): what the bytes say, in one pass, by positions. This file has the types
-// of the answers; requests.rt reads the first line, bookings.rt the lines after a booking's head.
-pub mod bookings;
+// The reader of requests (document 01: sheets): what the bytes say, in one pass, by positions, up to the lines after a
+// booking's head. This file has the types of the answers; requests.rt reads the first line.
 pub mod requests;
 
 use logic::Interval;
@@ -24,17 +23,5 @@ pub enum First {
     Withdraw(u32),
     Tally(u32, u32),
     Book(Head),
-    Broken,
-}
-
-// The hold lines of a booking were read, and the position after them.
-pub enum HoldsRead {
-    Read(u32),
-    Broken,
-}
-
-// The step lines of a booking were read; whether an interval among them is reversed (refusal 3).
-pub enum StepsRead {
-    Read(bool),
     Broken,
 }

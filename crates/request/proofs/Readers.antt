@@ -2,7 +2,7 @@
 use mathlib.Core.Path.{_≡_, refl, sym, ap, subst, _∙_}
 use mathlib.Core.List.{List, [], _∷_, _++_, map, append-assoc, append-nil}
 use mathlib.Core.Option.{Option, none, some}
-use mathlib.Core.Bool.{Bool, true, false, _&&_}
+use mathlib.Core.Bool.{Bool, true, false, _&&_, and-eq-true-iff}
 use Prim.Native.Nat.{ℕ, zero, suc, _+_, _*_, _≤_, _<_}
 use Prim.Native.String.{String}
 use native.Mathlib.Omega.{arith}
@@ -11,7 +11,7 @@ use lib.ListN.{length}
 use borrow.Author.Tests.{eqb-true, leb-true}
 use Rattle.logic.specs.Multiset.{Every}
 use Rattle.logic.specs.Counts.{all}
-use Rattle.logic.proofs.Tests.{no-truth, and-decides}
+use Rattle.logic.proofs.Tests.{no-truth}
 use Rattle.request.specs.Text.{bytes, sameBytes, andThen, fields}
 use Rattle.request.specs.Reader.{Reader, return, _>>=_, next, many, named, choose, ended, whole, line}
 use Rattle.request.specs.Write.{joined}
@@ -148,16 +148,13 @@ module _ {A : Type 0} {r : Reader A} (none-read : r [] ≡ none) where
 
 -- Tables of words
 
-both : (x y : Bool) → (x && y) ≡ true → (x ≡ true) × (y ≡ true)
-both x y e = and-decides {x = x} {y = y} (λ q. q, λ q. q) (λ q. q, λ q. q) .0 e
-
-same-bytes : (s t : List ℕ) → sameBytes s t ≡ true → t ≡ s
+pub same-bytes : (s t : List ℕ) → sameBytes s t ≡ true → t ≡ s
 unfolding sameBytes
 same-bytes [] [] e = refl
 same-bytes [] (y ∷ ys) e = absurd (no-truth e)
 same-bytes (x ∷ xs) [] e = absurd (no-truth e)
 same-bytes (x ∷ xs) (y ∷ ys) e =
-    let h = both (eqb x y) (sameBytes xs ys) e in
+    let h = and-eq-true-iff (eqb x y) (sameBytes xs ys) .0 e in
     rw (same-bytes xs ys (h .1), eqb-true x y (h .0))
 
 -- for each word of a table, what its reader reads
@@ -193,14 +190,16 @@ fits t m n = all (leb 48) (bytes t) && leb (suc (length (bytes t)) + m) n
 all-plain : (t : List ℕ) → all (leb 48) t ≡ true → Plain 48 t
 unfolding all
 all-plain [] e = tt
-all-plain (x ∷ t) e = let h = both (leb 48 x) (all (leb 48) t) e in (leb-true 48 x (h .0), all-plain t (h .1))
+all-plain (x ∷ t) e =
+    let h = and-eq-true-iff (leb 48 x) (all (leb 48) t) .0 e in
+    (leb-true 48 x (h .0), all-plain t (h .1))
 
 -- a table that goes on with the word's reader
 pub word-reads : {A : Type 0} {r table : Reader A} {a : A} {ws : Texts} {m n : ℕ} (t : String)
     → fits t m n ≡ true → ((us : Texts) → table (bytes t ∷ us) ≡ r us)
     → Reads 48 r a ws m → Reads 48 table a (bytes t ∷ ws) n
 word-reads {ws} {m} {n} t e f s =
-    let h = both (all (leb 48) (bytes t)) (leb (suc (length (bytes t)) + m) n) e in
+    let h = and-eq-true-iff (all (leb 48) (bytes t)) (leb (suc (length (bytes t)) + m) n) .0 e in
     record {
       back = λ ts. f (ws ++ ts) ∙ s .back ts;
       plain = (all-plain (bytes t) (h .0), s .plain);

@@ -4,7 +4,7 @@ use borrow.Author.Needs.{needs}
 use Rattle.request.specs.Text.{bytes}
 use Rattle.numbers.specs.Field.{pastOf}
 use Rattle.numbers.proofs.Then.{told}
-use Rattle.reader.proofs.Heads.{first-by, no-line, issue-single, issue-standing, no-kind}
+use Rattle.reader.proofs.Heads.{first-by, no-line, issue-linear, issue-unrestricted, no-kind}
 use Rattle.reader.specs.First.{requestFrom}
 use Rattle.reader.proofs.requests.issue.Statement.{statement}
 use Rattle.reader.proofs.requests.issue.Tie as tie
@@ -20,7 +20,7 @@ issue-spec =
     (λ c κs. search needs)
     (λ c. let d = c .before .before .before .before in
     first-by (d .before .before .before .args .s .now) (c .issued .result)
-    (ap requestFrom (issue-single _ _ (told (pastOf _) (d .past .ensures) (c .before .before .a .given .1))))
+    (ap requestFrom (issue-linear _ _ (told (pastOf _) (d .past .ensures) (c .before .before .a .given .1))))
     (c .issued .ensures))
     (λ c. search needs)
     (λ c. search needs)
@@ -30,7 +30,7 @@ issue-spec =
     (λ c. let d = c .before .before .before .before in
     let e = d .before .before .before .before in
     first-by (e .before .before .before .args .s .now) (c .issued2 .result)
-    (ap requestFrom (issue-standing _ _ (told (pastOf _) (d .past2 .ensures) (c .before .before .b .given .1))))
+    (ap requestFrom (issue-unrestricted _ _ (told (pastOf _) (d .past2 .ensures) (c .before .before .b .given .1))))
     (c .issued2 .ensures))
     (λ c. search needs)
     (λ c. let d = c .before .before .before .before in

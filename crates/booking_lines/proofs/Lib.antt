@@ -1,0 +1,3 @@
+pub mod Several
+mod Reversals
+mod Reading

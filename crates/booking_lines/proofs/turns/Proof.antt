@@ -1,0 +1,15 @@
+-- `turns` meets its contract.
+use borrow.Author.Needs.{needs}
+use borrow.Author.Tests.{lt-ltb, le-ltb}
+use Rattle.booking_lines.specs.Booking.{turned}
+use Rattle.booking_lines.proofs.turns.Statement.{statement}
+use Rattle.booking_lines.proofs.turns.Tie as tie
+
+pub turns-spec : {M : Type 1} → statement M
+unfolding turned
+turns-spec =
+    tie.close
+    (tie.spec
+    (λ c. (simp (lt-ltb _ _ (c .if1 .taken)), search needs))
+    (λ c. (simp (le-ltb _ _ (c .before .before .if1 .left), lt-ltb _ _ (c .if2 .taken)), search needs))
+    (λ c. (simp (le-ltb _ _ (c .before .before .if1 .left), le-ltb _ _ (c .if2 .left)), search needs)))

@@ -1,0 +1,85 @@
+// The lines after a booking's head: hold lines, and step lines in rows of six numbers.
+use step_lines::HoldLine;
+use step_lines::StepLine;
+use step_lines::hold_lines::read_hold;
+use step_lines::rows::read_step;
+use tables::StepRow;
+use tables::lines::put_step;
+ghost use mathlib.Core.Path.{_≡_};
+ghost use Prim.Native.Nat.{_≤_};
+ghost use lib.ListN.{length, drop};
+ghost use Rattle.request.specs.Read.{holdLine, stepLine};
+ghost use Rattle.logic.specs.Choice.{pick};
+ghost use Rattle.booking_lines.specs.Booking.{LinesAsked, readLines, holdsOf, turned, allLines, StepsIs};
+
+// The hold lines of a booking were read, and the position after them.
+pub enum HoldsRead {
+    Read(u32),
+    Broken,
+}
+
+// The step lines of a booking were read; whether an interval among them is reversed (refusal 3).
+pub enum StepsRead {
+    Read(bool),
+    Broken,
+}
+
+// `count` hold lines from `at` on, and their serials in order.
+pub fn read_holds(s: &[u8], at: u32, count: u32, serials: &mut [u32; 32]) -> HoldsRead
+    requires { ⌜ LinesAsked (now s) count 32 (now serials) 32 ⌝ }
+    ensures { λ r. ⌜ holdsOf (now (s .entry)) count (now (serials .exit)) r
+        ≡ readLines count holdLine (drop at (now (s .entry))) ⌝ }
+    ensures { λ _. ⌜ length (now (serials .exit)) ≡ 32 ⌝ }
+{
+    let mut i = at;
+    let mut k: u32 = 0;
+    while k < count {
+        let h = read_hold(s, i);
+        let HoldLine::Serial(n, j) = h else {
+            return HoldsRead::Broken;
+        };
+        serials[k as usize] = n;
+        i = j;
+        k += 1;
+    }
+    HoldsRead::Read(i)
+}
+
+// 1 for a step whose interval is reversed, else 0.
+fn turns(r: StepRow) -> u32
+    ensures { λ n. ⌜ (n ≡ pick (turned r) 1 0) × (n ≤ 1) ⌝ }
+{
+    if r.op < 20 {
+        return 0;
+    }
+    if r.to < r.from {
+        return 1;
+    }
+    0
+}
+
+// `count` step lines, to the end of the bytes, which are the part of a request from its first step line on; each in
+// its row.
+pub fn read_steps(s: &[u8], count: u32, rows: &mut [u32; 1536]) -> StepsRead
+    requires { ⌜ LinesAsked (now s) count 256 (now rows) 1536 ⌝ }
+    ensures { λ r. ⌜ StepsIs (allLines count stepLine (now (s .entry))) count (now (rows .exit)) r ⌝ }
+    ensures { λ _. ⌜ length (now (rows .exit)) ≡ 1536 ⌝ }
+{
+    let mut at: u32 = 0;
+    let mut k: u32 = 0;
+    let mut reversed: u32 = 0;
+    while k < count {
+        let line = read_step(s, at);
+        let StepLine::Step(row, next) = line else {
+            return StepsRead::Broken;
+        };
+        reversed = reversed + turns(row);
+        put_step(rows, k, row);
+        at = next;
+        k += 1;
+    }
+    if (at as usize) < s.len() {
+        return StepsRead::Broken;
+    }
+    StepsRead::Read(0 < reversed)
+}

@@ -1,0 +1,204 @@
+// Step lines as rows.
+use crate::StepLine;
+use forms::Span;
+use forms::formulas::interval;
+use numbers::Decimal;
+use numbers::Labels;
+use numbers::label_set;
+use numbers::number;
+use tables::StepRow;
+ghost use mathlib.Core.Path.{_≡_};
+ghost use mathlib.Core.List.{[], _∷_};
+ghost use Prim.Native.Nat.{_≤_};
+ghost use lib.ListN.{length, drop};
+ghost use Rattle.request.specs.Range.{maxBytes};
+ghost use Rattle.request.specs.Read.{stepLine};
+ghost use Rattle.forms.specs.Line.{readLine};
+ghost use Rattle.tables.specs.Lines.{stepRow};
+ghost use Rattle.step_lines.specs.Step.{opOf, stepReader, labelReader, stepLineOf};
+
+// The number of the step whose word is the two letters; 22 for no step.
+fn op_of(a: u8, b: u8) -> u32
+    ensures { λ r. ⌜ r ≡ opOf (a ∷ b ∷ []) ⌝ }
+{
+    let n = (a as u32) * 256 + (b as u32);
+    match n {
+        24934 => 0,
+        28530 => 1,
+        26482 => 2,
+        28721 => 3,
+        28722 => 4,
+        25202 => 5,
+        26738 => 6,
+        29554 => 7,
+        30578 => 8,
+        29810 => 9,
+        24952 => 10,
+        25456 => 11,
+        28524 => 12,
+        30513 => 13,
+        30514 => 14,
+        25196 => 15,
+        26732 => 16,
+        29548 => 17,
+        29804 => 18,
+        28780 => 19,
+        27756 => 20,
+        30060 => 21,
+        _ => 22,
+    }
+}
+
+// `tr`: a set of labels
+fn set_fields(s: &[u8], at: u32) -> StepLine
+    requires { ⌜ length (now s) ≤ maxBytes ⌝ }
+    ensures { λ r. ⌜ stepLineOf (now (s .entry)) r ≡ readLine (stepReader 9) (drop at (now (s .entry))) ⌝ }
+{
+    let f = label_set(s, at, 10);
+    let Labels::Set(v, i) = f else {
+        return StepLine::Broken;
+    };
+    let high = (v / 4294967296) as u32;
+    let low = (v % 4294967296) as u32;
+    StepLine::Step(
+        StepRow {
+            op: 9,
+            label: 0,
+            high,
+            low,
+            from: 0,
+            to: 0,
+        },
+        i,
+    )
+}
+
+// A label alone.
+fn label_fields(s: &[u8], at: u32, op: u32) -> StepLine
+    requires { ⌜ length (now s) ≤ maxBytes ⌝ }
+    ensures { λ r. ⌜ stepLineOf (now (s .entry)) r ≡ readLine (labelReader op) (drop at (now (s .entry))) ⌝ }
+{
+    let f = number(s, at, 0, 63, 10);
+    let Decimal::Number(label, i) = f else {
+        return StepLine::Broken;
+    };
+    StepLine::Step(
+        StepRow {
+            op,
+            label,
+            high: 0,
+            low: 0,
+            from: 0,
+            to: 0,
+        },
+        i,
+    )
+}
+
+// `ll`: a label, a set of labels, an interval
+fn lolli_fields(s: &[u8], at: u32) -> StepLine
+    requires { ⌜ length (now s) ≤ maxBytes ⌝ }
+    ensures { λ r. ⌜ stepLineOf (now (s .entry)) r ≡ readLine (stepReader 20) (drop at (now (s .entry))) ⌝ }
+{
+    let f = number(s, at, 0, 63, 44);
+    let Decimal::Number(label, i) = f else {
+        return StepLine::Broken;
+    };
+    let g = label_set(s, i, 44);
+    let Labels::Set(v, j) = g else {
+        return StepLine::Broken;
+    };
+    let h = interval(s, j, 10);
+    let Span::Minutes(w, k) = h else {
+        return StepLine::Broken;
+    };
+    let high = (v / 4294967296) as u32;
+    let low = (v % 4294967296) as u32;
+    StepLine::Step(
+        StepRow {
+            op: 20,
+            label,
+            high,
+            low,
+            from: w.from,
+            to: w.to,
+        },
+        k,
+    )
+}
+
+// `ul`: a label, an interval
+fn implies_fields(s: &[u8], at: u32) -> StepLine
+    requires { ⌜ length (now s) ≤ maxBytes ⌝ }
+    ensures { λ r. ⌜ stepLineOf (now (s .entry)) r ≡ readLine (stepReader 21) (drop at (now (s .entry))) ⌝ }
+{
+    let f = number(s, at, 0, 63, 44);
+    let Decimal::Number(label, i) = f else {
+        return StepLine::Broken;
+    };
+    let g = interval(s, i, 10);
+    let Span::Minutes(w, j) = g else {
+        return StepLine::Broken;
+    };
+    StepLine::Step(
+        StepRow {
+            op: 21,
+            label,
+            high: 0,
+            low: 0,
+            from: w.from,
+            to: w.to,
+        },
+        j,
+    )
+}
+
+// A step without fields.
+fn bare(op: u32) -> StepRow
+    ensures { λ r. ⌜ r ≡ stepRow op 0 0 0 0 0 ⌝ }
+{
+    StepRow {
+        op,
+        label: 0,
+        high: 0,
+        low: 0,
+        from: 0,
+        to: 0,
+    }
+}
+
+// One of the 22 step lines.
+pub fn read_step(s: &[u8], at: u32) -> StepLine
+    requires { ⌜ length (now s) ≤ maxBytes ⌝ }
+    ensures { λ r. ⌜ stepLineOf (now (s .entry)) r ≡ readLine stepLine (drop at (now (s .entry))) ⌝ }
+{
+    let i = at as usize;
+    if s.len() <= i + 2 {
+        return StepLine::Broken;
+    }
+    let op = op_of(s[i], s[i + 1]);
+    let stop = s[i + 2];
+    let j = at + 3;
+    if op < 9 {
+        if stop != 10 {
+            return StepLine::Broken;
+        }
+        return StepLine::Step(bare(op), j);
+    }
+    if stop != 44 {
+        return StepLine::Broken;
+    }
+    if op == 9 {
+        return set_fields(s, j);
+    }
+    if op < 20 {
+        return label_fields(s, j, op);
+    }
+    if op == 20 {
+        return lolli_fields(s, j);
+    }
+    if op == 21 {
+        return implies_fields(s, j);
+    }
+    StepLine::Broken
+}
