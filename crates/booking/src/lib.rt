@@ -1,97 +1,20 @@
-// Booking (document 01: book): its checks in the paper's order, and what an accepted one does; and the one call, which
-// tells the five requests apart.
+// Booking (document 01: book): its checks in the paper's order, up to 31, from where crate settling goes on; and the
+// one call, which tells the five requests apart.
 use booking_lines::HoldsRead;
 use booking_lines::StepsRead;
 use booking_lines::read_holds;
 use booking_lines::read_steps;
-use checker::Checked;
 use holds::Held;
-use holds::Sides;
 use ledger::Answer;
-use logic::Interval;
 use reader::Head;
-use request::Kind;
-use steps::Goal;
-use steps::Sequent;
 use store::Store;
 use till::Reply;
 use till::answer;
 use verdicts::Verdict;
-ghost use mathlib.Core.Path.{_≡_};
-ghost use mathlib.Core.Bool.{not, _||_};
-ghost use Rattle.logic.specs.Interval.{has, reversed};
 ghost use Rattle.store.specs.Store.{Good};
-ghost use Rattle.premises.specs.Begin.{sequent};
-ghost use Rattle.verdicts.specs.Verdicts.{fails};
 ghost use Rattle.calls.specs.Handled.{Handled};
 ghost use Rattle.till.specs.Replied.{Called};
-ghost use Rattle.judging.specs.Booking.{bookingAt, Lent, ReadLines, Bookable, Steppable, Opened};
-
-// 3: the goal's interval is reversed, or a step's is.
-fn lines_ordered(interval: Interval, turned: bool) -> Verdict
-    ensures { λ r. ⌜ fails r ≡ (reversed interval || turned) ⌝ }
-{
-    verdicts::tested((interval.to < interval.from) | turned)
-}
-
-// 30: `now` is not in the goal's interval.
-fn timely(interval: Interval, now: u32) -> Verdict
-    ensures { λ r. ⌜ fails r ≡ not (has interval now) ⌝ }
-{
-    verdicts::tested((now < interval.from) | (interval.to < now))
-}
-
-// The sequent of the first step: the goal from the holds.
-fn opening(head: Head, sides: Sides) -> Sequent
-    ensures { λ r. ⌜ r ≡ sequent (sides .unrestricted) (sides .linear)
-        (Goal.Holds (head .formula) (head .interval)) ⌝ }
-{
-    let interval = head.interval;
-    let goal = Goal::Holds(head.formula, interval);
-    Sequent {
-        unrestricted: sides.unrestricted,
-        linear: sides.linear,
-        goal,
-    }
-}
-
-// 40 to 42 step by step, 22, 23; then the linear holds go and the goal comes as one linear credential.
-fn book_steps(
-    till: &mut Store,
-    head: Head,
-    serials: &[u32; 32],
-    rows: &[u32; 1536],
-    table: &mut [u32; 192],
-    sides: Sides,
-) -> Answer
-    requires { ⌜ Steppable (now till) head (now serials) (now rows) (now table) sides ⌝ }
-    ensures { λ r. ⌜ Handled (now (till .entry)) (bookingAt head (now (serials .entry)) (now (rows .entry))) r
-        (now (till .exit)) ⌝ }
-{
-    let checked = checker::check(
-        till,
-        rows,
-        table,
-        head.steps,
-        opening(head, sides),
-        head.holds,
-    );
-    if let Checked::Stopped(number, step) = checked {
-        return Answer::Refused(number, step);
-    }
-    let room = verdicts::room(till, sides.singles);
-    let Verdict::Passed = room else {
-        return Answer::Refused(22, 0);
-    };
-    let unused = verdicts::unused(till);
-    let Verdict::Passed = unused else {
-        return Answer::Refused(23, 0);
-    };
-    let serial = store::next_serial(till);
-    holds::spend(till, serials, head.holds);
-    credentials::give(till, Kind::Linear, head.formula, head.interval);
-    Answer::Accepted(serial)
-}
+ghost use Rattle.judging.specs.Booking.{bookingAt, Lent, ReadLines, Bookable, Opened};
 
 // 24 for all holds, then 31.
 fn book_holds(till: &mut Store, head: Head, serials: &[u32; 32], rows: &[u32; 1536]) -> Answer
@@ -108,7 +31,7 @@ fn book_holds(till: &mut Store, head: Head, serials: &[u32; 32], rows: &[u32; 15
     let Verdict::Passed = once else {
         return Answer::Refused(31, 0);
     };
-    book_steps(till, head, serials, rows, &mut table, sides)
+    settling::book_steps(till, head, serials, rows, &mut table, sides)
 }
 
 // 10, 20, 30.
@@ -125,7 +48,7 @@ fn book_read(till: &mut Store, head: Head, serials: &[u32; 32], rows: &[u32; 153
     let Verdict::Passed = plain else {
         return Answer::Refused(20, 0);
     };
-    let in_time = timely(head.interval, head.now);
+    let in_time = verdicts::timely(head.interval, head.now);
     let Verdict::Passed = in_time else {
         return Answer::Refused(30, 0);
     };
@@ -151,7 +74,7 @@ fn book(till: &mut Store, sheet: &[u8], rows: &mut [u32; 1536], head: Head) -> A
     let StepsRead::Read(turned) = read else {
         return Answer::Refused(2, 0);
     };
-    let ordered = lines_ordered(head.interval, turned);
+    let ordered = verdicts::lines_ordered(head.interval, turned);
     let Verdict::Passed = ordered else {
         return Answer::Refused(3, 0);
     };

@@ -2,14 +2,11 @@
 use mathlib.Core.Path.{_≡_, ap, subst, _∙_}
 use mathlib.Core.List.{List, [], _∷_}
 use mathlib.Core.Option.{none, some}
-use mathlib.Core.Bool.{Bool, true, false, not, _&&_, _||_}
-use Prim.Native.Nat.{ℕ, _-_, _<_}
+use mathlib.Core.Bool.{Bool, true, false, not}
+use Prim.Native.Nat.{ℕ, _-_}
 use native.Mathlib.Omega.{arith}
 use lib.ListN.{length, take}
-use lib.Dec.{leb, ltb}
-use native.Mathlib.Decide.{decLt}
-use borrow.Author.Tests.{leb-false, ltb-false, lt-ltb, lt-leb, le-ltb, le-leb}
-use Rattle.logic.specs.declared.Interval.{Interval}
+use borrow.Author.Tests.{leb-false, ltb-false}
 use Rattle.logic.specs.Formula.{plain}
 use Rattle.logic.specs.Interval.{has}
 use Rattle.logic.specs.Multiset.{Every}
@@ -33,24 +30,6 @@ use Rattle.holds.specs.Holds.{AllHeld, Spendable}
 use Rattle.calls.specs.Handled.{Handled}
 use Rattle.calls.proofs.Laws.{refused, accepted}
 use Rattle.judging.specs.Booking.{bookingAt, ReadLines, Bookable, Steppable}
-
--- 30, as the code tests it
-pub untimely : (i : Interval) (m : ℕ) → (ltb m (i .from) || ltb (i .to) m) ≡ not (has i m)
-unfolding has
-untimely i m = go (decLt m (i .from)) (decLt (i .to) m)
-  where
-    go : Dec (m < i .from) → Dec (i .to < m)
-        → (ltb m (i .from) || ltb (i .to) m) ≡ not (leb (i .from) m && leb m (i .to))
-    go (yes a) b = rw (lt-ltb m (i .from) a, lt-leb (i .from) m a)
-    go (no a) (yes b) =
-        rw (le-ltb m (i .from) (omega arith), le-leb (i .from) m (omega arith), lt-ltb (i .to) m b, lt-leb m (i .to) b)
-    go (no a) (no b) =
-        rw (
-          le-ltb m (i .from) (omega arith),
-          le-leb (i .from) m (omega arith),
-          le-ltb (i .to) m (omega arith),
-          le-leb m (i .to) (omega arith),
-        )
 
 pub held-alive : {t : Ledger} {ns table table′ : List ℕ} {s : Sides} → AllHeld t ns table s table′
     → any (dead t) ns ≡ false

@@ -1,2 +1,1 @@
-mod Streams
-mod Pieces
+mod Turns

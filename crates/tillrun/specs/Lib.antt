@@ -1,1 +1,1 @@
-pub mod Kiosk
+pub mod Program

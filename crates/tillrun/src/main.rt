@@ -1,15 +1,13 @@
 // `tillrun` (document 01, "Kiosk"): reads sheets from standard input and prints their answers, starting with an empty
 // till. What is read in one piece is answered and written before more input is waited for.
-use kiosk::Place;
-use kiosk::Rows;
 use store::Store;
-
-mod kiosk;
-
+use stream::Place;
+use stream::Rows;
 ghost use mathlib.Core.Path.{_≡_};
 ghost use lib.ListN.{length};
 ghost use Rattle.judging.specs.Booking.{Lent};
-ghost use Rattle.tillrun.specs.Kiosk.{Ready, Turned, Opened};
+ghost use Rattle.stream.specs.Stream.{Ready};
+ghost use Rattle.tillrun.specs.Program.{Turned, Opened};
 
 // A place, whether to go on, and whether the answers could be written.
 struct Turn {
@@ -42,7 +40,7 @@ fn next_piece(
             written: true,
         };
     }
-    let next = kiosk::feed(till, rows, begun, text, place, &piece[..n]);
+    let next = stream::feed(till, rows, begun, text, place, &piece[..n]);
     let end = next.text;
     let more = io::write_all(1, &text[..end]);
     Turn {
@@ -79,7 +77,7 @@ fn play(till: &mut Store, rows: &mut Rows, begun: &mut [u8], text: &mut [u8], pi
     if !written {
         return;
     }
-    let end = kiosk::finish(till, rows, begun, text, place);
+    let end = stream::finish(till, rows, begun, text, place);
     io::write_all(1, &text[..end]);
 }
 

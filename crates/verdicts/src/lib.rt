@@ -4,10 +4,10 @@ use request::Kind;
 use steps::Row;
 use store::Store;
 ghost use mathlib.Core.Path.{_≡_};
-ghost use mathlib.Core.Bool.{not};
+ghost use mathlib.Core.Bool.{not, _||_};
 ghost use Prim.Native.Nat.{_<_};
 ghost use lib.ListN.{length};
-ghost use Rattle.logic.specs.Interval.{reversed};
+ghost use Rattle.logic.specs.Interval.{has, reversed};
 ghost use Rattle.logic.specs.Formula.{plain};
 ghost use Rattle.logic.specs.Counts.{balanced};
 ghost use Rattle.ledger.specs.Table.{names};
@@ -45,6 +45,13 @@ pub fn line_ordered(row: Row) -> Verdict
     ensures { λ r. ⌜ fails r ≡ any reversed (lineIntervals (lineOf row)) ⌝ }
 {
     tested(forms::formulas::reversed_row(row))
+}
+
+// 3: the goal's interval is reversed, or a step's is.
+pub fn lines_ordered(interval: Interval, turned: bool) -> Verdict
+    ensures { λ r. ⌜ fails r ≡ (reversed interval || turned) ⌝ }
+{
+    tested((interval.to < interval.from) | turned)
 }
 
 // 10: a named formula is not there.
@@ -118,4 +125,11 @@ pub fn unused(till: &Store) -> Verdict
     ensures { λ r. ⌜ fails r ≡ usedUp (ledgerOf (now (till .entry))) ⌝ }
 {
     tested(999999 < store::next_serial(till))
+}
+
+// 30: `now` is not in the goal's interval.
+pub fn timely(interval: Interval, now: u32) -> Verdict
+    ensures { λ r. ⌜ fails r ≡ not (has interval now) ⌝ }
+{
+    tested((now < interval.from) | (interval.to < now))
 }

@@ -3,7 +3,8 @@ use mathlib.Core.Path.{sym, _∙_}
 use native.Mathlib.Omega.{arith}
 use lib.Seq.{length-take-le}
 use borrow.Author.Needs.{needs}
-use Rattle.tillrun.proofs.Pieces.{ready-for, turned, turned-none}
+use Rattle.stream.proofs.Pieces.{ready-for}
+use Rattle.tillrun.proofs.Turns.{turned, turned-none}
 use Rattle.tillrun.proofs.next_piece.Statement.{statement}
 use Rattle.tillrun.proofs.next_piece.Tie as tie
 

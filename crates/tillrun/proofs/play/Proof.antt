@@ -6,8 +6,9 @@ use lib.ListN.{length}
 use lib.Seq.{length-take-le}
 use borrow.Author.Needs.{needs}
 use Rattle.judging.specs.Booking.{Lent}
-use Rattle.tillrun.specs.Kiosk.{Going}
-use Rattle.tillrun.proofs.Pieces.{going-start, going-on, ready-for}
+use Rattle.stream.proofs.Pieces.{ready-for}
+use Rattle.tillrun.specs.Program.{Going}
+use Rattle.tillrun.proofs.Turns.{going-start, going-on}
 use Rattle.tillrun.proofs.play.Statement.{statement}
 use Rattle.tillrun.proofs.play.Tie as tie
 

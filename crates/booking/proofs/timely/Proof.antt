@@ -1,9 +1,0 @@
--- `timely` meets its contract.
-use mathlib.Core.Path.{_∙_}
-use borrow.Author.Needs.{needs}
-use Rattle.judging.proofs.Laws.{untimely}
-use Rattle.booking.proofs.timely.Statement.{statement}
-use Rattle.booking.proofs.timely.Tie as tie
-
-pub timely-spec : {M : Type 1} → statement M
-timely-spec = tie.close (tie.spec (λ c κs. search needs) (λ c. c .tested .ensures ∙ untimely _ _))

@@ -1,0 +1,67 @@
+// The end of a booking (document 01: book), once its holds are found: its steps are judged, 22 and 23 are tried, and an
+// accepted one takes effect.
+use checker::Checked;
+use holds::Sides;
+use ledger::Answer;
+use reader::Head;
+use request::Kind;
+use steps::Goal;
+use steps::Sequent;
+use store::Store;
+use verdicts::Verdict;
+ghost use mathlib.Core.Path.{_≡_};
+ghost use Rattle.premises.specs.Begin.{sequent};
+ghost use Rattle.calls.specs.Handled.{Handled};
+ghost use Rattle.judging.specs.Booking.{bookingAt, Steppable};
+
+// The sequent of the first step: the goal from the holds.
+fn opening(head: Head, sides: Sides) -> Sequent
+    ensures { λ r. ⌜ r ≡ sequent (sides .unrestricted) (sides .linear)
+        (Goal.Holds (head .formula) (head .interval)) ⌝ }
+{
+    let interval = head.interval;
+    let goal = Goal::Holds(head.formula, interval);
+    Sequent {
+        unrestricted: sides.unrestricted,
+        linear: sides.linear,
+        goal,
+    }
+}
+
+// 40 to 42 step by step, 22, 23; then the linear holds go and the goal comes as one linear credential.
+pub fn book_steps(
+    till: &mut Store,
+    head: Head,
+    serials: &[u32; 32],
+    rows: &[u32; 1536],
+    table: &mut [u32; 192],
+    sides: Sides,
+) -> Answer
+    requires { ⌜ Steppable (now till) head (now serials) (now rows) (now table) sides ⌝ }
+    ensures { λ r. ⌜ Handled (now (till .entry)) (bookingAt head (now (serials .entry)) (now (rows .entry))) r
+        (now (till .exit)) ⌝ }
+{
+    let checked = checker::check(
+        till,
+        rows,
+        table,
+        head.steps,
+        opening(head, sides),
+        head.holds,
+    );
+    if let Checked::Stopped(number, step) = checked {
+        return Answer::Refused(number, step);
+    }
+    let room = verdicts::room(till, sides.singles);
+    let Verdict::Passed = room else {
+        return Answer::Refused(22, 0);
+    };
+    let unused = verdicts::unused(till);
+    let Verdict::Passed = unused else {
+        return Answer::Refused(23, 0);
+    };
+    let serial = store::next_serial(till);
+    holds::spend(till, serials, head.holds);
+    credentials::give(till, Kind::Linear, head.formula, head.interval);
+    Answer::Accepted(serial)
+}
