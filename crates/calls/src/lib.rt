@@ -1,5 +1,5 @@
-// Issue, withdraw and tally (document 01: what the till answers), of requests that have been read: each tries its checks
-// in the paper's order and does what the request says.
+// Issue, withdraw and tally (document 01: what the till answers), of requests that have been read: each tries its
+// checks in the paper's order and does what the request says.
 use ledger::Answer;
 use logic::Interval;
 use lookup::Found;

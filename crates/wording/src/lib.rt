@@ -1,5 +1,5 @@
-// Word (document 01: a wording comes): its checks in the paper's order; then the line is added, with what is known of its
-// formula.
+// Word (document 01: a wording comes): its checks in the paper's order; then the line is added, with what is known of
+// its formula.
 use ledger::Answer;
 use steps::Row;
 use store::Store;
