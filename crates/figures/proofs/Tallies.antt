@@ -1,6 +1,6 @@
 -- The sums of a tally, row by row: a gap reads as unrestricted, of which a tally counts nothing. Seats and places are
 -- added up in one number.
-use mathlib.Core.Path.{_≡_, refl, sym, ap, _∙_}
+use mathlib.Core.Path.{subst, _≡_, refl, sym, ap, _∙_}
 use mathlib.Core.List.{List, [], _∷_}
 use mathlib.Core.Bool.{Bool, true, false, not}
 use Prim.Native.Nat.{ℕ, _+_, _*_, _/_, _%_, _≤_}
@@ -24,7 +24,8 @@ use Rattle.store.proofs.Tabs.{length-tab, tab-snoc}
 use Rattle.store.proofs.Live.{live-sum}
 use Rattle.columns.specs.Rows.{both}
 use Rattle.columns.specs.Column.{entry}
-use Rattle.figures.specs.Figures.{Counted}
+use Rattle.figures.specs.Figures.{Counted, Shares}
+use Rattle.figures.specs.declared.Share.{Share}
 use Rattle.ledger.proofs.Credentials.{only-sum}
 use Rattle.columns.proofs.Columns.{early-all}
 use Rattle.columns.proofs.Limits.{count-le}
@@ -101,6 +102,19 @@ module _ (t : Ledger) (s : ℕ) where
       go Linear = omega (arith, count-le seat s (formula t (c .formula)), h (c .formula))
       go Unrestricted = omega arith
 
+-- what a credential adds, by how the code finds it
+pub shares-none : (c : Credential) (m : ℕ) {n : ℕ} → n ≡ 0 → Shares c m n (record { all = 0; inside = 0 })
+shares-none c m {n} e = record { all = none (c .kind); inside = sym (only-zero (has (c .interval) m)) }
+  where
+    none : (k : Kind) → 0 ≡ byKind k n 0
+    none Linear = sym e
+    none Unrestricted = refl
+
+pub shares-some : (m n : ℕ) {c d : Credential} {v w : ℕ} → c ≡ d → v ≡ byKind (c .kind) n 0
+    → w ≡ only (has (c .interval) m) v → Shares d m n (record { all = v; inside = w })
+shares-some m n {v = v} {w = w} e p q =
+    subst (λ (x : Credential). Shares x m n (record { all = v; inside = w })) e (record { all = p; inside = q })
+
 -- a and b are the sums over the first i rows: of all, and of those whose interval has the minute
 pub record Tallying (l : List ℕ) (s m i a b : ℕ) : Type 0 where
   pub alls : a ≡ sum (bothOf (ledgerOf l) s) (tab i (credentialAt l))
@@ -121,27 +135,31 @@ module _ (l : List ℕ) (s m : ℕ) where
 
   module _ (g : Good l) where
     module _ (xs : List ℕ) (k : Counted l s (length (ledgerOf l .lines)) xs) where
-      pub entry-small : (kind : Kind) (n e v : ℕ) → e ≡ entry xs n → v ≡ byKind kind e 0 → v ≤ 8388672
-      entry-small Linear n e v x y =
-          omega (arith, counted-small l s g (length (ledgerOf l .lines)) xs (omega arith) k n)
-      entry-small Unrestricted n e v x y = omega arith
+      pub entry-small : {c : Credential} {e : ℕ} {r : Share} (n : ℕ) → e ≡ entry xs n → Shares c m e r
+          → r .all ≤ 8388672
+      entry-small {c} {e} {r} n x h = go (c .kind) (h .all)
+        where
+          go : (k : Kind) → r .all ≡ byKind k e 0 → r .all ≤ 8388672
+          go Linear y = omega (arith, counted-small l s g (length (ledgerOf l .lines)) xs (omega arith) k n)
+          go Unrestricted y = omega arith
 
-      pub tally-next : {c : Credential} {i a b e v w : ℕ} → c ≡ credentialAt l i → e ≡ entry xs (c .formula)
-          → v ≡ byKind (c .kind) e 0 → w ≡ only (has (c .interval) m) v
-          → Tallying l s m i a b → Tallying l s m (i + 1) (a + v) (b + w)
-      tally-next {c} {i} {a} {b} {e} {v} {w} ec ee ev ew t =
-          let vs : v ≡ bothOf (ledgerOf l) s c =
-          ev ∙ ap (λ (x : ℕ). byKind (c .kind) x 0) (ee ∙ k .holds (c .formula)
-          ∙ ap (both s) (early-all (ledgerOf l) (c .formula))) in
-          let small = entry-small (c .kind) (c .formula) e v ee ev in
-          let le = only-le (has (c .interval) m) v in
-          let d = t .small in
+      pub tally-next : {c : Credential} {i a b e : ℕ} {r : Share} → c ≡ credentialAt l i → e ≡ entry xs (c .formula)
+          → Shares (credentialAt l i) m e r → Tallying l s m i a b
+          → Tallying l s m (i + 1) (a + r .all) (b + r .inside)
+      tally-next {c} {i} {a} {b} {e} {r} ec ee h t =
+          let d = credentialAt l i in
+          let vs : r .all ≡ bothOf (ledgerOf l) s d =
+          h .all ∙ ap (λ (x : ℕ). byKind (d .kind) x 0) (ee ∙ k .holds (c .formula)
+          ∙ ap (both s) (early-all (ledgerOf l) (c .formula))
+          ∙ ap (λ (x : Credential). both s (formula (ledgerOf l) (x .formula))) ec) in
+          let small = entry-small (c .formula) ee h in
+          let le = only-le (has (d .interval) m) (r .all) in
+          let q = t .small in
           record {
-            alls = sum-next (bothOf (ledgerOf l) s) (credentialAt l) i a v (t .alls)
-                (vs ∙ ap (bothOf (ledgerOf l) s) ec);
-            insides = sum-next (insideOf (ledgerOf l) s m) (credentialAt l) i b w (t .insides)
-                (ew ∙ ap (only (has (c .interval) m)) vs ∙ ap (insideOf (ledgerOf l) s m) ec);
-            small = (omega arith, omega arith);
+            alls = sum-next (bothOf (ledgerOf l) s) (credentialAt l) i a (r .all) (t .alls) vs;
+            insides = sum-next (insideOf (ledgerOf l) s m) (credentialAt l) i b (r .inside) (t .insides)
+                (h .inside ∙ ap (only (has (d .interval) m)) vs);
+            small = (omega arith, omega (arith, h .inside));
           }
 
     -- a tally over all rows is one over the live credentials

@@ -10,6 +10,7 @@ use steps::Row;
 use store::Store;
 ghost use mathlib.Core.Path.{_≡_};
 ghost use mathlib.Core.Bool.{not};
+ghost use Prim.Native.Nat.{_<_};
 ghost use lib.ListN.{length};
 ghost use Rattle.logic.specs.Interval.{has};
 ghost use Rattle.logic.specs.Formula.{size, plain};
@@ -17,8 +18,9 @@ ghost use Rattle.ledger.specs.Table.{form, names};
 ghost use Rattle.ledger.specs.Ledger.{formula, byKind};
 ghost use Rattle.ledger.specs.Checks.{any, missing};
 ghost use Rattle.ledger.specs.Calls.{only};
+ghost use Rattle.cells.specs.Layout.{rowCount, credentialAt};
 ghost use Rattle.store.specs.Store.{lineOf, ledgerOf, Canonical, Good};
-ghost use Rattle.figures.specs.Figures.{Formable, Blank, NoneBefore, Counted, Tallied};
+ghost use Rattle.figures.specs.Figures.{Formable, Blank, NoneBefore, Counted, Shares, Tallied};
 
 // The sums of a tally: "open = seats of the session in coupons whose window has the minute, shut = the other seats,
 // placed = places", over the live linear credentials.
@@ -26,6 +28,12 @@ pub struct Figures {
     pub open: u32,
     pub shut: u32,
     pub placed: u32,
+}
+
+// What one credential adds: all that its formula counts, and so much of it as the interval has the minute for.
+struct Share {
+    all: u32,
+    inside: u32,
 }
 
 // Whether the ledger has every formula that the row names.
@@ -123,6 +131,22 @@ fn when_has(interval: Interval, minute: u32, n: u32) -> u32
     0
 }
 
+// What the credential of a row adds to a tally, where its formula counts `both`. Most formulas are of other sessions
+// and count nothing, so that is asked before the credential is read.
+fn share_of(store: &Store, i: u32, minute: u32, both: u32) -> Share
+    requires { ⌜ Good (now store) × (i < rowCount (now store)) ⌝ }
+    ensures { λ r. ⌜ Shares (credentialAt (now (store .entry)) i) minute both r ⌝ }
+{
+    if both == 0 {
+        return Share { all: 0, inside: 0 };
+    }
+    let c = store::credential_at(store, i);
+    let kind = c.kind;
+    let all = when_linear(kind, both);
+    let inside = when_has(c.interval, minute, all);
+    Share { all, inside }
+}
+
 // The tally of a session at a minute: seats and places are added up in one number, places in steps of 131,072, which
 // the seats of 1,024 rows never reach.
 pub fn tally(store: &Store, session: u32, minute: u32) -> Figures
@@ -137,10 +161,10 @@ pub fn tally(store: &Store, session: u32, minute: u32) -> Figures
     let mut i = 0;
     while i < n {
         let c = store::credential_at(store, i);
-        let kind = c.kind;
-        let both = when_linear(kind, column::known(&counts, c.formula));
-        all += both as u64;
-        inside += when_has(c.interval, minute, both) as u64;
+        let both = column::known(&counts, c.formula);
+        let added = share_of(store, i, minute, both);
+        all += added.all as u64;
+        inside += added.inside as u64;
         i += 1;
     }
     let open = (inside % 131072) as u32;

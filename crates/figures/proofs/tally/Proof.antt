@@ -6,7 +6,7 @@ use borrow.Author.Needs.{needs}
 use denote.Ref.{now}
 use Rattle.logic.specs.Interval.{has}
 use Rattle.ledger.specs.declared.Credential.{Credential}
-use Rattle.cells.specs.Layout.{rowCount}
+use Rattle.cells.specs.Layout.{rowCount, credentialAt}
 use Rattle.figures.proofs.Tallies.{Tallying, Summed, only-le, entry-small, tally-start, tally-next, summed}
 use Rattle.figures.proofs.tally.Statement.{statement}
 use Rattle.figures.proofs.tally.Tie as tie
@@ -38,50 +38,55 @@ known-requires c κs =
     let e = ap (λ (d : Credential). d .formula) (k .credential-at .ensures) in
     (r .before .count-rows .ensures .long, omega (arith, e, g .ordered .named _ (turn (k .before)), g .lines))
 
+share-of-requires : tie.Need-share-of-requires Inv-loop μ-loop
+share-of-requires c κs =
+    let k = c .before .before in
+    (k .before .before .before .before .before .before .pre, turn (k .before))
+
 -- what a row adds is small, and there are at most 1,024 rows
 record Small (v i : ℕ) : Type 0 where
   held : v ≤ 8388672
   few : i < 1024
 
-small : (c : tie.After-when-linear Inv-loop μ-loop)
-    → Small (c .when-linear .result) (c .before .before .before .before .before .loop .i)
+small : (c : tie.After-share-of Inv-loop μ-loop)
+    → Small (c .share-of .result .all) (c .before .before .before .before .before .loop .i)
 small c =
-    let k = c .before .before .before in
-    let r = k .before .before .before .before in
+    let at = c .before .before .before .before .before in
+    let r = at .before .before in
     let s = r .before .before in
     record {
-      held = entry-small (now (s .args .store)) _ 0 (s .pre) _ (r .count-rows .ensures)
-          (k .credential-at .result .kind) _ _ _ (c .before .known .ensures) (c .when-linear .ensures);
-      few = omega (arith, turn (k .before), s .pre .ordered .few);
+      held = entry-small (now (s .args .store)) _ _ (s .pre) _ (r .count-rows .ensures) _
+          (c .before .known .ensures) (c .share-of .ensures);
+      few = omega (arith, turn (c .before .before .before .before), s .pre .ordered .few);
     }
 
 add-all : tie.Need-add-all Inv-loop μ-loop
 add-all c =
-    let b = small c in
-    let d = c .before .before .before .before .before .loop .inv .1 .small in
+    let b = small (c .before) in
+    let d = c .before .before .before .before .before .before .loop .inv .1 .small in
     omega arith
 
 add-inside : tie.Need-add-inside Inv-loop μ-loop
 add-inside c =
-    let w = c .before in
+    let w = c .before .before in
     let b = small w in
-    let d = w .before .before .before .before .before .loop .inv .1 .small in
-    let k = w .before .before .before in
-    let m = k .before .before .before .before .before .before .args .minute in
-    let le = only-le (has (k .credential-at .result .interval) m) (w .when-linear .result) in
-    omega (arith, c .when-has .ensures)
+    let at = w .before .before .before .before .before in
+    let d = at .loop .inv .1 .small in
+    let s = at .before .before .before .before in
+    let le = only-le (has (credentialAt (now (s .args .store)) (at .loop .i) .interval) (s .args .minute))
+    (w .share-of .result .all) in
+    omega (arith, w .share-of .ensures .inside)
 
 loop-again : tie.Need-loop-again Inv-loop μ-loop
 loop-again c =
-    let w = c .before in
+    let w = c .before .before in
     let k = w .before .before .before in
     let at = k .before .before in
     let r = at .before .before in
     let s = r .before .before in (
       search needs,
-      tally-next (now (s .args .store)) _ _ (s .pre) _ (r .count-rows .ensures)
-          (k .credential-at .ensures) (w .before .known .ensures) (w .when-linear .ensures)
-          (c .when-has .ensures) (at .loop .inv .1),
+      tally-next (now (s .args .store)) _ _ (s .pre) _ (r .count-rows .ensures) (k .credential-at .ensures)
+          (w .before .known .ensures) (w .share-of .ensures) (at .loop .inv .1),
     )
 
 sums : (c : tie.After-loop Inv-loop μ-loop)
@@ -111,10 +116,9 @@ tally-spec =
     (λ c. (search needs, tally-start _ _ _))
     credential-at-requires
     known-requires
-    (λ c κs. search needs)
+    share-of-requires
     (λ c. search needs)
     add-all
-    (λ c κs. search needs)
     (λ c. search needs)
     add-inside
     (λ c. search needs)
