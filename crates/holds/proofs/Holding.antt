@@ -23,7 +23,7 @@ module _ (t : Ledger) (ns table₀ : List ℕ) where
     pub unrestricted : labelsOf Unrestricted 0 (held (t .live) ns) 0
         ≡ labelsOf Unrestricted k (held (t .live) (drop k ns)) r
     pub linear : labelsOf Linear 0 (held (t .live) ns) 0 ≡ labelsOf Linear k (held (t .live) (drop k ns)) d
-    pub singles : linearCount (held (t .live) ns) ≡ n + linearCount (held (t .live) (drop k ns))
+    pub linears : linearCount (held (t .live) ns) ≡ n + linearCount (held (t .live) (drop k ns))
     pub shown : puts putHeld table₀ 0 (map hypothesis (held (t .live) ns))
         ≡ puts putHeld table k (map hypothesis (held (t .live) (drop k ns)))
 
@@ -33,7 +33,7 @@ module _ (t : Ledger) (ns table₀ : List ℕ) where
     alive = refl;
     unrestricted = refl;
     linear = refl;
-    singles = omega arith;
+    linears = omega arith;
     shown = refl;
   }
 
@@ -54,16 +54,16 @@ module _ (t : Ledger) (ns table₀ : List ℕ) where
             alive = h .alive ∙ rw (e′, any, q);
             unrestricted = h .unrestricted ∙ rw (e′, held, q, labelsOf);
             linear = h .linear ∙ rw (e′, held, q, labelsOf);
-            singles = h .singles ∙ rw (e′, held, q, linearCount) (omega arith);
+            linears = h .linears ∙ rw (e′, held, q, linearCount) (omega arith);
             shown = h .shown ∙ rw (e′, held, q);
           })
 
-    pub all-held : drop k ns ≡ [] → AllHeld t ns table₀ (record { unrestricted = r; linear = d; singles = n }) table
+    pub all-held : drop k ns ≡ [] → AllHeld t ns table₀ (record { unrestricted = r; linear = d; linears = n }) table
     unfolding any held labelsOf linearCount
     all-held e = record {
       alive = h .alive ∙ rw (e, any);
       unrestricted = h .unrestricted ∙ rw (e, held, labelsOf);
       linear = h .linear ∙ rw (e, held, labelsOf);
-      singles = h .singles ∙ rw (e, held, linearCount) (omega arith);
+      linears = h .linears ∙ rw (e, held, linearCount) (omega arith);
       shown = h .shown ∙ rw (e, held);
     }

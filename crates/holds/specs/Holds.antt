@@ -30,7 +30,7 @@ pub record AllHeld (t : Ledger) (ns table : List ℕ) (s : Sides) (table′ : Li
   pub alive : any (dead t) ns ≡ false
   pub unrestricted : labelsOf Unrestricted 0 (held (t .live) ns) 0 ≡ s .unrestricted
   pub linear : labelsOf Linear 0 (held (t .live) ns) 0 ≡ s .linear
-  pub singles : linearCount (held (t .live) ns) ≡ s .singles
+  pub linears : linearCount (held (t .live) ns) ≡ s .linears
   pub shown : puts putHeld table 0 (map hypothesis (held (t .live) ns)) ≡ table′
 
 abbrev pub HeldIs : Ledger → List ℕ → List ℕ → Held → List ℕ → Type 0

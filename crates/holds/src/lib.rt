@@ -21,7 +21,7 @@ ghost use Rattle.request.specs.declared.Kind.the-variants.{Linear, Unrestricted
 pub struct Sides {
     pub unrestricted: u64,
     pub linear: u64,
-    pub singles: u32,
+    pub linears: u32,
 }
 
 // A serial is not live, or all are.
@@ -80,7 +80,7 @@ pub fn hold_all(till: &Store, serials: &[u32; 32], count: u32, table: &mut [u32;
 {
     let mut unrestricted: u64 = 0;
     let mut linear: u64 = 0;
-    let mut singles: u32 = 0;
+    let mut linears: u32 = 0;
     let mut k: u32 = 0;
     while k < count {
         let found = lookup::find(till, serials[k as usize]);
@@ -91,13 +91,13 @@ pub fn hold_all(till: &Store, serials: &[u32; 32], count: u32, table: &mut [u32;
         put_held(table, k, hypothesis(c));
         unrestricted = unrestricted_with(unrestricted, k, kind);
         linear = linear_with(linear, k, kind);
-        singles = singles + one_linear(kind);
+        linears = linears + one_linear(kind);
         k += 1;
     }
     Held::Live(Sides {
         unrestricted,
         linear,
-        singles,
+        linears,
     })
 }
 

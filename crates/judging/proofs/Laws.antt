@@ -103,14 +103,14 @@ module _ (l : List ℕ) (h : Head) (serials rows : List ℕ) where
     book-stopped e = stops-last b (hit e)
 
     -- room is counted less the linear holds
-    room-less : {x : Bool} → noRoom t (s .singles) ≡ x → noRoom t (linearCount cs) ≡ x
-    room-less e = ap (noRoom t) (b .holds .singles) ∙ e
+    room-less : {x : Bool} → noRoom t (s .linears) ≡ x → noRoom t (linearCount cs) ≡ x
+    room-less e = ap (noRoom t) (b .holds .linears) ∙ e
 
     module _ (p : steps t cs (h .formula) (h .interval) ss ≡ none) where
-      pub book-full : noRoom t (s .singles) ≡ true → Ends (Refused 22 0)
+      pub book-full : noRoom t (s .linears) ≡ true → Ends (Refused 22 0)
       book-full e = stops-last b (skip p (hit (if-true 22 _ (room-less e))))
 
-      module _ (r : noRoom t (s .singles) ≡ false) where
+      module _ (r : noRoom t (s .linears) ≡ false) where
         pub book-used-up : usedUp t ≡ true → Ends (Refused 23 0)
         book-used-up e = stops-last b (skip p (skip (if-false 22 _ (room-less r)) (hit (if-true 23 _ e))))
 

@@ -87,7 +87,7 @@ twice (n ∷ ns) = any (eqb n) ns || twice ns
 
 -- "live, less singles held, is 512 or more"
 abbrev pub noRoom : Ledger → ℕ → Bool
-noRoom t singles = leb maxLive (length (t .live) - singles)
+noRoom t linears = leb maxLive (length (t .live) - linears)
 
 -- "serial 999,999 was given"
 abbrev pub usedUp : Ledger → Bool

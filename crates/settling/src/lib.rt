@@ -52,7 +52,7 @@ pub fn book_steps(
     if let Checked::Stopped(number, step) = checked {
         return Answer::Refused(number, step);
     }
-    let room = verdicts::room(till, sides.singles);
+    let room = verdicts::room(till, sides.linears);
     let Verdict::Passed = room else {
         return Answer::Refused(22, 0);
     };

@@ -13,11 +13,11 @@ use Rattle.holds.proofs.hold_all.Statement.{statement}
 use Rattle.holds.proofs.hold_all.Tie as tie
 
 abbrev Inv-loop : tie.InvT-loop
-Inv-loop till serials count table₀ unrestricted₀ linear₀ singles₀ k₀ table unrestricted linear singles k =
-    (k ≤ count) × Holding (ledgerOf till) (take count serials) table₀ k unrestricted linear singles table
+Inv-loop till serials count table₀ unrestricted₀ linear₀ linears₀ k₀ table unrestricted linear linears k =
+    (k ≤ count) × Holding (ledgerOf till) (take count serials) table₀ k unrestricted linear linears table
 
 abbrev μ-loop : tie.MeasureT-loop
-μ-loop till serials count table₀ unrestricted₀ linear₀ singles₀ k₀ table unrestricted linear singles k = count - k
+μ-loop till serials count table₀ unrestricted₀ linear₀ linears₀ k₀ table unrestricted linear linears k = count - k
 
 loop-holds : tie.Need-loop-holds Inv-loop μ-loop
 loop-holds c = (omega arith, first-hold _ _ _)
