@@ -26,8 +26,8 @@ use Rattle.cells.specs.Layout.{credentialAt}
 use Rattle.lookup.proofs.Halves.{found-serial}
 use Rattle.store.specs.Store.{ledgerOf, Good, StandsFor, Givable}
 use Rattle.lookup.specs.Lookup.{Finds}
-use Rattle.figures.specs.declared.Figures.{Figures}
-use Rattle.figures.specs.Figures.{Tallied}
+use Rattle.tally.specs.declared.Figures.{Figures}
+use Rattle.tally.specs.Tally.{Tallied}
 use Rattle.verdicts.specs.Verdicts.{unfair, unfairNumber}
 use Rattle.calls.specs.Handled.{Handled, Issuable}
 

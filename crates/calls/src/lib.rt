@@ -67,6 +67,6 @@ pub fn tally(till: &Store, session: u32, minute: u32) -> Answer
     requires { ⌜ Good (now till) ⌝ }
     ensures { λ r. ⌜ Handled (now (till .entry)) (tallyRequest session minute) r (now (till .entry)) ⌝ }
 {
-    let f = figures::tally(till, session, minute);
+    let f = tally::tally(till, session, minute);
     Answer::Counted(f.open, f.shut, f.placed)
 }

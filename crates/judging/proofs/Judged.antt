@@ -10,6 +10,7 @@ use lib.Seq.{length-take-le}
 use lib.ListN.{length, take, getD, replicate, length-map, length-replicate}
 use borrow.Author.Tests.{eqb-true, eqb-false}
 use Rattle.logic.specs.declared.Interval.{Interval}
+use Rattle.logic.proofs.Stores.{replicate-is}
 use Rattle.request.specs.Request.{Step}
 use Rattle.steps.specs.declared.Hypothesis.{Hypothesis}
 use Rattle.steps.specs.declared.Sequent.{Sequent}
@@ -23,7 +24,6 @@ use Rattle.cells.specs.Layout.{rowAt}
 use Rattle.store.specs.Store.{ledgerOf, Good}
 use Rattle.store.proofs.Views.{rows-are}
 use Rattle.tables.specs.Held.{heldAt, putHeld}
-use Rattle.columns.proofs.Columns.{replicate-is}
 use Rattle.tables.specs.Lines.{stepsFrom}
 use Rattle.tables.proofs.LabelTable.{heldTable, held-good}
 use Rattle.checker.specs.declared.Checked.{Checked}

@@ -11,6 +11,10 @@ use Rattle.logic.specs.Formula.{bit}
 pub no-truth : false ≡ true → ⊥
 no-truth e = let z : _≡_ {A = ℕ} (bit false) (bit true) = ap bit e in omega arith
 
+pub bit-le : (b : Bool) → bit b ≤ 1
+bit-le true = omega arith
+bit-le false = omega arith
+
 abbrev pub Decides : Bool → Type 0 → Type 0
 Decides b P = (b ≡ true) ↔ P
 

@@ -67,7 +67,7 @@ pub fn names_present(till: &Store, row: Row) -> Verdict
     requires { ⌜ Canonical row ⌝ }
     ensures { λ r. ⌜ fails r ≡ any (missing (ledgerOf (now (till .entry)))) (names (lineOf row)) ⌝ }
 {
-    tested(!figures::names_there(till, row))
+    tested(!facts::names_there(till, row))
 }
 
 // 20: the formula is not plain.

@@ -1,16 +1,18 @@
 -- A row's weight and its sessions, from those of its parts.
 use mathlib.Core.Path.{_≡_, refl, sym, ap, subst, _∙_}
 use mathlib.Core.List.{List, [], _∷_, _++_, map}
-use mathlib.Core.Bool.{Bool, true, false, _&&_, and-true}
-use Prim.Native.Nat.{ℕ, _<_}
+use mathlib.Core.Bool.{Bool, true, false, _&&_, _||_, and-true}
+use Prim.Native.Nat.{ℕ, _+_, _≤_, _<_}
 use Prim.Native.Char.{code}
 use native.Mathlib.Omega.{arith}
 use lib.Dec.{eqb}
 use borrow.Author.Tests.{eq-eqb, ne-eqb}
 use Rattle.logic.specs.Choice.{pick}
-use Rattle.logic.specs.Formula.{Formula, size}
-use Rattle.logic.specs.Counts.{up, even, sessionsOf, all}
+use Rattle.logic.specs.Formula.{Formula, atom, one, tensor, with, plus, lolli, implies, bang, at, says, superset}
+use Rattle.logic.specs.Formula.{size}
+use Rattle.logic.specs.Counts.{up, down, even, sessionsOf, all}
 use Rattle.logic.specs.Multiset.{sum, Every}
+use Rattle.logic.proofs.Tests.{bit-le}
 use Rattle.request.specs.Request.{Line}
 use Rattle.steps.specs.declared.Row.{Row}
 use Rattle.ledger.specs.Table.{form, names, rowOf}
@@ -20,12 +22,10 @@ use Rattle.cells.specs.Layout.{rowAt}
 use Rattle.store.specs.Store.{lineOf, ledgerOf, Good}
 use Rattle.store.proofs.Views.{row-is}
 use Rattle.store.proofs.Lines.{line-of-row}
-use Rattle.columns.specs.Rows.{partsOf}
-use Rattle.columns.specs.declared.parts.Parts.{Parts}
-use Rattle.columns.specs.Parts.{numbers}
-use Rattle.columns.proofs.Limits.{weight-le}
-use Rattle.figures.specs.Figures.{Formable}
-use Rattle.figures.proofs.Named.{parts-are, parts-size}
+use Rattle.parts.specs.declared.Parts.{Parts}
+use Rattle.parts.specs.Parts.{partsOf, numbers}
+use Rattle.facts.specs.Facts.{Formable}
+use Rattle.facts.proofs.Named.{parts-are, parts-size}
 use Rattle.weights.specs.declared.Weight.{Weight}
 use Rattle.weights.specs.Weights.{weightOf, aloneWeight, underWeight, joinedWeight, Light}
 
@@ -126,6 +126,21 @@ module _ (l : List ℕ) (g : Good l) (n : ℕ) {r : Row} (e : r ≡ rowAt l n) w
   pub part-sessions : (f : ℕ → Bool) {b : Bool} → b ≡ all f (sessionsOf (form (formula (ledgerOf l)) (lineOf r)))
       → b ≡ all f (sessionsOf (formula (ledgerOf l) n))
   part-sessions f h = h ∙ ap (λ (a : Formula). all f (sessionsOf a)) part-is
+
+-- no formula weighs more than its size
+weight-le : (s : ℕ) (a : Formula) → up s a + down s a ≤ size a
+unfolding up size
+weight-le s (atom p t) = omega (arith, bit-le ((eqb p 1 || eqb p 2) && eqb t s))
+weight-le s one = omega arith
+weight-le s (tensor a b) = omega (arith, weight-le s a, weight-le s b)
+weight-le s (with a b) = omega (arith, weight-le s a, weight-le s b)
+weight-le s (plus a b) = omega (arith, weight-le s a, weight-le s b)
+weight-le s (lolli a b) = omega (arith, weight-le s a, weight-le s b)
+weight-le s (implies a b) = omega (arith, weight-le s a, weight-le s b)
+weight-le s (bang a) = omega (arith, weight-le s a)
+weight-le s (at a i) = omega (arith, weight-le s a)
+weight-le s (says k a) = omega (arith, weight-le s a)
+weight-le s (superset i j) = omega arith
 
 -- no formula of a store weighs much
 pub light : (l : List ℕ) → Good l → (s n : ℕ) {x : Weight} → x ≡ weightOf s (formula (ledgerOf l) n) → Light x

@@ -1,6 +1,5 @@
 // Whether a formula is balanced: its weight, from its parts', for each session that stands in it.
-use columns::parts;
-use columns::parts::Parts;
+use parts::Parts;
 use steps::Row;
 use store::Store;
 ghost use mathlib.Core.Path.{_≡_};
@@ -9,7 +8,7 @@ ghost use Rattle.logic.specs.Counts.{all, sessionsOf, balanced};
 ghost use Rattle.ledger.specs.Table.{form};
 ghost use Rattle.ledger.specs.Ledger.{formula};
 ghost use Rattle.store.specs.Store.{lineOf, ledgerOf};
-ghost use Rattle.figures.specs.Figures.{Formable};
+ghost use Rattle.facts.specs.Facts.{Formable};
 ghost use Rattle.weights.specs.Weights.{weightOf, fairFor, aloneWeight, underWeight, joinedWeight, Light};
 
 // A formula's weight for a session: what it adds (up) and what it takes away (down); and whether it is well weighed.

@@ -9,7 +9,6 @@ use borrow.Author.Tests.{leb-false, ltb-false}
 use Rattle.logic.specs.Interval.{reversed}
 use Rattle.logic.specs.Formula.{size, plain}
 use Rattle.logic.specs.Counts.{balanced}
-use Rattle.logic.proofs.Multisets.{every-map}
 use Rattle.request.specs.Request.{Line, word, lineIntervals, intervals}
 use Rattle.steps.specs.declared.Row.{Row}
 use Rattle.ledger.specs.declared.Answer.the-variants.{Accepted, Refused}
@@ -17,10 +16,10 @@ use Rattle.ledger.specs.Table.{form, names, rowOf}
 use Rattle.ledger.specs.Ledger.{Ledger, formula}
 use Rattle.ledger.specs.Checks.{any, maxSize, maxFormulas, missing, sameRow, sameLine, checks}
 use Rattle.ledger.specs.Calls.{withLine, accept}
-use Rattle.ledger.proofs.Credentials.{any-none}
 use Rattle.ledger.proofs.Firsts.{if-false, if-true, skip, hit}
 use Rattle.store.specs.Store.{lineOf, ledgerOf, Good, Canonical, StandsFor, Wordable}
-use Rattle.figures.specs.Figures.{Formable}
+use Rattle.facts.specs.Facts.{Formable}
+use Rattle.facts.proofs.Named.{none-missing}
 use Rattle.wording.specs.Wording.{Named, Fitting}
 use Rattle.calls.specs.Handled.{Handled}
 use Rattle.calls.proofs.Laws.{refused, accepted}
@@ -30,8 +29,7 @@ pub named-formable : {l : List ℕ} {x : Row} → Named l x → Formable l x
 named-formable {l} {x} n = record {
   good = n .good;
   canonical = n .canonical;
-  there = every-map (λ k q. leb-false _ _ q) (names (lineOf x))
-      (any-none (missing (ledgerOf l)) (names (lineOf x)) (n .there));
+  there = none-missing (ledgerOf l) (names (lineOf x)) (n .there);
 }
 
 module _ (l : List ℕ) (x : Row) where

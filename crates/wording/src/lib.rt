@@ -15,7 +15,7 @@ fn add(till: &mut Store, row: Row, size: u32) -> Answer
     requires { ⌜ Fitting (now till) row size ⌝ }
     ensures { λ r. ⌜ Handled (now (till .entry)) (wordRequest (lineOf row)) r (now (till .exit)) ⌝ }
 {
-    let plain = figures::row_plain(till, row);
+    let plain = facts::row_plain(till, row);
     let balanced = weights::row_balanced(till, row);
     let number = store::formula_count(till);
     formula_rows::add_row(till, row, size, plain, balanced);
@@ -27,7 +27,7 @@ fn word_named(till: &mut Store, row: Row) -> Answer
     requires { ⌜ Named (now till) row ⌝ }
     ensures { λ r. ⌜ Handled (now (till .entry)) (wordRequest (lineOf row)) r (now (till .exit)) ⌝ }
 {
-    let size = figures::row_size(till, row);
+    let size = facts::row_size(till, row);
     let small = verdicts::tested(64 < size);
     let Verdict::Passed = small else {
         return Answer::Refused(12, 0);

@@ -10,13 +10,13 @@ use Rattle.logic.specs.Counts.{all}
 use Rattle.ledger.specs.Table.{form}
 use Rattle.ledger.specs.Ledger.{formula}
 use Rattle.store.specs.Store.{lineOf, ledgerOf}
-use Rattle.figures.proofs.Named.{parts-there}
+use Rattle.facts.proofs.Named.{parts-there}
 use Rattle.weights.proofs.Weighing.{part-formable, part-below, part-sessions, parts-less, sessions-are}
 use Rattle.weights.proofs.Weighing.{all-atom, all-other, all-left, all-right}
 use Rattle.weights.proofs.fair_within.Reads as within
 use Rattle.weights.proofs.fair_within.Kinds as within-kinds
 use Rattle.weights.proofs.+fair_within.Lts-fair_within as within-lts
-use Rattle.columns.proofs.parts.parts_of.Reads as parts-of-reads
+use Rattle.parts.proofs.parts_of.Reads as parts-of-reads
 use Rattle.store.proofs.line_at.Reads as line-at-reads
 use Rattle.weights.proofs.fair.Reads as fair-reads
 use Rattle.weights.proofs.+fair_within.{statement}

@@ -8,13 +8,13 @@ use mathlib.Core.Path.{ap, ap₂, _∙_}
 use borrow.Author.Needs.{needs}
 use borrow.Fn.Kinds.{In}
 use borrow.Fn.PlainCycle.{Measures, is, falls, and}
-use Rattle.figures.proofs.Named.{parts-there}
+use Rattle.facts.proofs.Named.{parts-there}
 use Rattle.weights.specs.Weights.{underWeight, joinedWeight}
 use Rattle.weights.proofs.Weighing.{light, weight-is, part-formable, part-below, part-weight, parts-less}
 use Rattle.weights.proofs.weigh.Reads as weigh
 use Rattle.weights.proofs.weigh.Kinds as weigh-kinds
 use Rattle.weights.proofs.+weigh.Lts-weigh as weigh-lts
-use Rattle.columns.proofs.parts.parts_of.Reads as parts-of-reads
+use Rattle.parts.proofs.parts_of.Reads as parts-of-reads
 use Rattle.store.proofs.line_at.Reads as line-at-reads
 use Rattle.weights.proofs.alone.Reads as alone-reads
 use Rattle.weights.proofs.joined.Reads as joined-reads

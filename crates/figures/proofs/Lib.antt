@@ -1,3 +1,0 @@
-pub mod Named
-pub mod Counting
-pub mod Tallies

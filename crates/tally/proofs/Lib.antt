@@ -1,0 +1,4 @@
+pub mod Limits
+pub mod Columns
+pub mod Counting
+pub mod Tallies
