@@ -1,8 +1,6 @@
-// The numbers of the ledger's state, read and put: the only functions that know where a number stands in the array.
-// specs/Layout.antt has the layout and its reason.
-use ledger::Credential;
-use logic::Interval;
-use request::Kind;
+// The numbers of the ledger's state, read and put: the counts at the head of the array and the formula rows; the crate
+// `credential_cells` has the credential rows and the hints. No other functions know where a number stands in the array.
+// specs/Layout.antt has the layout of all of it and its reason.
 use steps::Row;
 ghost use mathlib.Core.Path.{_≡_};
 ghost use Prim.Native.Nat.{_<_};
@@ -10,20 +8,11 @@ ghost use Rattle.logic.specs.Formula.{bit};
 ghost use Rattle.cells.specs.Layout.{lineCount, liveCount, nextSerial, rowCount};
 ghost use Rattle.cells.specs.Layout.{putLineCount, putLiveCount, putNext, putRowCount};
 ghost use Rattle.cells.specs.Layout.{rowFrom, lineCell, sizeAt, plainAt, balancedAt, putLine};
-ghost use Rattle.cells.specs.Layout.{kindFrom, kindNumber, credentialAt, gapAt, putCredential, putGap};
-ghost use Rattle.cells.specs.Layout.{hintAt, putHint};
 
 pub type Store = [u32; 7748];
 
-// where the tables start
+// where the formula rows start
 const LINES: usize = 4;
-
-const CREDENTIALS: usize = 1604;
-
-const HINTS: usize = 6724;
-
-// the kind of a credential that has left
-const GAP: u32 = 2;
 
 pub fn line_count(store: &Store) -> u32
     ensures { λ r. ⌜ r ≡ lineCount (now (store .entry)) ⌝ }
@@ -129,89 +118,4 @@ pub fn put_line(store: &mut Store, i: u32, row: Row, size: u32, plain: bool, bal
     store[at + 5] = size;
     store[at + 6] = p;
     store[at + 7] = b;
-}
-
-fn kind_from(n: u32) -> Kind
-    ensures { λ r. ⌜ r ≡ kindFrom n ⌝ }
-{
-    if n == 0 {
-        Kind::Linear
-    } else {
-        Kind::Unrestricted
-    }
-}
-
-fn kind_number(k: Kind) -> u32
-    ensures { λ r. ⌜ r ≡ kindNumber k ⌝ }
-{
-    match k {
-        Kind::Linear => 0,
-        Kind::Unrestricted => 1,
-    }
-}
-
-pub fn serial(store: &Store, i: u32) -> u32
-    requires { ⌜ i < 1024 ⌝ }
-    ensures { λ r. ⌜ r ≡ credentialAt (now (store .entry)) i .serial ⌝ }
-{
-    store[CREDENTIALS + (i as usize) * 5]
-}
-
-pub fn credential(store: &Store, i: u32) -> Credential
-    requires { ⌜ i < 1024 ⌝ }
-    ensures { λ r. ⌜ r ≡ credentialAt (now (store .entry)) i ⌝ }
-{
-    let at = CREDENTIALS + (i as usize) * 5;
-    let kind = kind_from(store[at + 1]);
-    Credential {
-        serial: store[at],
-        kind,
-        formula: store[at + 2],
-        interval: Interval {
-            from: store[at + 3],
-            to: store[at + 4],
-        },
-    }
-}
-
-pub fn gap(store: &Store, i: u32) -> bool
-    requires { ⌜ i < 1024 ⌝ }
-    ensures { λ r. ⌜ r ≡ gapAt (now (store .entry)) i ⌝ }
-{
-    store[CREDENTIALS + (i as usize) * 5 + 1] == GAP
-}
-
-pub fn put_gap(store: &mut Store, i: u32)
-    requires { ⌜ i < 1024 ⌝ }
-    ensures { λ _. ⌜ now (store .exit) ≡ putGap (now (store .entry)) i ⌝ }
-{
-    store[CREDENTIALS + (i as usize) * 5 + 1] = GAP;
-}
-
-pub fn put_credential(store: &mut Store, i: u32, c: Credential)
-    requires { ⌜ i < 1024 ⌝ }
-    ensures { λ _. ⌜ now (store .exit) ≡ putCredential (now (store .entry)) i c ⌝ }
-{
-    let kind = c.kind;
-    let k = kind_number(kind);
-    let w = c.interval;
-    let at = CREDENTIALS + (i as usize) * 5;
-    store[at] = c.serial;
-    store[at + 1] = k;
-    store[at + 2] = c.formula;
-    store[at + 3] = w.from;
-    store[at + 4] = w.to;
-}
-
-// The row where the credential of a serial may stand: any number may be answered.
-pub fn hint(store: &Store, serial: u32) -> u32
-    ensures { λ r. ⌜ r ≡ hintAt (now (store .entry)) serial ⌝ }
-{
-    store[HINTS + (serial % 1024) as usize]
-}
-
-pub fn put_hint(store: &mut Store, serial: u32, i: u32)
-    ensures { λ _. ⌜ now (store .exit) ≡ putHint (now (store .entry)) serial i ⌝ }
-{
-    store[HINTS + (serial % 1024) as usize] = i;
 }

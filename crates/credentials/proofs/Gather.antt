@@ -19,10 +19,10 @@ use Rattle.cells.specs.Layout.{putCredential, putRowCount, putHint}
 use Rattle.store.specs.Store.{ledgerOf, Ordered, Good, Compacted}
 use Rattle.store.proofs.Tabs.{length-tab, tab-ext, tab-append, every-tab, every-present, present-next, present-all}
 use Rattle.credentials.proofs.Serials.{rises-between}
-use Rattle.cells.proofs.Rows.{SameLines, lines-self, Stays, stays-credential, stays-gap, entry-gap, entry-there}
-use Rattle.cells.proofs.Rows.{head-lines, head-same, head-other, head-stays, credential-same, credential-there}
-use Rattle.cells.proofs.Rows.{credential-stays, credential-before, credential-lines, hint-before, hint-lines}
-use Rattle.cells.proofs.Rows.{hint-stays}
+use Rattle.cells.proofs.Rows.{SameLines, lines-self, Stays, stays-credential, stays-gap, head-lines, head-same}
+use Rattle.cells.proofs.Rows.{head-other, head-stays}
+use Rattle.credential_cells.proofs.Rows.{entry-gap, entry-there, credential-same, credential-there, credential-stays}
+use Rattle.credential_cells.proofs.Rows.{credential-before, credential-lines, hint-before, hint-lines, hint-stays}
 use Rattle.credentials.proofs.Stands.{stands-live, ledger-live}
 
 -- Every live credential is of a formula of the ledger.

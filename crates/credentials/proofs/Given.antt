@@ -19,8 +19,9 @@ use Rattle.cells.specs.Layout.{putLiveCount, putNext, putCredential, putHint}
 use Rattle.store.specs.Store.{ledgerOf, Ordered, StandsFor, Givable}
 use Rattle.store.proofs.Tabs.{tab-ext, present-next}
 use Rattle.cells.proofs.Rows.{SameLines, lines-self, head-lines, head-same, Stays, stays-credential, stays-entry}
-use Rattle.cells.proofs.Rows.{stays-serial, entry-there, head-other, head-stays, credential-same, credential-there}
-use Rattle.cells.proofs.Rows.{credential-stays, credential-lines}
+use Rattle.cells.proofs.Rows.{stays-serial, head-other, head-stays}
+use Rattle.credential_cells.proofs.Rows.{entry-there, credential-same, credential-there, credential-stays}
+use Rattle.credential_cells.proofs.Rows.{credential-lines}
 use Rattle.store.proofs.Views.{lines-length}
 use Rattle.credentials.proofs.Stands.{stands-live, ledger-live, hint-stands}
 

@@ -17,8 +17,8 @@ use Rattle.cells.specs.Layout.{liveCount, nextSerial, rowCount, credentialAt, g
 use Rattle.store.specs.Store.{ledgerOf, Ordered, Good, StandsFor, Occupied}
 use Rattle.credentials.proofs.Serials.{without-row}
 use Rattle.cells.proofs.Rows.{SameLines, lines-self, head-lines, head-same, Stays, stays-entry, stays-serial}
-use Rattle.cells.proofs.Rows.{stays-credential, entry-gap, head-other, head-stays, gap-here, gap-stays, gap-serial}
-use Rattle.cells.proofs.Rows.{gap-of, gap-before, gap-lines}
+use Rattle.cells.proofs.Rows.{stays-credential, head-other, head-stays}
+use Rattle.credential_cells.proofs.Rows.{entry-gap, gap-here, gap-stays, gap-serial, gap-of, gap-before, gap-lines}
 use Rattle.store.proofs.Search.{find-row}
 use Rattle.store.proofs.Views.{only-here}
 use Rattle.credentials.proofs.Stands.{stands-live, ledger-live}

@@ -14,8 +14,8 @@ use Rattle.store.specs.Tab.{tab, present}
 use Rattle.cells.specs.Layout.{lineCount, nextSerial, rowCount, entryAt, putHint}
 use Rattle.store.specs.Store.{lineOf, ledgerOf, Canonical, Ordered, Good, StandsFor}
 use Rattle.store.proofs.Tabs.{tab-ext}
-use Rattle.cells.proofs.Rows.{SameLines, lines-self, same-row, same-size, same-plain, same-balanced, hint-lines}
-use Rattle.cells.proofs.Rows.{hint-live}
+use Rattle.cells.proofs.Rows.{SameLines, lines-self, same-row, same-size, same-plain, same-balanced}
+use Rattle.credential_cells.proofs.Rows.{hint-lines, hint-live}
 use Rattle.store.proofs.Live.{same-live, same-ordered}
 
 -- m has l's formula rows

@@ -17,7 +17,7 @@ pub fn remove(store: &mut Store, at: u32)
         (withoutSerial (ledgerOf (now (store .entry)) .live) (credentialAt (now (store .entry)) at .serial))) ⌝ }
 {
     let n = cells::live_count(store);
-    cells::put_gap(store, at);
+    credential_cells::put_gap(store, at);
     cells::put_live_count(store, n - 1);
 }
 
@@ -32,10 +32,10 @@ fn compact(store: &mut Store)
     while i < used {
         let from = i;
         i += 1;
-        if !cells::gap(store, from) {
-            let c = cells::credential(store, from);
-            cells::put_credential(store, k, c);
-            cells::put_hint(store, c.serial, k);
+        if !credential_cells::gap(store, from) {
+            let c = credential_cells::credential(store, from);
+            credential_cells::put_credential(store, k, c);
+            credential_cells::put_hint(store, c.serial, k);
             k += 1;
         }
     }
@@ -68,11 +68,11 @@ fn append(store: &mut Store, kind: Kind, formula: u32, interval: Interval)
         formula,
         interval,
     };
-    cells::put_credential(store, i, c);
+    credential_cells::put_credential(store, i, c);
     cells::put_row_count(store, i + 1);
     cells::put_live_count(store, n + 1);
     cells::put_next(store, serial + 1);
-    cells::put_hint(store, serial, i);
+    credential_cells::put_hint(store, serial, i);
 }
 
 // One credential more, with the next serial.

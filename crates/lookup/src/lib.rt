@@ -17,10 +17,10 @@ fn found_at(store: &Store, i: u32) -> Found
     requires { ⌜ i < 1024 ⌝ }
     ensures { λ r. ⌜ r ≡ foundAt (now (store .entry)) i ⌝ }
 {
-    if cells::gap(store, i) {
+    if credential_cells::gap(store, i) {
         return Found::Nothing;
     }
-    Found::At(i, cells::credential(store, i))
+    Found::At(i, credential_cells::credential(store, i))
 }
 
 // The live credential of a serial: serials rise, so half of what is left goes with each look.
@@ -32,7 +32,7 @@ fn find_by_halves(store: &Store, serial: u32) -> Found
     let mut high = cells::row_count(store);
     while low < high {
         let middle = (low + high) / 2;
-        let seen = cells::serial(store, middle);
+        let seen = credential_cells::serial(store, middle);
         if seen == serial {
             return found_at(store, middle);
         }
@@ -50,9 +50,9 @@ pub fn find(store: &Store, serial: u32) -> Found
     requires { ⌜ Good (now store) ⌝ }
     ensures { λ r. ⌜ Finds (now (store .entry)) serial r ⌝ }
 {
-    let i = cells::hint(store, serial);
+    let i = credential_cells::hint(store, serial);
     if i < cells::row_count(store) {
-        if cells::serial(store, i) == serial {
+        if credential_cells::serial(store, i) == serial {
             return found_at(store, i);
         }
     }

@@ -1,3 +1,4 @@
 pub mod Lines
 pub mod Splits
 mod Parting
+mod Keeping

@@ -1,3 +1,4 @@
 pub mod Sheets
 pub mod Ends
+pub mod Keeping
 pub mod Statements

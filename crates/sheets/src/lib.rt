@@ -1,10 +1,12 @@
-// The search for the end of a sheet in the bytes of a stream (specs/Sheets.antt).
+// The bytes of a stream (specs/Sheets.antt): the search for the end of a sheet, and the bytes of a sheet that has begun,
+// kept up to 16,385.
 ghost use mathlib.Core.Path.{_≡_};
 ghost use mathlib.Core.Bool.{false};
-ghost use Prim.Native.Nat.{_≤_, _<_};
+ghost use Prim.Native.Nat.{_+_, _≤_, _<_};
 ghost use lib.ListN.{length};
-ghost use Rattle.sheets.specs.Sheets.{emptyLine};
+ghost use Rattle.sheets.specs.Sheets.{emptyLine, most};
 ghost use Rattle.sheets.specs.Ends.{BothTen, Skipped, EndIs};
+ghost use Rattle.sheets.specs.Keeping.{Kept};
 
 // Where the first empty line stands; or that there is none, and whether a line begins after the bytes.
 pub enum End {
@@ -67,4 +69,29 @@ pub fn sheet_end(piece: &[u8], fresh: bool) -> End
         i += 1;
     }
     End::Open(piece[i] == 10)
+}
+
+// The bytes after those held, for which there is room.
+fn copy(begun: &mut [u8], held: usize, bytes: &[u8]) -> usize
+    requires { ⌜ (length (now begun) ≡ most) × (held + length (now bytes) ≤ most) ⌝ }
+    ensures { λ r. ⌜ Kept (now (begun .entry)) held (now (bytes .entry)) (now (begun .exit)) r ⌝ }
+{
+    let mut i = 0;
+    while i < bytes.len() {
+        begun[held + i] = bytes[i];
+        i += 1;
+    }
+    held + i
+}
+
+// The bytes after those held; past 16,385 they are dropped.
+pub fn keep(begun: &mut [u8], held: usize, bytes: &[u8]) -> usize
+    requires { ⌜ (length (now begun) ≡ most) × (held ≤ most) ⌝ }
+    ensures { λ r. ⌜ Kept (now (begun .entry)) held (now (bytes .entry)) (now (begun .exit)) r ⌝ }
+{
+    let room = 16385 - held;
+    if bytes.len() <= room {
+        return copy(begun, held, bytes);
+    }
+    copy(begun, held, &bytes[..room])
 }

@@ -17,7 +17,8 @@ use Rattle.store.specs.Tab.{tab, present}
 use Rattle.cells.specs.Layout.{cells, lineCount, liveCount, nextSerial, rowCount, credentialAt, gapAt, entryAt}
 use Rattle.store.specs.Store.{ledgerOf, Ordered, StandsFor}
 use Rattle.store.proofs.Tabs.{tab-ext, present-sum}
-use Rattle.cells.proofs.Rows.{gap-kind, stays-entry, stays-credential, stays-serial, SameLive}
+use Rattle.cells.proofs.Rows.{stays-entry, stays-credential, stays-serial, SameLive}
+use Rattle.credential_cells.proofs.Rows.{gap-kind}
 
 -- The empty ledger.
 pub empty-stands : (l : List ℕ) → length l ≡ cells → lineCount l ≡ 0 → liveCount l ≡ 0 → nextSerial l ≡ 1

@@ -1,6 +1,6 @@
 // The ledger's state (document 01: the till) in one array of numbers, which the caller keeps and lends to every call.
-// The crate `cells` knows where each number stands; specs/Store.antt says which ledger an array is, and what holds of
-// every store. Here the array is started and read; `formula_rows` and `credentials` change it.
+// The crates `cells` and `credential_cells` know where each number stands; specs/Store.antt says which ledger an array
+// is, and what holds of every store. Here the array is started and read; `formula_rows` and `credentials` change it.
 use ledger::Credential;
 use steps::Row;
 ghost use mathlib.Core.Path.{_≡_};
@@ -105,5 +105,5 @@ pub fn credential_at(store: &Store, i: u32) -> Credential
     requires { ⌜ Good (now store) × (i < rowCount (now store)) ⌝ }
     ensures { λ r. ⌜ r ≡ credentialAt (now (store .entry)) i ⌝ }
 {
-    cells::credential(store, i)
+    credential_cells::credential(store, i)
 }

@@ -10,9 +10,10 @@ use Rattle.ledger.specs.Calls.{Reply, told, call, after, answers}
 use Rattle.store.specs.Store.{ledgerOf}
 use Rattle.print.specs.Printed.{line, printed}
 use Rattle.sheets.specs.Sheets.{Split, start, splitFrom, split, emptyLine, lineBegins, most}
+use Rattle.sheets.specs.Keeping.{Kept}
 use Rattle.sheets.proofs.Splits.{split-append, cut, keep-cut, run, closes}
 use Rattle.stream.specs.declared.Place.{Place}
-use Rattle.stream.specs.Stream.{Kept, Said, Stands}
+use Rattle.stream.specs.Stream.{Said, Stands}
 
 after-snoc : (t : Ledger) (bs : List (List ℕ)) (b : List ℕ) → after t (bs ++ (b ∷ [])) ≡ call (after t bs) b .ledger
 unfolding after

@@ -12,12 +12,6 @@ use Rattle.stream.specs.declared.Taken.{Taken}
 use Rattle.sheets.specs.Sheets.{most, split, sheetsOf}
 use Rattle.print.specs.Printed.{line, printed, longest, Room, Wrote}
 
--- the bytes x after the first h of k, `most` of them at most
-pub record Kept (k : List ℕ) (h : ℕ) (x k′ : List ℕ) (h′ : ℕ) : Type 0 where
-  pub long : length k′ ≡ most
-  pub few : h′ ≤ most
-  pub bytes : take h′ k′ ≡ take most (take h k ++ x)
-
 -- the sheet b answered, and its line put after the first `at` bytes of o
 pub record Said (l b o : List ℕ) (at : ℕ) (l′ o′ : List ℕ) (r : ℕ) : Type 0 where
   pub good : Good l′

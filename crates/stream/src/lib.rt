@@ -2,15 +2,13 @@
 // (sheets/specs/Sheets.antt).
 use sheets::End;
 use store::Store;
-ghost use mathlib.Core.Path.{_≡_};
 ghost use mathlib.Core.List.{_++_};
-ghost use Prim.Native.Nat.{_+_, _≤_, _<_};
+ghost use Prim.Native.Nat.{_<_};
 ghost use lib.ListN.{length, take};
 ghost use Rattle.store.specs.Store.{Good};
 ghost use Rattle.judging.specs.Booking.{Lent};
 ghost use Rattle.print.specs.Printed.{longest, Room};
-ghost use Rattle.sheets.specs.Sheets.{most};
-ghost use Rattle.stream.specs.Stream.{Kept, Said, Ready, Took, TookSome, Ended};
+ghost use Rattle.stream.specs.Stream.{Said, Ready, Took, TookSome, Ended};
 
 // Lent to each call for a booking's step lines.
 pub type Rows = [u32; 1536];
@@ -26,31 +24,6 @@ pub struct Place {
 struct Taken {
     place: Place,
     bytes: usize,
-}
-
-// The bytes after those held, for which there is room.
-fn copy(begun: &mut [u8], held: usize, bytes: &[u8]) -> usize
-    requires { ⌜ (length (now begun) ≡ most) × (held + length (now bytes) ≤ most) ⌝ }
-    ensures { λ r. ⌜ Kept (now (begun .entry)) held (now (bytes .entry)) (now (begun .exit)) r ⌝ }
-{
-    let mut i = 0;
-    while i < bytes.len() {
-        begun[held + i] = bytes[i];
-        i += 1;
-    }
-    held + i
-}
-
-// The bytes after those held; past 16,385 they are dropped.
-fn keep(begun: &mut [u8], held: usize, bytes: &[u8]) -> usize
-    requires { ⌜ (length (now begun) ≡ most) × (held ≤ most) ⌝ }
-    ensures { λ r. ⌜ Kept (now (begun .entry)) held (now (bytes .entry)) (now (begun .exit)) r ⌝ }
-{
-    let room = 16385 - held;
-    if bytes.len() <= room {
-        return copy(begun, held, bytes);
-    }
-    copy(begun, held, &bytes[..room])
 }
 
 // Answers a sheet and puts the answer's line into the text.
@@ -82,7 +55,7 @@ fn answer_ended(
     if place.held == 0 {
         return answer(till, rows, bytes, text, place.text);
     }
-    let held = keep(begun, place.held, bytes);
+    let held = sheets::keep(begun, place.held, bytes);
     answer(till, rows, &begun[..held], text, place.text)
 }
 
@@ -115,7 +88,7 @@ fn take_sheet(
             }
         }
         End::Open(fresh) => {
-            let held = keep(begun, place.held, piece);
+            let held = sheets::keep(begun, place.held, piece);
             Taken {
                 place: Place {
                     held,

@@ -5,10 +5,10 @@ use native.Mathlib.Omega.{arith}
 use denote.Ref.{now}
 use lib.Seq.{length-take-le}
 use borrow.Author.Needs.{needs}
 use Rattle.sheets.specs.Sheets.{most}
-use Rattle.stream.proofs.Pieces.{keep-first}
-use Rattle.stream.proofs.keep.Statement.{statement}
-use Rattle.stream.proofs.keep.Tie as tie
+use Rattle.sheets.proofs.Keeping.{keep-first}
+use Rattle.sheets.proofs.keep.Statement.{statement}
+use Rattle.sheets.proofs.keep.Tie as tie
 
 slice-aggregate-copy : tie.Need-slice-aggregate-copy
 slice-aggregate-copy c =

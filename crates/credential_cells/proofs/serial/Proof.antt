@@ -1,9 +1,9 @@
 -- `serial` meets its contract: one read.
 use native.Mathlib.Nat.{add-zero}
 use Rattle.cells.specs.Layout.{cell, credentialAt}
 use borrow.Author.Needs.{needs}
-use Rattle.cells.proofs.serial.Statement.{statement}
-use Rattle.cells.proofs.serial.Tie as tie
+use Rattle.credential_cells.proofs.serial.Statement.{statement}
+use Rattle.credential_cells.proofs.serial.Tie as tie
 
 returns : tie.Need-returns
 unfolding credentialAt cell

@@ -1,9 +1,9 @@
 -- `put_gap` meets its contract: one store.
 use mathlib.Core.Path.{refl}
 use Rattle.cells.specs.Layout.{putGap}
 use borrow.Author.Needs.{needs}
-use Rattle.cells.proofs.put_gap.Statement.{statement}
-use Rattle.cells.proofs.put_gap.Tie as tie
+use Rattle.credential_cells.proofs.put_gap.Statement.{statement}
+use Rattle.credential_cells.proofs.put_gap.Tie as tie
 
 returns : tie.Need-returns
 unfolding putGap

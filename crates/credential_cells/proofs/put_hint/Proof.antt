@@ -1,9 +1,9 @@
 -- `put_hint` meets its contract: one store.
 use mathlib.Core.Path.{refl}
 use Rattle.cells.specs.Layout.{putHint}
 use borrow.Author.Needs.{needs}
-use Rattle.cells.proofs.put_hint.Statement.{statement}
-use Rattle.cells.proofs.put_hint.Tie as tie
+use Rattle.credential_cells.proofs.put_hint.Statement.{statement}
+use Rattle.credential_cells.proofs.put_hint.Tie as tie
 
 returns : tie.Need-returns
 unfolding putHint

@@ -1,9 +1,9 @@
 -- `credential` meets its contract: five reads are the row.
 use native.Mathlib.Nat.{add-zero}
 use Rattle.cells.specs.Layout.{cell, credentialAt}
 use borrow.Author.Needs.{needs}
-use Rattle.cells.proofs.credential.Statement.{statement}
-use Rattle.cells.proofs.credential.Tie as tie
+use Rattle.credential_cells.proofs.credential.Statement.{statement}
+use Rattle.credential_cells.proofs.credential.Tie as tie
 
 returns : tie.Need-returns
 unfolding credentialAt cell

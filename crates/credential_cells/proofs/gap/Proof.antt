@@ -1,9 +1,9 @@
 -- `gap` meets its contract: one read.
 use mathlib.Core.Path.{refl}
 use Rattle.cells.specs.Layout.{cell, gapAt}
 use borrow.Author.Needs.{needs}
-use Rattle.cells.proofs.gap.Statement.{statement}
-use Rattle.cells.proofs.gap.Tie as tie
+use Rattle.credential_cells.proofs.gap.Statement.{statement}
+use Rattle.credential_cells.proofs.gap.Tie as tie
 
 returns : tie.Need-returns
 unfolding gapAt cell

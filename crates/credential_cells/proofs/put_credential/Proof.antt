@@ -1,9 +1,9 @@
 -- `put_credential` meets its contract: five stores are the row.
 use native.Mathlib.Numerals.{towards-suc}
 use Rattle.cells.specs.Layout.{putRow, putCredential}
 use borrow.Author.Needs.{needs}
-use Rattle.cells.proofs.put_credential.Statement.{statement}
-use Rattle.cells.proofs.put_credential.Tie as tie
+use Rattle.credential_cells.proofs.put_credential.Statement.{statement}
+use Rattle.credential_cells.proofs.put_credential.Tie as tie
 
 returns : tie.Need-returns
 unfolding putCredential putRow

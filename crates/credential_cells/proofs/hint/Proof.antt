@@ -1,9 +1,9 @@
 -- `hint` meets its contract: one read.
 use mathlib.Core.Path.{refl}
 use Rattle.cells.specs.Layout.{hintAt}
 use borrow.Author.Needs.{needs}
-use Rattle.cells.proofs.hint.Statement.{statement}
-use Rattle.cells.proofs.hint.Tie as tie
+use Rattle.credential_cells.proofs.hint.Statement.{statement}
+use Rattle.credential_cells.proofs.hint.Tie as tie
 
 returns : tie.Need-returns
 unfolding hintAt

@@ -5,10 +5,10 @@ use Prim.Native.Nat.{_+_, _-_, _≤_}
 use native.Mathlib.Omega.{arith}
 use denote.Ref.{now}
 use lib.ListN.{length, take, length-set}
 use Rattle.sheets.specs.Sheets.{most}
-use Rattle.stream.proofs.Pieces.{copy-none, copy-next, copied}
-use Rattle.stream.proofs.copy.Statement.{statement}
-use Rattle.stream.proofs.copy.Tie as tie
+use Rattle.sheets.proofs.Keeping.{copy-none, copy-next, copied}
+use Rattle.sheets.proofs.copy.Statement.{statement}
+use Rattle.sheets.proofs.copy.Tie as tie
 
 abbrev Inv-loop : tie.InvT-loop
 Inv-loop begun₀ held bytes i₀ begun i =

@@ -1,7 +1,7 @@
 -- `kind_from` meets its contract: each branch is a side of the test.
 use borrow.Author.Tests.{eq-eqb, ne-eqb}
-use Rattle.cells.proofs.kind_from.Statement.{statement}
-use Rattle.cells.proofs.kind_from.Tie as tie
+use Rattle.credential_cells.proofs.kind_from.Statement.{statement}
+use Rattle.credential_cells.proofs.kind_from.Tie as tie
 
 returns : tie.Need-returns
 returns c = simp (eq-eqb _ _ (c .if1 .taken))
