@@ -1,4 +1,4 @@
-// What is known of a formula from its row and from what the store has of its parts: whether these are there, size, plain.
+// What is known of a formula from its row and the store: whether its parts are there, size, plain.
 use parts::Parts;
 use steps::Row;
 use store::Store;
