@@ -1,6 +1,6 @@
 -- What each store of numbers does to what can be read: the laws by which the other proofs go, so that none of them sees
--- where a table stands. The formula rows and the credential rows do not meet: work on the one leaves the other. Here are
--- the head's numbers and the formula rows; `credential_cells` has the laws of what is put in credential rows and hints.
+-- where a table stands. The formula rows and the credential rows do not meet: work on the one leaves the other. Here
+-- are the head's numbers and the formula rows; `credential_cells` has what is put in credential rows and hints.
 use mathlib.Core.Path.{_≡_, refl, ap, _∙_}
 use mathlib.Core.List.{List}
 use mathlib.Core.Bool.{Bool}

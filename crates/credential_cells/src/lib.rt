@@ -1,5 +1,5 @@
-// The credentials (document 01: the coupons) in the array of the ledger's state: their rows and the hints, read and put.
-// `cells/specs/Layout.antt` has the layout and its reason.
+// The credentials (document 01: the coupons) in the array of the ledger's state: their rows and the hints, read and
+// put. `cells/specs/Layout.antt` has the layout and its reason.
 use cells::Store;
 use ledger::Credential;
 use logic::Interval;

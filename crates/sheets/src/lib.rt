@@ -1,5 +1,5 @@
-// The bytes of a stream (specs/Sheets.antt): the search for the end of a sheet, and the bytes of a sheet that has begun,
-// kept up to 16,385.
+// The bytes of a stream (specs/Sheets.antt): the search for the end of a sheet, and the bytes of a sheet that has
+// begun, kept up to 16,385.
 ghost use mathlib.Core.Path.{_≡_};
 ghost use mathlib.Core.Bool.{false};
 ghost use Prim.Native.Nat.{_+_, _≤_, _<_};
