@@ -12,7 +12,7 @@ use Rattle.ledger.specs.declared.Answer.{Answer}
 use Rattle.ledger.specs.declared.Answer.the-variants.{Refused}
 use Rattle.ledger.specs.Ledger.{formula}
 use Rattle.ledger.specs.Checks.{missing}
-use Rattle.ledger.specs.Calls.{handle, call}
+use Rattle.ledger.specs.Calls.{handle}
 use Rattle.store.specs.Store.{ledgerOf, Good}
 use Rattle.verdicts.specs.Verdicts.{unfair}
 

@@ -1,12 +1,11 @@
-// Issue, withdraw and tally (document 01: what the till answers), of requests that have been read: each tries its
-// checks in the paper's order and does what the request says.
+// Issue, withdraw and tally, of requests that have been read: each tries its checks in the paper's order and does what
+// the request says.
 use ledger::Answer;
 use logic::Interval;
 use lookup::Found;
 use request::Kind;
 use store::Store;
 use verdicts::Verdict;
-ghost use mathlib.Core.Path.{_≡_};
 ghost use Rattle.request.specs.Request.{issue as issueRequest, withdraw as withdrawRequest, tally as tallyRequest};
 ghost use Rattle.store.specs.Store.{Good};
 ghost use Rattle.calls.specs.Handled.{Handled, Issuable};

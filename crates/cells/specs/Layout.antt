@@ -1,6 +1,6 @@
 -- The ledger's state as one list of numbers. The caller keeps one block of a fixed length and lends it to every call,
--- so nothing is copied and nothing is allocated. Formula rows and credential rows
--- each have one width, so that one law is enough for both.
+-- so nothing is copied and nothing is allocated. Formula rows and credential rows each have one width, so that one law
+-- is enough for both.
 --
 --   0           the count of formula lines
 --   1           the count of live credentials

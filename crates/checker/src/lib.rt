@@ -9,7 +9,6 @@ use steps::Premise;
 use steps::Sequent;
 use store::Store;
 use tables::lines;
-ghost use mathlib.Core.Path.{_≡_};
 ghost use Prim.Native.Nat.{_≤_};
 ghost use Rattle.steps.specs.Check.{checkOf};
 ghost use Rattle.cells.specs.Layout.{rowAt};

@@ -1,5 +1,5 @@
--- What adding a formula row does to the ledger that a store stands for. Of the array only the laws
--- of cells/proofs/Rows are used.
+-- What adding a formula row does to the ledger that a store stands for. Of the array only the laws of
+-- cells/proofs/Rows are used.
 use mathlib.Core.Path.{_≡_, sym, ap, subst, _∙_}
 use mathlib.Core.List.{List, [], _∷_, _++_}
 use mathlib.Core.Bool.{Bool, true, false}

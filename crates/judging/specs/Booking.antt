@@ -1,4 +1,5 @@
--- A booking on its way through the checks: what has been found before each function of the code.
+-- A booking on its way through the checks: what has been found before each function of `booking` and
+-- `settling`.
 use mathlib.Core.Path.{_≡_}
 use mathlib.Core.List.{List}
 use mathlib.Core.Bool.{false, not}

@@ -1,7 +1,7 @@
 -- Derivations: the ground rules of document 01 over hypotheses as multisets, in the form of Figure 1 and Appendix A of
 -- the report (source document 000), without labels, shares or tables. Names are those of the step letters.
 use mathlib.Core.List.{List, [], _∷_, _++_, List·Memᴰ}
-use Prim.Native.Nat.{ℕ, suc, _+_, _≤_}
+use Prim.Native.Nat.{ℕ, suc, _+_}
 use Rattle.logic.specs.declared.Interval.{Interval}
 use Rattle.logic.specs.Interval.{_⊇_, Ordered}
 use Rattle.logic.specs.Formula.{Formula, atom, one, tensor, with, plus, lolli, implies, bang, at, says}

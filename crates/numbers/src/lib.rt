@@ -3,7 +3,7 @@ ghost use mathlib.Core.Path.{_≡_};
 ghost use Prim.Native.Nat.{_≤_, _<_};
 ghost use lib.ListN.{length, drop};
 ghost use Rattle.request.specs.Range.{maxBytes, _‥_};
-ghost use Rattle.request.specs.Text.{hexDigit, numberIn, labelSetIn};
+ghost use Rattle.request.specs.Text.{numberIn, labelSetIn};
 ghost use Rattle.numbers.specs.Field.{Stop, NumberAsked, fieldTo, strip, moreIn, decimalOf};
 ghost use Rattle.numbers.specs.Field.{DigitsAre, labelsOf, pastOf};
 

@@ -1,4 +1,4 @@
--- Calls after calls, and what the program's state stands for after bytes.
+-- Calls after calls, and what the state between two pieces stands for after bytes.
 use mathlib.Core.Path.{_≡_, refl, sym, ap, _∙_}
 use mathlib.Core.List.{List, [], _∷_, _++_, append-assoc, append-nil}
 use mathlib.Core.Bool.{Bool, true, false}

@@ -1,4 +1,4 @@
--- What a call leaves, of bytes.
+-- What a call leaves, of bytes; `calls/specs/Handled` has it of a request that has been read.
 use mathlib.Core.Path.{_≡_}
 use mathlib.Core.List.{List}
 use Prim.Native.Nat.{ℕ, _≤_}

@@ -1,10 +1,9 @@
-// What becomes of bytes (document 01: what the till answers): a request that has been read is handed to its call.
+// The answer to a sheet's bytes: a request that has been read is handed to its call.
 use ledger::Answer;
 use reader::First;
 use reader::Head;
 use store::Store;
 use verdicts::Verdict;
-ghost use mathlib.Core.Path.{_≡_};
 ghost use Rattle.store.specs.Store.{Good};
 ghost use Rattle.till.specs.Replied.{Replied};
 
@@ -14,7 +13,8 @@ pub enum Reply {
     Booking(Head),
 }
 
-// The answer to a sheet that is not a booking: 1, 2, then the calls. A booking is left to `book`, with its head read.
+// The answer to a sheet that is not a booking: 1, 2, then the calls. A booking is left to crate
+// `booking`, with its head read.
 pub fn answer(till: &mut Store, sheet: &[u8]) -> Reply
     requires { ⌜ Good (now till) ⌝ }
     ensures { λ r. ⌜ Replied (now (till .entry)) (now (sheet .entry)) r (now (till .exit)) ⌝ }

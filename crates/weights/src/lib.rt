@@ -1,4 +1,5 @@
-// Whether a formula is balanced: its weight, from its parts', for each session that stands in it.
+// Whether a formula is balanced: its weight, from its parts', for each session that stands in it. Asked once, when its
+// line comes; the row keeps the answer.
 use parts::Parts;
 use steps::Row;
 use store::Store;

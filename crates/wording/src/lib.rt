@@ -4,7 +4,6 @@ use ledger::Answer;
 use steps::Row;
 use store::Store;
 use verdicts::Verdict;
-ghost use mathlib.Core.Path.{_≡_};
 ghost use Rattle.request.specs.Request.{word as wordRequest};
 ghost use Rattle.store.specs.Store.{lineOf, Canonical, Good};
 ghost use Rattle.calls.specs.Handled.{Handled};
