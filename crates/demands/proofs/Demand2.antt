@@ -12,11 +12,12 @@ use Rattle.logic.specs.Interval.{Ordered, reversed}
 use Rattle.logic.specs.Multiset.{Every}
 use Rattle.logic.proofs.Intervals.{ordered-decides}
 use Rattle.logic.proofs.Multisets.{every-left, every-right, every-map}
-use Rattle.logic.specs.Derives.{holds, uses, taken}
+use Rattle.logic.specs.Derives.{holds, letters, taken}
 use Rattle.request.specs.Request.{Step, Booking, book, stepIntervals, stepsIntervals, intervals}
 use Rattle.request.specs.InRange.{StepInRange, BookingInRange}
 use Rattle.steps.specs.declared.Goal.the-variants.{Holds}
 use Rattle.steps.specs.Check.{maxLabels, Outcome, done, stopped, puts, finished, checkOf}
+use Rattle.steps.specs.Letters.{lettersOf}
 use Rattle.steps.specs.Limits.{Minutes, Writable}
 use Rattle.steps.specs.Spells.{Labels, Spells, Refused}
 use Rattle.steps.proofs.Holds.{begins-fits}
@@ -93,7 +94,7 @@ module _ (t : Ledger) (tb : Tabled t) (cs : List Credential) (few : length cs �
 
   -- what passes is a derivation within the limits
   pub steps-derive : Every Writable ss → steps t cs n i ss ≡ none
-      → (x : Derivation t cs n i) × (length ss ≡ uses x) × (length cs + taken x ≤ maxLabels) × Minutes x
+      → (x : Derivation t cs n i) × (lettersOf ss ≡ letters x) × (length cs + taken x ≤ maxLabels) × Minutes x
   unfolding outcome
   steps-derive w e =
       let s = sound (unrolls t tb) table (start t tb cs few) (Holds n i) ss (start-few t cs few) w (closes e) in

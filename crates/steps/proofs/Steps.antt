@@ -1,13 +1,13 @@
 -- The step checker and derivations: lines pass exactly if they spell a derivation, and are refused exactly where they
 -- are stopped; lines that spell a derivation give one; every derivation within the limits has such lines.
-use mathlib.Core.Path.{_≡_, subst}
+use mathlib.Core.Path.{_≡_, subst, _∙_}
 use mathlib.Core.List.{List, [], _++_, append-nil}
 use mathlib.Core.Logic.{_↔_}
 use Prim.Native.Nat.{ℕ, _+_, _^_, _≤_, _<_}
 use native.Mathlib.Omega.{arith}
 use lib.ListN.{length}
 use Rattle.logic.specs.Formula.{Formula}
-use Rattle.logic.specs.Derives.{Hyp, Judgment, Derives, uses, taken}
+use Rattle.logic.specs.Derives.{Hyp, Judgment, Derives, letters, taken}
 use Rattle.logic.specs.Multiset.{Perm, Every}
 use Rattle.logic.proofs.Multisets.{perm-sym}
 use Rattle.request.specs.Request.{Step}
@@ -18,6 +18,7 @@ use Rattle.steps.specs.declared.Goal.{Goal}
 use Rattle.steps.specs.declared.Sequent.{Sequent}
 use Rattle.steps.specs.Check.{maxLabels, Outcome, done, stopped, premiseOf, checkOf}
 use Rattle.steps.specs.Spells.{Labels, Labelled, Spells, Refused}
+use Rattle.steps.specs.Letters.{lettersOf}
 use Rattle.steps.specs.Limits.{Minutes, Writable}
 use Rattle.steps.proofs.Labelling.{hyps}
 use Rattle.steps.proofs.Premises.{Fits}
@@ -35,22 +36,22 @@ use Rattle.steps.proofs.Holds.{Begins, begins-fits}
 pub spelt : {ss : List Step} {ls after : Labels} {q : Labelled} → Spells ss ls q [] after → Fits ls q
     → Every Writable ss
     → (x : Derives (hyps ls (q .unrestricted)) (hyps ls (q .linear)) (q .goal))
-    × (length ss ≡ uses x) × (length ls + taken x ≤ maxLabels) × Minutes x
+    × (lettersOf ss ≡ letters x) × (length ls + taken x ≤ maxLabels) × Minutes x
 spelt s fits w =
     let d = derived s fits w in
-    (d .derivation, omega (arith, d .lines), omega (arith, d .labels, d .room), d .minutes)
+    (d .derivation, d .lines ∙ append-nil (letters (d .derivation)), omega (arith, d .labels, d .room), d .minutes)
 
 -- Every derivation from hypotheses that labels stand for, with intervals in order and in range and labels enough, has
 -- lines that spell it, whatever comes after them: a line for each rule, and each can be written.
 pub complete : (ls : Labels) (r d : ℕ) → r < 2 ^ length ls → d < 2 ^ length ls
     → {R D : List Hyp} {g : Judgment} (x : Derives R D g) → Minutes x → Within R (hyps ls r) → Perm D (hyps ls d)
     → length ls + taken x ≤ maxLabels
-    → (ss : List Step) × (length ss ≡ uses x) × Every Writable ss × (after : Labels)
+    → (ss : List Step) × (lettersOf ss ≡ letters x) × Every Writable ss × (after : Labels)
     × ((rest : List Step) → Spells (ss ++ rest) ls (sequent r d g) rest after)
 complete ls r d known-r known-d x mn sub m room =
     let fits : Fits ls (sequent r d _) = record { unrestricted = known-r; linear = known-d; room = omega arith } in
     let c = spelled x mn ls r d fits sub m room in
-    (c .steps, c .count, c .writable, c .after, c .spells)
+    (c .steps, c .letters, c .writable, c .after, c .spells)
 
 module _ {row : ℕ → Row} {formula : ℕ → Formula} (u : Unrolls row formula) {T : Type 0} {held : T → ℕ → Hypothesis}
     {put : T → ℕ → Hypothesis → T} (table : Table held put) where
@@ -92,15 +93,15 @@ module _ {row : ℕ → Row} {formula : ℕ → Formula} (u : Unrolls row formul
     Passes ss = (t′ : T) × (n′ : ℕ) × (checkOf row held put (length ss) ss t n asked ≡ done [] t′ n′)
 
     pub sound : (ss : List Step) → length ls ≤ maxLabels → Every Writable ss → Passes ss
-        → (x : Derives R D (goalOf u g)) × (length ss ≡ uses x) × (length ls + taken x ≤ maxLabels) × Minutes x
-    unfolding uses taken
+        → (x : Derives R D (goalOf u g)) × (lettersOf ss ≡ letters x) × (length ls + taken x ≤ maxLabels) × Minutes x
+    unfolding letters taken
     sound ss room writable p =
         let fits = begins-fits u table begins room (goalOf u g) in
         let w = spelt (exactly t n ls asked (begins .shows) fits ss .0 p .1) fits writable in
         (Derives.same (perm-sym (begins .unrestricted)) (perm-sym (begins .linear)) (w .0), w .1, w .2, w .3)
 
     pub passing : (x : Derives R D (goalOf u g)) → Minutes x → length ls + taken x ≤ maxLabels
-        → (ss : List Step) × (length ss ≡ uses x) × Every Writable ss × Passes ss
+        → (ss : List Step) × (lettersOf ss ≡ letters x) × Every Writable ss × Passes ss
     passing x mn room =
         let fits = begins-fits u table begins (omega arith) (goalOf u g) in
         let c = complete ls r d (begins .unrestricted-known) (begins .linear-known) x mn

@@ -2,4 +2,5 @@ pub mod Plans
 pub mod Check
 pub mod Rule
 pub mod Spells
+pub mod Letters
 pub mod Limits
