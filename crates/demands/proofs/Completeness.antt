@@ -27,6 +27,7 @@ use Rattle.steps.specs.declared.Goal.the-variants.{Holds}
 use Rattle.steps.specs.Check.{maxLabels, done, premiseOf, finished, checkOf}
 use Rattle.steps.specs.Letters.{letterOf}
 use Rattle.steps.specs.Limits.{Writable}
+use Rattle.steps.proofs.Tables.{label-table}
 use Rattle.steps.proofs.Steps.{passing}
 use Rattle.ledger.specs.declared.Credential.{Credential}
 use Rattle.ledger.specs.Ledger.{Ledger, row, find, isNone, held, linearCount}
@@ -40,9 +41,9 @@ use Rattle.ledger.proofs.Answers.{some-inj, heard}
 use Rattle.ledger.proofs.Credentials.{take-out, any-none, Alive, held-length}
 use Rattle.ledger.proofs.Bounds.{Rises, Bounded}
 use Rattle.ledger.proofs.Firsts.{if-false, if-true, skip, hit, not-true}
-use Rattle.demands.specs.Demands.{hyp, booking, StepsComplete, May, PastSteps, Completeness}
+use Rattle.demands.specs.Demands.{hyp, startLabels, booking, StepsComplete, May, PastSteps, Completeness}
 use Rattle.demands.proofs.Demand1.{demand-1, call-accepts}
-use Rattle.demands.proofs.Start.{unrolls, table, start}
+use Rattle.demands.proofs.Start.{unrolls, start}
 use Rattle.demands.proofs.Exactness.{reached-bounded}
 
 -- Every derivation within the limits has step lines that pass.
@@ -60,8 +61,8 @@ steps-complete t reached n i hs x lim =
     let bd = reached-bounded t reached in
     let cs = held (t .live) hs in
     let room : length cs + taken x ≤ maxLabels = omega (arith, lim .labels, held-length (t .live) hs) in
-    let p = passing (unrolls t (bd .tabled)) table (start t (bd .tabled) cs (omega arith)) (Holds n i) x (lim .minutes)
-    (omega (arith, length-map cs (hyp t))) in
+    let p = passing label-table _ _ (unrolls t (bd .tabled)) _ (length cs) _ _ (startLabels t cs) _ _
+    (start t (bd .tabled) cs (omega arith)) (Holds n i) x (lim .minutes) (omega (arith, length-map cs (hyp t))) in
     let many : length (p .0) ≡ uses x = sym (length-map (p .0) letterOf) ∙ ap length (p .1) in
     record {
       lines = p .0;

@@ -22,8 +22,9 @@ use Rattle.request.specs.Range.{minute, label}
 use Rattle.request.specs.InRange.{_∈_, LabelSet, IntervalInRange}
 use Rattle.steps.specs.Letters.{letterOf}
 use Rattle.steps.specs.Limits.{Minutes, Writable}
-use Rattle.steps.proofs.Labelling.{hyps, no-hyps, Known}
-use Rattle.steps.proofs.Lines.{sequent, Lines, Spelled, closing, going, parting}
+use Rattle.steps.specs.Labelling.{hyps, sequent}
+use Rattle.steps.proofs.Labelling.{no-hyps, Known}
+use Rattle.steps.proofs.Lines.{Lines, Spelled, closing, going, parting}
 
 -- Labels for hypotheses
 

@@ -5,21 +5,19 @@ use Prim.Native.Nat.{ℕ, _+_, _≤_}
 use native.Mathlib.Omega.{arith}
 use lib.ListN.{length}
 use Rattle.logic.specs.Derives.{Hyp, Judgment, Letter}
-use Rattle.logic.specs.Multiset.{Perm, more, Every}
+use Rattle.logic.specs.Multiset.{Perm, more, Every, Within}
 use Rattle.logic.proofs.Multisets.{perm-trans}
 use Rattle.request.specs.Request.{Step}
-use Rattle.labels.proofs.Permutations.{Within, perm-in}
+use Rattle.labels.proofs.Permutations.{perm-in}
 use Rattle.steps.specs.Check.{maxLabels}
 use Rattle.steps.specs.Rule.{Branch, from, nothing, premise, premises, Rule}
 use Rattle.steps.specs.Spells.{Labels, named, Labelled, begun, beginning, Room, Spells}
 use Rattle.steps.specs.Letters.{letterOf, lettersOf}
 use Rattle.steps.specs.Limits.{Writable}
-use Rattle.steps.proofs.Labelling.{hyps, Extends, ext-refl, ext-trans}
-use Rattle.steps.proofs.Premises.{Fits, news, length-begun, ext-begun, lowers, fits-begun, linear-begun}
+use Rattle.steps.specs.Labelling.{hyps, sequent, Fits}
+use Rattle.steps.proofs.Labelling.{Extends, ext-refl, ext-trans}
+use Rattle.steps.proofs.Premises.{news, length-begun, ext-begun, lowers, fits-begun, linear-begun}
 use Rattle.steps.proofs.Premises.{unrestricted-begun}
-
-abbrev pub sequent : ℕ → ℕ → Judgment → Labelled
-sequent r d g = record { unrestricted = r; linear = d; goal = g }
 
 every-both : (ss ts : List Step) → Every Writable ss → Every Writable ts → Every Writable (ss ++ ts)
 every-both [] ts a b = b

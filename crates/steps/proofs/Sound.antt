@@ -17,8 +17,9 @@ use Rattle.steps.specs.Rule.{Branch, Leaves, nothing, premise, premises,
 use Rattle.steps.specs.Spells.{Labels, named, Labelled, begun, beginning, Room, Spells}
 use Rattle.steps.specs.Letters.{letterOf, lettersOf}
 use Rattle.steps.specs.Limits.{Minutes, Writable}
-use Rattle.steps.proofs.Labelling.{hyps, Extends, ext-refl, ext-trans}
-use Rattle.steps.proofs.Premises.{Fits, news, length-begun, ext-begun, spells-extends, lowers, fits-begun}
+use Rattle.steps.specs.Labelling.{hyps, Fits}
+use Rattle.steps.proofs.Labelling.{Extends, ext-refl, ext-trans}
+use Rattle.steps.proofs.Premises.{news, length-begun, ext-begun, spells-extends, lowers, fits-begun}
 use Rattle.steps.proofs.Premises.{linear-begun, unrestricted-begun}
 
 -- a derivation by the rules u that takes v labels, its minutes in range

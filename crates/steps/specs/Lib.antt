@@ -4,3 +4,6 @@ pub mod Rule
 pub mod Spells
 pub mod Letters
 pub mod Limits
+pub mod Unroll
+pub mod Labelling
+pub mod Statements
