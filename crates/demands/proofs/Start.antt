@@ -5,7 +5,6 @@ use mathlib.Core.Bool.{true, false}
 use Prim.Native.Nat.{ℕ, suc, _+_, _≤_}
 use native.Mathlib.Omega.{arith}
 use lib.ListN.{length}
-use borrow.Author.Tests.{ne-eqb, eq-eqb}
 use Rattle.logic.specs.Formula.{Formula}
 use Rattle.logic.specs.Derives.{Hyp}
 use Rattle.logic.specs.Multiset.{Perm}
@@ -17,14 +16,14 @@ use Rattle.labels.specs.Labels.{insert}
 use Rattle.labels.proofs.Permutations.{perm-middle}
 use Rattle.steps.specs.Check.{maxLabels, puts}
 use Rattle.steps.specs.Spells.{Labels}
-use Rattle.steps.proofs.Labelling.{length-snoc}
 use Rattle.steps.specs.Unroll.{letter, made, Unrolls}
+use Rattle.steps.proofs.Labelling.{length-snoc}
 use Rattle.steps.proofs.Tables.{label-table}
 use Rattle.steps.proofs.Holds.{Begins, begins-same, begins-none, add-linear, add-unrestricted}
 use Rattle.ledger.specs.declared.Credential.{Credential}
 use Rattle.ledger.specs.Table.{form, rowOf}
 use Rattle.ledger.specs.Ledger.{Ledger, formula, row, isKind}
-use Rattle.ledger.specs.Checks.{LabelTable, noLabels, readLabel, writeLabel, hypothesis, labelsOf}
+use Rattle.ledger.specs.Checks.{LabelTable, noLabels, writeLabel, hypothesis, labelsOf}
 use Rattle.ledger.proofs.Tables.{lineAt, Tabled}
 use Rattle.demands.specs.Demands.{hyp, hypsOf, startLabels}
 

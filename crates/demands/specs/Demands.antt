@@ -37,7 +37,8 @@ pub record Reached (t : Ledger) : Type 0 where
   pub gives : after empty calls ≡ t
 
 -- DEMAND 1. "Any bytes of any length: a sheet that fails a check gets the number of the first check that fails; till
--- and sheet stay exactly as they were."
+-- and sheet stay exactly as they were; nothing is required of the caller but a till that calls gave."
+-- The last clause: this holds of every ledger, reached or not, and of all bytes, with no hypothesis.
 
 pub record Demand1 (t : Ledger) (bytes : List ℕ) : Type 0 where
   -- refused with these two numbers exactly where they are the first check's that fails
@@ -49,7 +50,9 @@ pub record Demand1 (t : Ledger) (bytes : List ℕ) : Type 0 where
   pub accepted : IsAccepted (says t bytes) ↔ Pass (checksOf t bytes)
 
 -- DEMAND 2. "A booking is accepted exactly when the other checks pass and its steps are a derivation; every derivation
--- within the limits has step lines that pass."
+-- within the limits has step lines that pass. Other sheets pass exactly when no check fails; each accepted call does
+-- what the paper says."
+-- Of other sheets: `accepted` of Demand1.
 
 -- the hypothesis of a credential, and those of a kind among the credentials held
 abbrev pub hyp : Ledger → Credential → Hyp

@@ -15,11 +15,11 @@ use Rattle.labels.specs.Labels.{_∋_, _⊑_, remove}
 use Rattle.labels.proofs.Sets.{subset-le, without-le, only-is}
 use Rattle.labels.proofs.Permutations.{on, before, perm-nil, perm-in, within-cons, in-front}
 use Rattle.labels.proofs.Pick.{Found, find, choose, pick-nil}
+use Rattle.request.specs.Range.{minute, label}
+use Rattle.request.specs.InRange.{_∈_, LabelSet, IntervalInRange}
 use Rattle.steps.specs.Check.{maxLabels}
 use Rattle.steps.specs.Rule.{from, premise, Rule}
 use Rattle.steps.specs.Spells.{Labels, named}
-use Rattle.request.specs.Range.{minute, label}
-use Rattle.request.specs.InRange.{_∈_, LabelSet, IntervalInRange}
 use Rattle.steps.specs.Letters.{letterOf}
 use Rattle.steps.specs.Limits.{Minutes, Writable}
 use Rattle.steps.specs.Labelling.{hyps, sequent}

@@ -1,7 +1,7 @@
 -- Labels for the hypotheses that a booking holds, taken one after another: "Holds take labels 0, 1, .. in order."
 use mathlib.Core.Path.{_≡_, sym, subst}
 use mathlib.Core.List.{List, [], _∷_, _++_}
-use Prim.Native.Nat.{ℕ, suc, _^_, _≤_, _<_}
+use Prim.Native.Nat.{ℕ, suc, _≤_, _<_}
 use lib.ListN.{length}
 use lib.Pow.{pow-pos}
 use Rattle.logic.specs.Formula.{Formula}
@@ -16,9 +16,9 @@ use Rattle.steps.specs.Check.{maxLabels}
 use Rattle.steps.specs.Spells.{Labels}
 use Rattle.steps.specs.Labelling.{Begins as BeginsWith}
 use Rattle.steps.specs.Labelling.{hyps, Fits, sequent}
-use Rattle.steps.proofs.Labelling.{no-hyps, Known, known-up, kept, ext-snoc, known-snoc, fresh}
 use Rattle.steps.specs.Unroll.{Unrolls, hypOf}
-use Rattle.steps.proofs.Tables.{Table, Shows, shows-none, shows-put}
+use Rattle.steps.proofs.Labelling.{no-hyps, Known, known-up, kept, ext-snoc, known-snoc, fresh}
+use Rattle.steps.proofs.Tables.{Table, shows-none, shows-put}
 
 -- d with the new label of h stands for h besides
 joined : (ls : Labels) (d n : ℕ) (h : Hyp) {D : List Hyp} → n ≡ length ls → Known ls d → length ls < maxLabels

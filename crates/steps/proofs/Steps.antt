@@ -1,35 +1,27 @@
 -- The step checker and derivations: lines pass exactly if they spell a derivation, and are refused exactly where they
 -- are stopped; lines that spell a derivation give one; every derivation within the limits has such lines.
-use mathlib.Core.Path.{_≡_, subst, _∙_}
-use mathlib.Core.List.{List, [], _++_, append-nil}
-use mathlib.Core.Logic.{_↔_}
-use Prim.Native.Nat.{ℕ, _+_, _^_, _≤_, _<_}
+use mathlib.Core.Path.{subst, _∙_}
+use mathlib.Core.List.{List, [], append-nil}
+use Prim.Native.Nat.{ℕ}
 use native.Mathlib.Omega.{arith}
 use lib.ListN.{length}
-use Rattle.logic.specs.Formula.{Formula}
-use Rattle.logic.specs.Derives.{Hyp, Judgment, Derives, letters, taken}
-use Rattle.logic.specs.Multiset.{Perm, Every, Within}
+use Rattle.logic.specs.Derives.{Derives, letters, taken}
 use Rattle.logic.proofs.Multisets.{perm-sym}
 use Rattle.request.specs.Request.{Step}
 use Rattle.labels.proofs.Permutations.{perm-in}
-use Rattle.steps.specs.declared.Row.{Row}
 use Rattle.steps.specs.declared.Hypothesis.{Hypothesis}
-use Rattle.steps.specs.declared.Goal.{Goal}
-use Rattle.steps.specs.declared.Sequent.{Sequent}
-use Rattle.steps.specs.Check.{maxLabels, Outcome, done, stopped, premiseOf, checkOf}
-use Rattle.steps.specs.Spells.{Labels, Labelled, Spells, Refused}
-use Rattle.steps.specs.Letters.{lettersOf}
-use Rattle.steps.specs.Limits.{Minutes, Writable}
-use Rattle.steps.specs.Labelling.{hyps, Fits, sequent}
+use Rattle.steps.specs.Check.{premiseOf, checkOf}
+use Rattle.steps.specs.Spells.{Spells}
+use Rattle.steps.specs.Labelling.{Fits, sequent}
 use Rattle.steps.specs.Statements.{Spelt, Complete, Exactly, asked, Sound, Passing}
+use Rattle.steps.specs.Unroll.{goalOf, sequentOf}
 use Rattle.steps.proofs.Sound.{derived}
 use Rattle.steps.proofs.Complete.{spelled}
-use Rattle.steps.specs.Unroll.{Unrolls, goalOf, sequentOf}
-use Rattle.steps.proofs.Runs.{closed, Ends}
-use Rattle.steps.proofs.Tables.{Table, Shows}
-use Rattle.steps.proofs.Checker.{Meets, exact}
+use Rattle.steps.proofs.Runs.{closed}
+use Rattle.steps.proofs.Tables.{Table}
+use Rattle.steps.proofs.Checker.{exact}
 use Rattle.steps.proofs.Finish.{passed-spells, spells-passed, stopped-refused, refused-stopped}
-use Rattle.steps.proofs.Holds.{Begins, begins-fits}
+use Rattle.steps.proofs.Holds.{begins-fits}
 
 pub spelt : Spelt
 spelt ss ls after q s fits w =

@@ -14,13 +14,13 @@ use Rattle.steps.specs.declared.Hypothesis.{Hypothesis}
 use Rattle.steps.specs.declared.Sequent.{Sequent}
 use Rattle.steps.specs.declared.Premise.{Premise}
 use Rattle.steps.specs.Check.{maxLabels, linears, joins, puts, adds, Beginning, full, begun, begin}
-use Rattle.steps.specs.Labelling.{LabelTable, AnyTable, readLabel, writeLabel, Shows as ShowsLabels}
+use Rattle.steps.specs.Labelling.{AnyTable, readLabel, writeLabel, Shows as ShowsLabels}
 use Rattle.steps.specs.Rule.{Branch}
 use Rattle.steps.specs.Spells.{Labels, noHyp, named, grown, adding, beginning, Room}
 use Rattle.steps.specs.Spells.{begun as labels-begun}
+use Rattle.steps.specs.Unroll.{Unrolls, hypOf, goalOf, sequentOf}
 use Rattle.steps.proofs.Labelling.{length-snoc, ext-grown, length-grown}
 use Rattle.steps.proofs.Premises.{length-begun}
-use Rattle.steps.specs.Unroll.{Unrolls, hypOf, goalOf, sequentOf}
 use Rattle.steps.proofs.Unroll.{branchOf}
 
 -- what is put at a label is read there, and nowhere else

@@ -1,26 +1,16 @@
 -- The formula of a number by its letter, and back; premises and plans by their formulas.
 use mathlib.Core.Path.{_≡_, sym, ap, _∙_}
 use mathlib.Core.List.{map}
-use mathlib.Core.Bool.{Bool, true, false}
 use mathlib.Core.Option.{Option, none, some}
 use Prim.Native.Nat.{ℕ}
-use Prim.Native.Char.{code}
-use lib.Dec.{eqb}
-use Rattle.logic.specs.Interval.{span}
-use Rattle.logic.specs.Formula.{Formula, atom, one, tensor, with, plus, lolli, implies, bang, at, says, superset}
-use Rattle.logic.specs.Derives.{Hyp, _⟦_⟧, Judgment, holds, affirms}
+use Rattle.logic.specs.Formula.{Formula}
 use Rattle.steps.specs.declared.Row.{Row}
-use Rattle.steps.specs.declared.Hypothesis.{Hypothesis}
-use Rattle.steps.specs.declared.Goal.{Goal}
-use Rattle.steps.specs.declared.Goal.the-variants.{Holds, Affirms}
-use Rattle.steps.specs.declared.Sequent.{Sequent}
 use Rattle.steps.specs.declared.Premise.{Premise}
 use Rattle.steps.specs.declared.Plan.{Plan}
 use Rattle.steps.specs.declared.Plan.the-variants.{Refused, Closed, One, Two}
-use Rattle.steps.specs.Unroll.{letter, made, Unrolls, hypOf, goalOf, sequentOf}
+use Rattle.steps.specs.Unroll.{letter, made, Unrolls, hypOf, goalOf}
 use Rattle.steps.specs.Check.{linears, joins}
 use Rattle.steps.specs.Rule.{Branch, Leaves, nothing, premise, premises}
-use Rattle.steps.specs.Spells.{Labelled}
 
 module _ {row : ℕ → Row} {f : ℕ → Formula} (u : Unrolls row f) where
   -- the formula of a number by its letter
