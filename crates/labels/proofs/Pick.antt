@@ -48,14 +48,14 @@ module _ {A : Type 0} where
       rw (a, b) (pick-only (later f) n k (omega arith))
 
   -- a set with nothing in its list is empty
-  prepend-nil : (b : ℕ) (x : A) (l : List A) → prepend b x l ≡ [] → (b ≡ 0) × (l ≡ [])
-  prepend-nil zero x l e = (refl, e)
-  prepend-nil (suc b) x l e = let z : _≡_ {A = ℕ} 1 0 = cc in absurd (omega arith)
+  low-nil : (b : ℕ) (x : A) (l : List A) → prepend b x l ≡ [] → (b ≡ 0) × (l ≡ [])
+  low-nil zero x l e = (refl, e)
+  low-nil (suc b) x l e = let z : _≡_ {A = ℕ} 1 0 = cc in absurd (omega arith)
 
   pub pick-nil : (f : ℕ → A) (n d : ℕ) → d < 2 ^ n → pick f n d ≡ [] → d ≡ 0
   pick-nil f zero d h e = omega arith
   pick-nil f (suc n) d h e =
-      let r = prepend-nil (d % 2) (f 0) (pick (later f) n (d / 2)) e in
+      let r = low-nil (d % 2) (f 0) (pick (later f) n (d / 2)) e in
       omega (arith, r .0, pick-nil (later f) n (d / 2) (omega (arith, pow-suc 2 n)) (r .1))
 
   -- two functions that agree on the labels give one list
@@ -70,15 +70,15 @@ module _ {A : Type 0} where
 
   -- A share and the rest
 
-  prepend-split : (x : A) (a b c : ℕ) → a + b ≡ c → c < 2 → (p q : List A) {r : List A} → Perm (p ++ q) r
+  split-low : (x : A) (a b c : ℕ) → a + b ≡ c → c < 2 → (p q : List A) {r : List A} → Perm (p ++ q) r
       → Perm (prepend a x p ++ prepend b x q) (prepend c x r)
-  prepend-split x zero zero zero e l p q m = m
-  prepend-split x zero zero (suc c) e l p q m = absurd (omega arith)
-  prepend-split x zero (suc b) zero e l p q m = absurd (omega arith)
-  prepend-split x zero (suc b) (suc c) e l p q m = perm-middle p q m
-  prepend-split x (suc a) zero zero e l p q m = absurd (omega arith)
-  prepend-split x (suc a) zero (suc c) e l p q m = on m
-  prepend-split x (suc a) (suc b) c e l p q m = absurd (omega arith)
+  split-low x zero zero zero e l p q m = m
+  split-low x zero zero (suc c) e l p q m = absurd (omega arith)
+  split-low x zero (suc b) zero e l p q m = absurd (omega arith)
+  split-low x zero (suc b) (suc c) e l p q m = perm-middle p q m
+  split-low x (suc a) zero zero e l p q m = absurd (omega arith)
+  split-low x (suc a) zero (suc c) e l p q m = on m
+  split-low x (suc a) (suc b) c e l p q m = absurd (omega arith)
 
   pub pick-share : (f : ℕ → A) (n s d : ℕ) → s ⊑ d → Perm (pick f n s ++ pick f n (without d s)) (pick f n d)
   pick-share f zero s d h = none
@@ -86,7 +86,7 @@ module _ {A : Type 0} where
       let k = subset-half s d h in
       let e : without d s % 2 ≡ d % 2 - s % 2 = omega (arith, without-low d s, k .0) in
       rw (without-half d s, e)
-      (prepend-split (f 0) (s % 2) (d % 2 - s % 2) (d % 2) (omega (arith, k .0)) (omega arith) (pick (later f) n (s / 2))
+      (split-low (f 0) (s % 2) (d % 2 - s % 2) (d % 2) (omega (arith, k .0)) (omega arith) (pick (later f) n (s / 2))
       (pick (later f) n (without (d / 2) (s / 2))) (pick-share (later f) n (s / 2) (d / 2) (k .1)))
 
   pub pick-remove : (f : ℕ → A) (n d k : ℕ) → k < n → d ∋ k → Perm (f k ∷ pick f n (remove d k)) (pick f n d)

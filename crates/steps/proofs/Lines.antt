@@ -63,8 +63,9 @@ module _ (ls : Labels) (r d : ℕ) {g : Judgment} (fits : Fits ls (sequent r d g
       (λ h i. perm-in (unrestricted-begun p x fits low full) h (sub h i))
       (perm-trans m (linear-begun p x fits low full)) room
 
-  one-more : {s : Step} {p : Branch} {u : List Letter} {v n : ℕ} → Rule (named ls) r d s g (premise p) → Writable s → Room ls p
-      → n ≡ news p + v → Lines (begun ls p) (beginning ls r p) u v → Lines ls (sequent r d g) (letterOf s ∷ u) n
+  one-more : {s : Step} {p : Branch} {u : List Letter} {v n : ℕ} → Rule (named ls) r d s g (premise p)
+      → Writable s → Room ls p → n ≡ news p + v → Lines (begun ls p) (beginning ls r p) u v
+      → Lines ls (sequent r d g) (letterOf s ∷ u) n
   one-more {s} {p} rule w room e c = record {
     steps = s ∷ c .steps;
     letters = ap (letterOf s ∷_) (c .letters);
@@ -75,8 +76,9 @@ module _ (ls : Labels) (r d : ℕ) {g : Judgment} (fits : Fits ls (sequent r d g
     spells = λ rest. Spells.goes rule room (c .spells rest);
   }
 
-  two-more : {s : Step} {p₁ p₂ : Branch} {u₁ u₂ : List Letter} {v₁ v₂ n : ℕ} → Rule (named ls) r d s g (premises p₁ p₂) → Writable s
-      → n ≡ news p₁ + news p₂ + (v₁ + v₂) → Room ls p₁ → (c : Lines (begun ls p₁) (beginning ls r p₁) u₁ v₁)
+  two-more : {s : Step} {p₁ p₂ : Branch} {u₁ u₂ : List Letter} {v₁ v₂ n : ℕ}
+      → Rule (named ls) r d s g (premises p₁ p₂) → Writable s → n ≡ news p₁ + news p₂ + (v₁ + v₂)
+      → Room ls p₁ → (c : Lines (begun ls p₁) (beginning ls r p₁) u₁ v₁)
       → Room (c .after) p₂ → Lines (begun (c .after) p₂) (beginning (c .after) r p₂) u₂ v₂
       → Lines ls (sequent r d g) (letterOf s ∷ (u₁ ++ u₂)) n
   two-more {s} {p₁} {p₂} rule w e room₁ c room₂ b = record {
@@ -91,7 +93,8 @@ module _ (ls : Labels) (r d : ℕ) {g : Judgment} (fits : Fits ls (sequent r d g
         (sym (append-assoc (c .steps) (b .steps) rest)) (c .spells (b .steps ++ rest))) room₂ (b .spells rest);
   }
 
-  pub going : {s : Step} {p : Branch} {R D : List Hyp} {u : List Letter} {v n : ℕ} → Rule (named ls) r d s g (premise p) → Writable s
+  pub going : {s : Step} {p : Branch} {R D : List Hyp} {u : List Letter} {v n : ℕ}
+      → Rule (named ls) r d s g (premise p) → Writable s
       → Spelled R D (p .goal) u v → Within R (p .joins ++ hyps ls r) → Perm D (p .linears ++ hyps ls (p .linear))
       → n ≡ news p + v → length ls + n ≤ maxLabels → Lines ls (sequent r d g) (letterOf s ∷ u) n
   going {p = p} rule w ih sub m e room =
@@ -117,7 +120,8 @@ module _ (ls : Labels) (r d : ℕ) {g : Judgment} (fits : Fits ls (sequent r d g
       → Perm D (p₁ .linears ++ hyps ls (p₁ .linear))
       → Spelled R E (p₂ .goal) u₂ v₂ → Within R (p₂ .joins ++ hyps ls r)
       → Perm E (p₂ .linears ++ hyps ls (p₂ .linear))
-      → n ≡ news p₁ + news p₂ + (v₁ + v₂) → length ls + n ≤ maxLabels → Lines ls (sequent r d g) (letterOf s ∷ (u₁ ++ u₂)) n
+      → n ≡ news p₁ + news p₂ + (v₁ + v₂) → length ls + n ≤ maxLabels
+      → Lines ls (sequent r d g) (letterOf s ∷ (u₁ ++ u₂)) n
   parting {p₁ = p₁} rule w ih₁ sub₁ m₁ ih₂ sub₂ m₂ e room =
       second rule w ih₂ sub₂ m₂ e room
       (entering ls (ext-refl ls) p₁ (lowers rule .0) (omega (arith, length-begun ls p₁)) ih₁ sub₁ m₁)
