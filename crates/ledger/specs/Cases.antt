@@ -165,3 +165,15 @@ tallies =
     ("withdraw,2\n" ⇒ accepted 2) ∷
     ("withdraw,2\n" ⇒ refused 24) ∷
     ("tally,7,5\n" ⇒ ok (0 ∷ 0 ∷ 1 ∷ [])) ∷ []
+
+-- All of them
+
+unfoldable pub AllAnswered : List (List Turn) → Type 0
+AllAnswered [] = Unit {0}
+AllAnswered (c ∷ cs) = Answered c × AllAnswered cs
+
+abbrev pub cases : List (List Turn)
+cases = form ∷ order ∷ bookings ∷ arrows ∷ arms ∷ labels ∷ tallies ∷ []
+
+abbrev pub CasesPlay : Type 0
+CasesPlay = AllAnswered cases
