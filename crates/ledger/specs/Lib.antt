@@ -6,3 +6,4 @@ pub mod Bounds
 pub mod Statements
 pub mod Sessions
 pub mod Cases
+pub mod StepCases
