@@ -1,4 +1,4 @@
--- M1 to M9, by computation.
+-- M1 to M10, by computation.
 use mathlib.Core.Path.{refl}
 use Rattle.ledger.specs.Sessions.{Plays, AllPlay, SessionsPlay, times, counting, M10}
 use Rattle.ledger.proofs.Compute.{played}
@@ -7,6 +7,6 @@ pub sessions-play : SessionsPlay
 unfolding played Plays AllPlay
 sessions-play = (refl, (refl, (refl, (refl, (refl, (refl, (refl, (refl, (refl, tt)))))))))
 
-pub m10 : Plays M10
+pub m10-plays : Plays M10
 unfolding played Plays times counting
-m10 = refl
+m10-plays = refl

@@ -7,3 +7,4 @@ pub mod Statements
 pub mod Sessions
 pub mod Cases
 pub mod StepCases
+pub mod LastSerials

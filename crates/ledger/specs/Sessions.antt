@@ -1,4 +1,4 @@
--- Document 01's sessions M1 to M9: inputs, as the bytes of the requests, with their answers.
+-- Document 01's sessions M1 to M10: inputs, as the bytes of the requests, with their answers.
 use mathlib.Core.Path.{_≡_}
 use mathlib.Core.List.{List, [], _∷_, _++_, map}
 use Prim.Native.Nat.{ℕ, zero, suc}

@@ -1,11 +1,10 @@
 -- Sessions for the steps: each step word where it is right, and where a slip in its rule would be seen. Document 01's
 -- section "Steps" is quoted.
 use mathlib.Core.List.{List, [], _∷_, _++_}
-use Prim.Native.Nat.{ℕ}
 use Prim.Native.String.{String}
 use Rattle.ledger.specs.Calls.{Told}
 use Rattle.ledger.specs.Sessions.{times}
-use Rattle.ledger.specs.Cases.{Turn, _⇒_, _⇛_, accepted, refused, AllAnswered}
+use Rattle.ledger.specs.Cases.{Turn, _⇒_, _⇛_, accepted, AllAnswered}
 
 -- Two free atoms, 0 and 1, and a formula 2. Serial 1 is formula 2, unrestricted; 2 and 3 are the atoms, linear; all at
 -- 0..9.

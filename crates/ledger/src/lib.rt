@@ -4,8 +4,10 @@
 
 ghost use Rattle.ledger.specs.Bounds.{AlwaysBounded};
 ghost use Rattle.ledger.specs.Statements.{Refusals};
-ghost use Rattle.ledger.specs.Sessions.{SessionsPlay};
+ghost use Rattle.ledger.specs.Sessions.{SessionsPlay, Plays, M10};
 ghost use Rattle.ledger.specs.Cases.{CasesPlay};
+ghost use Rattle.ledger.specs.StepCases.{StepCasesPlay};
+ghost use Rattle.ledger.specs.LastSerials.{IdleGiven, LastSerialsPlay};
 
 // A credential (document 01: a coupon): its serial, its kind, its formula's number (wording) and its interval (window).
 pub struct Credential {
@@ -35,12 +37,16 @@ pub fn refusals()
     ensures { λ _. ⌜ Refusals ⌝ }
 {}
 
-// Document 01's sessions M1 to M9.
+// Document 01's sessions: M1 to M9, and M10.
 pub fn sessions_play()
-    ensures { λ _. ⌜ SessionsPlay ⌝ }
+    ensures to_m9 { λ _. ⌜ SessionsPlay ⌝ }
+    ensures m10 { λ _. ⌜ Plays M10 ⌝ }
 {}
 
-// Further sessions.
+// Further sessions: form, order, holds and tallies; every step word; the last serials, and that calls lead there.
 pub fn cases_play()
-    ensures { λ _. ⌜ CasesPlay ⌝ }
+    ensures cases { λ _. ⌜ CasesPlay ⌝ }
+    ensures steps { λ _. ⌜ StepCasesPlay ⌝ }
+    ensures given { λ _. ⌜ IdleGiven ⌝ }
+    ensures serials { λ _. ⌜ LastSerialsPlay ⌝ }
 {}
