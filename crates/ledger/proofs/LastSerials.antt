@@ -1,5 +1,5 @@
--- The last serials: the sessions by computation, and calls that lead there, one credential issued and withdrawn for each
--- serial.
+-- The last serials: the sessions by computation, and calls that lead there, which issue and withdraw a credential for
+-- each serial before.
 use mathlib.Core.Path.{_≡_, refl, ap, _∙_}
 use mathlib.Core.List.{List, [], _∷_}
 use mathlib.Core.Option.{none, some}
@@ -81,7 +81,8 @@ after-rounds (suc k) n h l =
 
 pub idle-given : IdleGiven
 unfolding played after
-idle-given n l = (bytes "word,a,9,7\n" ∷ rounds n 1, after-rounds n 1 (omega arith) (omega arith) ∙ ap idle (omega arith))
+idle-given n l =
+    (bytes "word,a,9,7\n" ∷ rounds n 1, after-rounds n 1 (omega arith) (omega arith) ∙ ap idle (omega arith))
 
 pub last-serials-play : LastSerialsPlay
 unfolding played AnsweredFrom given

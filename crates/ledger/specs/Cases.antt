@@ -86,7 +86,7 @@ start =
     ("issue,r,1,0,9\n" ⇒ accepted 3) ∷ []
 
 -- "All holds pass 24 before 31 is tried"; 31 of both kinds; 30 before both; a step's window is 3; a label out of range
--- is 2, one never taken 40; more lines than announced are 2.
+-- is 2, one never taken 40; more lines than announced are 2; of lines that follow the close the first is 42.
 abbrev pub bookings : List Turn
 bookings =
     start ++
@@ -98,7 +98,7 @@ bookings =
     (("book,5,0,0,9,1,1" ∷ "hold,1" ∷ "ax,64" ∷ []) ⇛ refused 2) ∷
     (("book,5,0,0,9,1,1" ∷ "hold,1" ∷ "ax,63" ∷ []) ⇛ Told.no 40 1) ∷
     (("book,5,0,0,9,1,1" ∷ "hold,1" ∷ "ax,0" ∷ "ax,0" ∷ []) ⇛ refused 2) ∷
-    (("book,5,0,0,9,1,2" ∷ "hold,1" ∷ "ax,0" ∷ "ax,0" ∷ []) ⇛ Told.no 42 2) ∷
+    (("book,5,0,0,9,1,3" ∷ "hold,1" ∷ "ax,0" ∷ "ax,9" ∷ "ax,0" ∷ []) ⇛ Told.no 42 2) ∷
     (("book,5,2,0,9,1,2" ∷ "hold,2" ∷ "sr" ∷ "sl,0" ∷ []) ⇛ Told.no 42 3) ∷
     (("book,5,0,0,9,2,1" ∷ "hold,1" ∷ "hold,2" ∷ "ax,0" ∷ []) ⇛ Told.no 40 1) ∷
     (("book,5,3,0,9,1,4" ∷ "hold,2" ∷ "sr" ∷ "sl,0" ∷ "af" ∷ "ax,1" ∷ []) ⇛ Told.no 40 2) ∷

@@ -117,16 +117,18 @@ lollies =
     (("book,3,1,3,4,2,4" ∷ "hold,1" ∷ "hold,4" ∷ "cp,0" ∷ "ll,2,0000000000000002,3,4" ∷ "ax,1" ∷ "ax,3"
     ∷ []) ⇛ accepted 5) ∷ []
 
--- "A ⊃ B; the same, but A from an empty D": the linear atom cannot prove the left of ⊃, an unrestricted one can. B is
--- at J.
+-- "A ⊃ B; the same, but A from an empty D": the linear atom cannot prove the left of ⊃, an unrestricted one can. A
+-- and B are at J.
 abbrev pub arrows : List Turn
 arrows =
     offers "word,u,0,1\n" ++
     ("issue,r,0,0,9\n" ⇒ accepted 4) ∷
+    ("issue,r,0,3,4\n" ⇒ accepted 5) ∷
     (("book,5,1,0,9,2,4" ∷ "hold,1" ∷ "hold,2" ∷ "cp,0" ∷ "ul,2,0,9" ∷ "ax,1" ∷ "ax,3" ∷ []) ⇛ Told.no 40 3) ∷
     (("book,5,1,0,9,2,5" ∷ "hold,1" ∷ "hold,4" ∷ "cp,0" ∷ "ul,2,5,10" ∷ "cp,1" ∷ "ax,3" ∷ "ax,4" ∷ []) ⇛ Told.no 40 2) ∷
     (("book,5,1,0,9,2,5" ∷ "hold,1" ∷ "hold,4" ∷ "cp,0" ∷ "ul,2,3,4" ∷ "cp,1" ∷ "ax,3" ∷ "ax,4" ∷ []) ⇛ Told.no 40 5) ∷
-    (("book,5,1,0,9,2,5" ∷ "hold,1" ∷ "hold,4" ∷ "cp,0" ∷ "ul,2,0,9" ∷ "cp,1" ∷ "ax,3" ∷ "ax,4" ∷ []) ⇛ accepted 5)
+    (("book,5,1,0,9,2,5" ∷ "hold,1" ∷ "hold,4" ∷ "cp,0" ∷ "ul,2,0,9" ∷ "cp,1" ∷ "ax,3" ∷ "ax,4" ∷ []) ⇛ accepted 6) ∷
+    (("book,3,1,3,4,2,5" ∷ "hold,1" ∷ "hold,5" ∷ "cp,0" ∷ "ul,2,3,4" ∷ "cp,1" ∷ "ax,3" ∷ "ax,4" ∷ []) ⇛ accepted 7)
     ∷ []
 
 -- `br`: "!, D empty, then the part." `bl`: "the part joins R", for its own premise: the second premise of a step before
