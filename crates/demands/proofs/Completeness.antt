@@ -39,7 +39,7 @@ use Rattle.ledger.specs.Calls.{ok, accept, says}
 use Rattle.ledger.specs.Statements.{Pass, FirstFails}
 use Rattle.ledger.proofs.Answers.{some-inj, heard}
 use Rattle.ledger.proofs.Credentials.{take-out, any-none, Alive, held-length}
-use Rattle.ledger.proofs.Bounds.{Rises, Bounded}
+use Rattle.ledger.specs.Bounds.{Rises, Bounded}
 use Rattle.ledger.proofs.Firsts.{if-false, if-true, skip, hit, not-true}
 use Rattle.demands.specs.Demands.{hyp, startLabels, booking, StepsComplete, May, PastSteps, Completeness}
 use Rattle.demands.proofs.Demand1.{demand-1, call-accepts}

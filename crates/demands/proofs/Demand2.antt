@@ -31,7 +31,7 @@ use Rattle.ledger.specs.Checks.{steps}
 use Rattle.ledger.specs.Checks.{any, bookingSequent}
 use Rattle.ledger.proofs.Answers.{some-none, some-inj}
 use Rattle.ledger.proofs.Credentials.{any-none, held-length}
-use Rattle.ledger.proofs.Tables.{Tabled}
+use Rattle.ledger.specs.Bounds.{Tabled}
 use Rattle.demands.specs.Demands.{hyp, startLabels, startSequent, Derivation}
 use Rattle.demands.proofs.Start.{unrolls, start}
 

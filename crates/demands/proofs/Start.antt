@@ -24,7 +24,7 @@ use Rattle.ledger.specs.declared.Credential.{Credential}
 use Rattle.ledger.specs.Table.{form, rowOf}
 use Rattle.ledger.specs.Ledger.{Ledger, formula, row, isKind}
 use Rattle.ledger.specs.Checks.{LabelTable, noLabels, writeLabel, hypothesis, labelsOf}
-use Rattle.ledger.proofs.Tables.{lineAt, Tabled}
+use Rattle.ledger.specs.Bounds.{lineAt, Tabled}
 use Rattle.demands.specs.Demands.{hyp, hypsOf, startLabels}
 
 -- The formulas of a ledger unroll the rows of its lines.
