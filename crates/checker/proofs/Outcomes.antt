@@ -11,6 +11,7 @@ use Rattle.steps.specs.Check.{Beginning, full, begun, begin, done, stopped, jud
 use Rattle.steps.specs.Check.{premiseOf, checkOf}
 use Rattle.steps.specs.Check.{Outcome as Result}
 use Rattle.steps.specs.Plans.{planOf}
+use Rattle.ledger.specs.Checks.{verdict}
 use Rattle.cells.specs.Layout.{rowAt}
 use Rattle.tables.specs.Held.{heldAt, putHeld}
 use Rattle.tables.specs.declared.StepRow.{StepRow}
@@ -131,6 +132,7 @@ answers-is : {o o′ : Result (List ℕ)} {r : Checked} {t : List ℕ} → o ≡
 answers-is {r = r} {t} x a = subst (λ (y : Result (List ℕ)). Answers y r t) (sym x) a
 
 answers-stopped : {c n : ℕ} {t : List ℕ} → Answers (stopped c n) (IsStopped c n) t
+unfolding verdict
 answers-stopped = record { same = refl; closes = λ x. let z : _≡_ {A = ℕ} 0 1 = cc in absurd (omega arith) }
 
 module _ {store steps t t′ : List ℕ} {total next : ℕ} {q : Sequent} {o : Outcome}
@@ -152,7 +154,7 @@ module _ {store steps t t′ : List ℕ} {total next : ℕ} {q : Sequent} {o : O
   whole-stops x = answers-is (outcome x) answers-stopped
 
   pub whole-closes : {left free : ℕ} → o ≡ Done left free → left ≡ 0 → Answers checked IsClosed t′
-  unfolding finished stepsFrom
+  unfolding finished stepsFrom verdict
   whole-closes {left} {free} x z =
       let y : finished total (told e (Done left free) t′) ≡ done [] t′ free = simp z in
       answers-is (outcome x ∙ y) (record { same = refl; closes = λ _. (free, refl) })

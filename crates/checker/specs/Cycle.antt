@@ -1,12 +1,14 @@
 -- What the premise checker, the step checker and `check` answer, as the definition's outcome.
 use mathlib.Core.Path.{_≡_}
 use mathlib.Core.List.{List, []}
+use mathlib.Core.Option.{none, some}
 use Prim.Native.Nat.{ℕ, _-_, _≤_}
 use Rattle.request.specs.Request.{Step}
 use Rattle.steps.specs.declared.Sequent.{Sequent}
 use Rattle.steps.specs.declared.Plan.{Plan}
 use Rattle.steps.specs.Check.{Judge, done, stopped, follow, premiseOf}
 use Rattle.steps.specs.Check.{Outcome as Result}
+use Rattle.ledger.specs.Checks.{Check, verdict}
 use Rattle.cells.specs.Layout.{rowAt}
 use Rattle.tables.specs.Held.{heldAt, putHeld}
 use Rattle.tables.specs.Lines.{stepsFrom}
@@ -55,11 +57,12 @@ pub record Fits (total left : ℕ) : Type 0 where
   pub among : left ≤ total
   pub few : total ≤ 256
 
--- `check` tells the outcome: stopped, with the refusal's number and step, or closed, with t the table after
-abbrev pub toldChecked : Result (List ℕ) → Checked
-toldChecked (done ss t next) = Closed
-toldChecked (stopped c n) = StoppedAt c n
+-- What `check` answers, as document 01's check of the steps: it passes, or gives its refusal, 40 to 42, with its step.
+abbrev pub refusalOf : Checked → Check
+refusalOf Closed = none
+refusalOf (StoppedAt c n) = some (record { number = c; step = n })
 
+-- an answer r is the definition's outcome o, with t the table after where the steps close the sequent
 pub record Answers (o : Result (List ℕ)) (r : Checked) (t : List ℕ) : Type 0 where
-  pub same : r ≡ toldChecked o
+  pub same : refusalOf r ≡ verdict o
   pub closes : r ≡ Closed → (n : ℕ) × (o ≡ done [] t n)
