@@ -8,6 +8,8 @@ use Rattle.steps.specs.declared.Sequent.{Sequent}
 use Rattle.steps.specs.declared.Plan.{Plan}
 use Rattle.steps.specs.Check.{Judge, done, stopped, follow, premiseOf}
 use Rattle.steps.specs.Check.{Outcome as Result}
+use Rattle.ledger.specs.declared.Answer.{Answer}
+use Rattle.ledger.specs.declared.Answer.the-variants.{Refused}
 use Rattle.ledger.specs.Checks.{Check, verdict}
 use Rattle.cells.specs.Layout.{rowAt}
 use Rattle.tables.specs.Held.{heldAt, putHeld}
@@ -61,6 +63,12 @@ pub record Fits (total left : ℕ) : Type 0 where
 abbrev pub refusalOf : Checked → Check
 refusalOf Closed = none
 refusalOf (StoppedAt c n) = some (record { number = c; step = n })
+
+-- "the first to fail answers, with its step": a call's answer where that check fails; one that passes answers nothing,
+-- written here as 0, 0
+abbrev pub refusedBy : Check → Answer
+refusedBy (some f) = Refused (f .number) (f .step)
+refusedBy none = Refused 0 0
 
 -- an answer r is the definition's outcome o, with t the table after where the steps close the sequent
 pub record Answers (o : Result (List ℕ)) (r : Checked) (t : List ℕ) : Type 0 where

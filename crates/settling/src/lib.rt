@@ -10,10 +10,8 @@ use steps::Sequent;
 use store::Store;
 use verdicts::Verdict;
 ghost use mathlib.Core.Path.{_≡_};
-ghost use mathlib.Core.Option.{some};
 ghost use Rattle.premises.specs.Begin.{sequent};
-ghost use Rattle.ledger.specs.Checks.{Refusal};
-ghost use Rattle.checker.specs.Cycle.{refusalOf};
+ghost use Rattle.checker.specs.Cycle.{refusalOf, refusedBy};
 ghost use Rattle.calls.specs.Handled.{Handled};
 ghost use Rattle.judging.specs.Booking.{bookingAt, Steppable};
 
@@ -31,9 +29,9 @@ fn opening(head: Head, sides: Sides) -> Sequent
     }
 }
 
-// The refusal of steps that are stopped; closed ones have none, and are not asked for it.
+// The refusal of steps that are stopped; it is not asked for where they are closed.
 fn refusal(c: Checked) -> Answer
-    ensures { λ r. ⌜ (f : Refusal) → refusalOf c ≡ some f → r ≡ Answer.Refused (f .number) (f .step) ⌝ }
+    ensures { λ r. ⌜ r ≡ refusedBy (refusalOf c) ⌝ }
 {
     match c {
         Checked::Stopped(number, step) => Answer::Refused(number, step),
