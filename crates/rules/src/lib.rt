@@ -101,6 +101,6 @@ pub fn rule(store: &Store, table: &[u32; 192], q: Sequent, s: StepRow) -> Plan
             Goal::Affirms(_, _, _) => Plan::Refused,
         },
         11 => left_steps::cp(table, q, s.label),
-        _ => at_left(store, table, q, s),
+        12.. => at_left(store, table, q, s),
     }
 }

@@ -3,8 +3,8 @@ use mathlib.Core.Path.{sym}
 use Rattle.premises.proofs.Beginnings.{nothing-full, nothing-begins, linear-full, linear-begins}
 use Rattle.premises.proofs.Beginnings.{unrestricted-full, unrestricted-begins, both-full, both-begins}
 use borrow.Author.Needs.{needs}
-use Rattle.premises.proofs.begin.begin.Statement.{statement}
-use Rattle.premises.proofs.begin.begin.Tie as tie
+use Rattle.premises.proofs.begin.Statement.{statement}
+use Rattle.premises.proofs.begin.Tie as tie
 
 returns : tie.Need-returns
 returns c = sym (nothing-full _ _ _ _ (c .before .enum-told .given .1) (c .if1 .taken))
