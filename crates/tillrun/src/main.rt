@@ -11,7 +11,6 @@ ghost use mathlib.Core.Path.{_≡_};
 ghost use lib.ListN.{length};
 ghost use Rattle.ledger.specs.Ledger.{empty};
 ghost use Rattle.store.specs.Store.{StandsFor};
-ghost use Rattle.judging.specs.Booking.{Lent};
 ghost use Rattle.stream.specs.Stream.{Ready};
 ghost use Rattle.tillrun.specs.Program.{Turned, Played};
 
@@ -51,10 +50,9 @@ fn next_piece(
     piece: &mut [u8],
     turn: Turn,
 ) -> Turn
-    requires { ⌜ Ready (now till) (now begun) (now text) (turn .place) (length (now piece)) × Lent (now rows) ⌝ }
+    requires { ⌜ Ready (now till) (now begun) (now text) (turn .place) (length (now piece)) ⌝ }
     ensures { λ r. ⌜ Turned (now (till .entry)) (now (begun .entry)) (now (text .entry)) turn
         (now (till .exit)) (now (begun .exit)) (now (text .exit)) (now (piece .exit)) r ⌝ }
-    ensures { λ _. ⌜ Lent (now (rows .exit)) ⌝ }
 {
     let input = console::receive(turn.input, piece);
     let n = console::got(input);
@@ -79,7 +77,7 @@ fn play(
     text: &mut Text,
     piece: &mut Piece,
 ) -> Run
-    requires { ⌜ StandsFor (now till) empty × Lent (now rows) ⌝ }
+    requires { ⌜ StandsFor (now till) empty ⌝ }
     ensures { λ r. ⌜ Played (r .input) (r .output) ⌝ }
 {
     sized(*begun, *text, *piece);

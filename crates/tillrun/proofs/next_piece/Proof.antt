@@ -23,29 +23,24 @@ feed-requires : tie.Need-feed-requires
 feed-requires c κs =
     let got = c .before .before .before .before .before in
     let receive = got .before .before .before in
-    let start = receive .before .before .before .before .before in (
-      ready-for _ _ (start .pre .0)
-          (omega (
-            arith,
-            start .pre .0 .text,
-            inside got,
-            receive .receive .kept .1 .0,
-            length-take-le (got .got .result) (receive .receive .last .1 .0) (inside got),
-          )),
-      start .pre .1,
-    )
+    let start = receive .before .before .before .before .before in
+    ready-for _ _ (start .pre)
+    (omega (
+      arith,
+      start .pre .text,
+      inside got,
+      receive .receive .kept .1 .0,
+      length-take-le (got .got .result) (receive .receive .last .1 .0) (inside got),
+    ))
 
 returns : tie.Need-returns
 returns c =
     let fed = c .before .before .before .before .before .before in
     let got = fed .before .before .before .before .before .before in
     let receive = got .before .before .before in
-    let start = receive .before .before .before .before .before in (
-      turned (omega (arith, fed .feed .kept .1 .1 .1 .0, receive .receive .kept .1 .0, start .pre .0 .text))
-          (fed .feed .ensures .0) (got .got .ensures) (receive .receive .ensures) (c .send .ensures .0)
-          (c .send .ensures .1),
-      fed .feed .ensures .1,
-    )
+    let start = receive .before .before .before .before .before in
+    turned (omega (arith, fed .feed .kept .1 .1 .1 .0, receive .receive .kept .1 .0, start .pre .text))
+    (fed .feed .ensures) (got .got .ensures) (receive .receive .ensures) (c .send .ensures .0) (c .send .ensures .1)
 
 pub next-piece-spec : {M : Type 1} → statement M
 next-piece-spec =

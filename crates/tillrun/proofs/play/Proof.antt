@@ -6,7 +6,6 @@ use Prim.Native.Nat.{_-_}
 use native.Mathlib.Omega.{arith}
 use lib.ListN.{length}
 use borrow.Author.Needs.{needs}
-use Rattle.judging.specs.Booking.{Lent}
 use Rattle.stream.proofs.Pieces.{ready-for}
 use Rattle.tillrun.specs.Console.{manyReads, Stopped, GoesOn}
 use Rattle.tillrun.specs.Program.{Going}
@@ -16,7 +15,7 @@ use Rattle.tillrun.proofs.play.Tie as tie
 
 abbrev Inv-loop : tie.InvT-loop
 Inv-loop till₀ rows₀ begun₀ text₀ piece₀ turn₀ till rows begun text piece turn =
-    Going till begun text turn (length piece) × ((length piece ≡ 16384) × Lent rows)
+    Going till begun text turn (length piece) × (length piece ≡ 16384)
 
 abbrev μ-loop : tie.MeasureT-loop
 μ-loop till₀ rows₀ begun₀ text₀ piece₀ turn₀ till rows begun text piece turn = manyReads - turn .input .reads
@@ -25,28 +24,27 @@ loop-holds : tie.Need-loop-holds Inv-loop μ-loop
 loop-holds c =
     let sized = c .before .before in
     let start = sized .before .before .before .before in (
-      going-start _ (start .pre .0) (sized .sized .ensures .0)
+      going-start _ (start .pre) (sized .sized .ensures .0)
           (omega (arith, sized .sized .ensures .1 .0, sized .sized .ensures .1 .1)) (c .before .reading .ensures)
           (c .writing .ensures),
-      (sized .sized .ensures .1 .1, start .pre .1),
+      sized .sized .ensures .1 .1,
     )
 
 next-piece-requires : tie.Need-next-piece-requires Inv-loop μ-loop
 next-piece-requires c κs =
-    let inv = c .before .before .before .before .before .before .before .loop .inv in
-    (inv .0 .ready, inv .1 .1)
+    c .before .before .before .before .before .before .before .loop .inv .0 .ready
 
 loop-less : tie.Need-loop-less Inv-loop μ-loop
 loop-less c =
     let test = c .before .before .before .before .before .before in
     fewer (subst (GoesOn _ _) (test .if1 .taken) (test .before .goes-on .ensures))
-    (c .next-piece .ensures .0 .received .reads)
+    (c .next-piece .ensures .received .reads)
 
 loop-again : tie.Need-loop-again Inv-loop μ-loop
 loop-again c =
     let inv = c .before .before .before .before .before .before .before .before .loop .inv in (
-      going-on (inv .0) (c .next-piece .ensures .0),
-      (c .next-piece .kept .1 .1 .1 .1 .0 ∙ inv .1 .0, c .next-piece .ensures .1),
+      going-on (inv .0) (c .next-piece .ensures),
+      c .next-piece .kept .1 .1 .1 .1 .0 ∙ inv .1,
     )
 
 -- why the loop was left
@@ -62,7 +60,7 @@ returns c =
 finish-requires : tie.Need-finish-requires Inv-loop μ-loop
 finish-requires c κs =
     let inv = c .before .before .before .before .before .before .before .before .before .before .before .loop .inv in
-    (ready-for _ 1 (inv .0 .ready) (omega (arith, inv .0 .ready .text, inv .1 .0)), inv .1 .1)
+    ready-for _ 1 (inv .0 .ready) (omega (arith, inv .0 .ready .text, inv .1))
 
 send-requires : tie.Need-send-requires Inv-loop μ-loop
 send-requires c κs = omega (arith, c .before .before .finish .ensures .text)
