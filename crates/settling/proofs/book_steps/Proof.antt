@@ -1,4 +1,5 @@
 -- `book_steps` meets its contract.
+use native.Mathlib.Omega.{arith}
 use borrow.Author.Needs.{needs}
 use Rattle.verdicts.proofs.Laws.{by-verdict}
 use Rattle.judging.proofs.Judged.{steps-told}
@@ -7,7 +8,7 @@ use Rattle.settling.proofs.book_steps.Statement.{statement}
 use Rattle.settling.proofs.book_steps.Tie as tie
 
 check-requires : tie.Need-check-requires
-check-requires c κs = c .before .before .before .pre .before .lines .steps
+check-requires c κs = omega (arith, c .before .before .before .pre .before .lines .steps)
 
 returns : tie.Need-returns
 returns c =
