@@ -10,7 +10,7 @@ ghost use Prim.Native.Nat.{_≤_};
 ghost use lib.ListN.{length, drop};
 ghost use Rattle.request.specs.Read.{holdLine, stepLine};
 ghost use Rattle.logic.specs.Choice.{pick};
-ghost use Rattle.booking_lines.specs.Booking.{LinesAsked, readLines, holdsOf, turned, allLines, StepsIs};
+ghost use Rattle.booking_lines.specs.Booking.{LinesAsked, readLines, holdsOf, turned, allLines, StepsIs, BookingLines};
 
 // The hold lines of a booking were read, and the position after them.
 pub enum HoldsRead {
@@ -94,3 +94,9 @@ pub fn read_steps(s: &[u8], count: u32, rows: &mut [u32; 1536]) -> StepsRead
     }
     StepsRead::Read(0 < reversed)
 }
+
+// What the two readers say together: the request of a booking is the one of its head, its holds and its steps, or none.
+// The function does nothing: its `ensures` is the point.
+pub fn lines_of_a_booking()
+    ensures { λ _. ⌜ BookingLines ⌝ }
+{}
