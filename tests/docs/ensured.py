@@ -45,7 +45,7 @@ def named(column, path):
 
 
 def stated(path, name):
-    return re.search(rf"^(?:(?:abbrev|unfoldable) )?pub (?:record |data )?{re.escape(name)}(?=[ :])", read(path), re.M)
+    return re.search(rf"^\s*(?:(?:abbrev|unfoldable) )?pub (?:record |data )?{re.escape(name)}(?=[ :])", read(path), re.M)
 
 
 def ensures(path, name):
