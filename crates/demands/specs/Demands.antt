@@ -101,7 +101,8 @@ pub record StepsFor (t : Ledger) (n : ℕ) (i : Interval) (hs : List ℕ) (rules
   pub writable : Every Writable lines
   pub pass : (now : ℕ) → stepsOf t (booking now n i hs lines) ≡ none
 
--- every derivation within the limits has step lines that pass, whatever its goal and the booking's minute
+-- every derivation within the limits has step lines that pass, whatever its goal and the booking's minute; the limit of
+-- 32 credentials is not needed here
 abbrev pub StepsComplete : Type 0
 StepsComplete = (t : Ledger) → Reached t → (n : ℕ) (i : Interval) (hs : List ℕ)
     → (x : Derivation t (held (t .live) hs) n i) → WithinLimits (length hs) x → StepsFor t n i hs (letters x)
