@@ -39,5 +39,5 @@ abbrev pub Stopped : Input → Output → Type 0
 Stopped i u = (i .ended ≡ true) ⊎ ((u .failed ≡ true) ⊎ (manyReads ≤ i .reads))
 
 abbrev pub GoesOn : Input → Output → Bool → Type 0
-GoesOn i u true = i .reads < manyReads
+GoesOn i u true = (i .ended ≡ false) × ((u .failed ≡ false) × (i .reads < manyReads))
 GoesOn i u false = Stopped i u

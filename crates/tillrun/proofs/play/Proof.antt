@@ -39,7 +39,7 @@ next-piece-requires c κs =
 loop-less : tie.Need-loop-less Inv-loop μ-loop
 loop-less c =
     let test = c .before .before .before .before .before .before in
-    fewer (subst (GoesOn _ _) (test .if1 .taken) (test .before .goes-on .ensures))
+    fewer (subst (GoesOn _ _) (test .if1 .taken) (test .before .goes-on .ensures) .1 .1)
     (c .next-piece .ensures .0 .received .reads)
 
 loop-again : tie.Need-loop-again Inv-loop μ-loop

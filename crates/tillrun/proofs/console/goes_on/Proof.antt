@@ -10,14 +10,16 @@ use Rattle.tillrun.specs.Console.{manyReads, GoesOn}
 use Rattle.tillrun.proofs.console.goes_on.Statement.{statement}
 use Rattle.tillrun.proofs.console.goes_on.Tie as tie
 
-by-count : (i : Input) (u : Output) (b : Bool) → ltb (i .reads) manyReads ≡ b → GoesOn i u b
-by-count i u true e = ltb-true _ _ e
-by-count i u false e = inr (inr (ltb-false _ _ e))
+by-count : (i : Input) (u : Output) → i .ended ≡ false → u .failed ≡ false → (b : Bool) → ltb (i .reads) manyReads ≡ b
+    → GoesOn i u b
+by-count i u e f true g = (e, (f, ltb-true _ _ g))
+by-count i u e f false g = inr (inr (ltb-false _ _ g))
 
 returns-3 : tie.Need-returns-3
 returns-3 c =
-    let start = c .before .before .before in
-    by-count (start .args .input) (start .args .output) _ refl
+    let failed = c .before in
+    let start = failed .before .before in
+    by-count (start .args .input) (start .args .output) (failed .before .if1 .left) (failed .if2 .left) _ refl
 
 pub goes-on-spec : {M : Type 1} → statement M
 goes-on-spec = tie.close (tie.spec (λ c. inl (c .if1 .taken)) (λ c. inr (inl (c .if2 .taken))) returns-3)
