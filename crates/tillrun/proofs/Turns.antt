@@ -16,10 +16,10 @@ use Rattle.print.specs.Printed.{printed, longest}
 use Rattle.sheets.specs.Sheets.{splitFrom, most}
 use Rattle.stream.specs.declared.Place.{Place}
 use Rattle.stream.specs.Stream.{Stands, Took, Ended}
-use Rattle.tillrun.specs.declared.console.Input.{Input}
-use Rattle.tillrun.specs.declared.console.Output.{Output}
+use Rattle.console.specs.declared.Input.{Input}
+use Rattle.console.specs.declared.Output.{Output}
 use Rattle.tillrun.specs.declared.Turn.{Turn}
-use Rattle.tillrun.specs.Console.{unread, unwritten, Received, Sent, Stopped, manyReads}
+use Rattle.console.specs.Console.{unread, unwritten, Received, Sent, Stopped, manyReads}
 use Rattle.tillrun.specs.Program.{Turned, Through, Going, Played}
 
 pub turned : {l k o : List ℕ} {t : Turn} {l′ k′ o′ x′ : List ℕ} {q : Place} {i : Input} {u : Output} {n : ℕ}

@@ -1,7 +1,5 @@
 // `tillrun` (document 01, "Kiosk"): reads sheets from standard input and prints their answers, starting with an empty
 // till. What is read in one piece is answered and written before more input is waited for.
-mod console;
-
 use console::Input;
 use console::Output;
 use store::Store;

@@ -8,7 +8,7 @@ use lib.ListN.{length}
 use borrow.Author.Needs.{needs}
 use Rattle.judging.specs.Booking.{Lent}
 use Rattle.stream.proofs.Pieces.{ready-for}
-use Rattle.tillrun.specs.Console.{manyReads, Stopped, GoesOn}
+use Rattle.console.specs.Console.{manyReads, Stopped, GoesOn}
 use Rattle.tillrun.specs.Program.{Going}
 use Rattle.tillrun.proofs.Turns.{going-start, going-on, fewer, played-cut, played-whole}
 use Rattle.tillrun.proofs.play.Statement.{statement}

@@ -4,11 +4,11 @@ use mathlib.Core.Bool.{Bool, true, false}
 use mathlib.Core.Path.{_≡_, refl}
 use lib.Dec.{ltb}
 use borrow.Author.Tests.{ltb-true, ltb-false}
-use Rattle.tillrun.specs.declared.console.Input.{Input}
-use Rattle.tillrun.specs.declared.console.Output.{Output}
-use Rattle.tillrun.specs.Console.{manyReads, GoesOn}
-use Rattle.tillrun.proofs.console.goes_on.Statement.{statement}
-use Rattle.tillrun.proofs.console.goes_on.Tie as tie
+use Rattle.console.specs.declared.Input.{Input}
+use Rattle.console.specs.declared.Output.{Output}
+use Rattle.console.specs.Console.{manyReads, GoesOn}
+use Rattle.console.proofs.goes_on.Statement.{statement}
+use Rattle.console.proofs.goes_on.Tie as tie
 
 by-count : (i : Input) (u : Output) → i .ended ≡ false → u .failed ≡ false → (b : Bool) → ltb (i .reads) manyReads ≡ b
     → GoesOn i u b

@@ -4,7 +4,7 @@
 ghost use mathlib.Core.Path.{_≡_};
 ghost use Prim.Native.Nat.{_≤_};
 ghost use lib.ListN.{length};
-ghost use Rattle.tillrun.specs.Console.{unread, unwritten, Received, Sent, GoesOn};
+ghost use Rattle.console.specs.Console.{unread, unwritten, Received, Sent, GoesOn};
 
 // A descriptor to read from; the reads and the bytes read, both modulo 2^64; the bytes that the last read gave, and
 // whether it gave none.

@@ -5,8 +5,8 @@ use mathlib.Core.Logic.{_⊎_}
 use Prim.Native.Nat.{ℕ, _+_, _-_, _%_, _^_, _≤_, _<_}
 use lib.Dec.{eqb}
 use lib.IntN.{ℤ}
-use Rattle.tillrun.specs.declared.console.Input.{Input}
-use Rattle.tillrun.specs.declared.console.Output.{Output}
+use Rattle.console.specs.declared.Input.{Input}
+use Rattle.console.specs.declared.Output.{Output}
 
 -- nothing is read
 abbrev pub unread : ℤ → Input
