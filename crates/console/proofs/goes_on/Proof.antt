@@ -6,11 +6,11 @@ use lib.Dec.{ltb}
 use borrow.Author.Tests.{ltb-true, ltb-false}
 use Rattle.console.specs.declared.Input.{Input}
 use Rattle.console.specs.declared.Output.{Output}
-use Rattle.console.specs.Console.{manyReads, GoesOn}
+use Rattle.console.specs.Console.{mostReads, GoesOn}
 use Rattle.console.proofs.goes_on.Statement.{statement}
 use Rattle.console.proofs.goes_on.Tie as tie
 
-by-count : (i : Input) (u : Output) → i .ended ≡ false → u .failed ≡ false → (b : Bool) → ltb (i .reads) manyReads ≡ b
+by-count : (i : Input) (u : Output) → i .ended ≡ false → u .failed ≡ false → (b : Bool) → ltb (i .reads) mostReads ≡ b
     → GoesOn i u b
 by-count i u e f true g = (e, (f, ltb-true _ _ g))
 by-count i u e f false g = inr (inr (ltb-false _ _ g))

@@ -1,14 +1,13 @@
 -- The loop's invariant: the state stands for some bytes that were read and some that were written, as many as were
 -- noted. Its measure: the reads that are left.
-use mathlib.Core.Path.{_≡_, refl, sym, subst, _∙_}
-use mathlib.Core.Bool.{Bool}
+use mathlib.Core.Path.{_≡_, sym, subst, _∙_}
 use Prim.Native.Nat.{_-_}
 use native.Mathlib.Omega.{arith}
 use lib.ListN.{length}
 use borrow.Author.Needs.{needs}
 use Rattle.judging.specs.Booking.{Lent}
 use Rattle.stream.proofs.Pieces.{ready-for}
-use Rattle.console.specs.Console.{manyReads, Stopped, GoesOn}
+use Rattle.console.specs.Console.{mostReads, Stopped, GoesOn}
 use Rattle.tillrun.specs.Program.{Going}
 use Rattle.tillrun.proofs.Turns.{going-start, going-on, fewer, played-cut, played-whole}
 use Rattle.tillrun.proofs.play.Statement.{statement}
@@ -19,7 +18,7 @@ Inv-loop till₀ rows₀ begun₀ text₀ piece₀ turn₀ till rows begun text 
     Going till begun text turn (length piece) × ((length piece ≡ 16384) × Lent rows)
 
 abbrev μ-loop : tie.MeasureT-loop
-μ-loop till₀ rows₀ begun₀ text₀ piece₀ turn₀ till rows begun text piece turn = manyReads - turn .input .reads
+μ-loop till₀ rows₀ begun₀ text₀ piece₀ turn₀ till rows begun text piece turn = mostReads - turn .input .reads
 
 loop-holds : tie.Need-loop-holds Inv-loop μ-loop
 loop-holds c =
