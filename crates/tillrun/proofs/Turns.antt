@@ -16,10 +16,10 @@ use Rattle.print.specs.Printed.{printed, longest}
 use Rattle.sheets.specs.Sheets.{splitFrom, most}
 use Rattle.stream.specs.declared.Place.{Place}
 use Rattle.stream.specs.Stream.{Stands, Took, Ended}
-use Rattle.tillrun.specs.declared.console.Input.{Input}
-use Rattle.tillrun.specs.declared.console.Output.{Output}
+use Rattle.console.specs.declared.Input.{Input}
+use Rattle.console.specs.declared.Output.{Output}
 use Rattle.tillrun.specs.declared.Turn.{Turn}
-use Rattle.tillrun.specs.Console.{unread, unwritten, Received, Sent, Stopped, manyReads}
+use Rattle.console.specs.Console.{unread, unwritten, Received, Sent, Stopped, mostReads}
 use Rattle.tillrun.specs.Program.{Turned, Through, Going, Played}
 
 pub turned : {l k o : List ℕ} {t : Turn} {l′ k′ o′ x′ : List ℕ} {q : Place} {i : Input} {u : Output} {n : ℕ}
@@ -99,7 +99,7 @@ going-on {o′ = o′} {x′ = x′} {t′ = t′} g m = record {
 }
 
 -- the reads that are left
-pub fewer : {r r′ : ℕ} → r < manyReads → r′ ≡ (r + 1) % 2 ^ 64 → manyReads - r′ < manyReads - r
+pub fewer : {r r′ : ℕ} → r < mostReads → r′ ≡ (r + 1) % 2 ^ 64 → mostReads - r′ < mostReads - r
 fewer {r} {r′} h e = omega (arith, e ∙ mod-eq-of-lt {n = r + 1} {m = 2 ^ 64} (omega (arith, h)))
 
 module _ {l k o : List ℕ} {t : Turn} {n : ℕ} (g : Going l k o t n) (s : Stopped (t .input) (t .output)) where

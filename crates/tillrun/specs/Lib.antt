@@ -1,2 +1,1 @@
-pub mod Console
 pub mod Program

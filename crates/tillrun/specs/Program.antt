@@ -11,10 +11,10 @@ use Rattle.ledger.specs.Calls.{answers}
 use Rattle.print.specs.Printed.{printed}
 use Rattle.sheets.specs.Sheets.{split, sheetsOf}
 use Rattle.stream.specs.Stream.{Ready, Stands}
-use Rattle.tillrun.specs.declared.console.Input.{Input}
-use Rattle.tillrun.specs.declared.console.Output.{Output}
+use Rattle.console.specs.declared.Input.{Input}
+use Rattle.console.specs.declared.Output.{Output}
 use Rattle.tillrun.specs.declared.Turn.{Turn}
-use Rattle.tillrun.specs.Console.{Received, Sent, Stopped}
+use Rattle.console.specs.Console.{Received, Sent, Stopped}
 
 -- One read, and one write of what then waited. What was read is the front of the piece x′, what was written the front
 -- of the text o′.

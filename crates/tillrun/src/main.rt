@@ -1,7 +1,5 @@
 // `tillrun` (document 01, "Kiosk"): reads sheets from standard input and prints their answers, starting with an empty
 // till. What is read in one piece is answered and written before more input is waited for.
-mod console;
-
 use console::Input;
 use console::Output;
 use store::Store;
@@ -36,7 +34,8 @@ struct Run {
     output: Output,
 }
 
-// That the buffers are as long as their types say.
+// That the buffers are as long as their types say, which a proof is told of arrays by value. They are not read, so that
+// no copy is made.
 fn sized(begun: Begun, text: Text, piece: Piece)
     ensures { λ _. ⌜ (length begun ≡ 16385) × ((length text ≡ 589824) × (length piece ≡ 16384)) ⌝ }
 {}

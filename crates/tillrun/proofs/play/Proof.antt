@@ -1,13 +1,12 @@
 -- The loop's invariant: the state stands for some bytes that were read and some that were written, as many as were
 -- noted. Its measure: the reads that are left.
-use mathlib.Core.Path.{_≡_, refl, sym, subst, _∙_}
-use mathlib.Core.Bool.{Bool}
+use mathlib.Core.Path.{_≡_, sym, subst, _∙_}
 use Prim.Native.Nat.{_-_}
 use native.Mathlib.Omega.{arith}
 use lib.ListN.{length}
 use borrow.Author.Needs.{needs}
 use Rattle.stream.proofs.Pieces.{ready-for}
-use Rattle.tillrun.specs.Console.{manyReads, Stopped, GoesOn}
+use Rattle.console.specs.Console.{mostReads, Stopped, GoesOn}
 use Rattle.tillrun.specs.Program.{Going}
 use Rattle.tillrun.proofs.Turns.{going-start, going-on, fewer, played-cut, played-whole}
 use Rattle.tillrun.proofs.play.Statement.{statement}
@@ -18,7 +17,7 @@ Inv-loop till₀ rows₀ begun₀ text₀ piece₀ turn₀ till rows begun text 
     Going till begun text turn (length piece) × (length piece ≡ 16384)
 
 abbrev μ-loop : tie.MeasureT-loop
-μ-loop till₀ rows₀ begun₀ text₀ piece₀ turn₀ till rows begun text piece turn = manyReads - turn .input .reads
+μ-loop till₀ rows₀ begun₀ text₀ piece₀ turn₀ till rows begun text piece turn = mostReads - turn .input .reads
 
 loop-holds : tie.Need-loop-holds Inv-loop μ-loop
 loop-holds c =
@@ -37,7 +36,7 @@ next-piece-requires c κs =
 loop-less : tie.Need-loop-less Inv-loop μ-loop
 loop-less c =
     let test = c .before .before .before .before .before .before in
-    fewer (subst (GoesOn _ _) (test .if1 .taken) (test .before .goes-on .ensures))
+    fewer (subst (GoesOn _ _) (test .if1 .taken) (test .before .goes-on .ensures) .1 .1)
     (c .next-piece .ensures .received .reads)
 
 loop-again : tie.Need-loop-again Inv-loop μ-loop

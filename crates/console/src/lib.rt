@@ -1,10 +1,10 @@
 // Standard input and output. No contract can say which bytes a read gives and where a write puts them. So `receive` and
-// `send`, a call of C's each, note what they were asked and what they were given, and the contracts of whatever calls
-// them speak of these notes, which no other file can make or change.
+// `send`, a call of C's each, note what they were asked and what they were given; these two are to be read. The contracts
+// of whatever calls them speak of the notes, which no other crate can make or change.
 ghost use mathlib.Core.Path.{_≡_};
 ghost use Prim.Native.Nat.{_≤_};
 ghost use lib.ListN.{length};
-ghost use Rattle.tillrun.specs.Console.{unread, unwritten, Received, Sent, GoesOn};
+ghost use Rattle.console.specs.Console.{unread, unwritten, Received, Sent, GoesOn};
 
 // A descriptor to read from; the reads and the bytes read, both modulo 2^64; the bytes that the last read gave, and
 // whether it gave none.
@@ -83,12 +83,14 @@ pub fn send(output: Output, text: &[u8], n: usize) -> Output
     }
 }
 
+// The bytes that the last read gave.
 pub fn got(input: Input) -> usize
     ensures { λ r. ⌜ r ≡ input .got ⌝ }
 {
     input.got
 }
 
+// Whether the last write failed.
 pub fn failed(output: Output) -> bool
     ensures { λ r. ⌜ r ≡ output .failed ⌝ }
 {

@@ -2,8 +2,8 @@
 use mathlib.Core.Path.{sym}
 use lib.Seq.{length-take-le}
 use borrow.Author.Needs.{needs}
-use Rattle.tillrun.proofs.console.send.Statement.{statement}
-use Rattle.tillrun.proofs.console.send.Tie as tie
+use Rattle.console.proofs.send.Statement.{statement}
+use Rattle.console.proofs.send.Tie as tie
 
 pub send-spec : {M : Type 1} → statement M
 send-spec =

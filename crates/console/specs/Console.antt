@@ -5,8 +5,8 @@ use mathlib.Core.Logic.{_⊎_}
 use Prim.Native.Nat.{ℕ, _+_, _-_, _%_, _^_, _≤_, _<_}
 use lib.Dec.{eqb}
 use lib.IntN.{ℤ}
-use Rattle.tillrun.specs.declared.console.Input.{Input}
-use Rattle.tillrun.specs.declared.console.Output.{Output}
+use Rattle.console.specs.declared.Input.{Input}
+use Rattle.console.specs.declared.Output.{Output}
 
 -- nothing is read
 abbrev pub unread : ℤ → Input
@@ -31,13 +31,13 @@ pub record Sent (u : Output) (n : ℕ) (u′ : Output) : Type 0 where
   pub few : u′ .put ≤ n
 
 -- the most reads
-abbrev pub manyReads : ℕ
-manyReads = 2 ^ 64 - 1
+abbrev pub mostReads : ℕ
+mostReads = 2 ^ 64 - 1
 
 -- why no more is read: the last read gave nothing, what was to be written could not be, or 2^64 - 1 reads were made
 abbrev pub Stopped : Input → Output → Type 0
-Stopped i u = (i .ended ≡ true) ⊎ ((u .failed ≡ true) ⊎ (manyReads ≤ i .reads))
+Stopped i u = (i .ended ≡ true) ⊎ ((u .failed ≡ true) ⊎ (mostReads ≤ i .reads))
 
 abbrev pub GoesOn : Input → Output → Bool → Type 0
-GoesOn i u true = i .reads < manyReads
+GoesOn i u true = (i .ended ≡ false) × ((u .failed ≡ false) × (i .reads < mostReads))
 GoesOn i u false = Stopped i u
