@@ -1,6 +1,6 @@
 // Standard input and output. No contract can say which bytes a read gives and where a write puts them. So `receive` and
-// `send`, a call of C's each, note what they were asked and what they were given; these two are to be read. The contracts
-// of whatever calls them speak of the notes, which no other crate can make or change.
+// `send`, a call of C's each, note what they were asked and what they were given; these two are to be read. The
+// contracts of whatever calls them speak of the notes, which no other crate can make or change.
 ghost use mathlib.Core.Path.{_≡_};
 ghost use Prim.Native.Nat.{_≤_};
 ghost use lib.ListN.{length};
