@@ -75,23 +75,20 @@ fn check_step(
         Plan::Refused => Outcome::Stopped(40, n),
         Plan::Closed => Outcome::Done(left, next),
         Plan::One(p) => {
-            let begun = premises::begin(table, next, r, p);
-            let Begun::Begins(q, free) = begun else {
+            let Begun::Begins(q, free) = premises::begin(table, next, r, p) else {
                 return Outcome::Stopped(41, n);
             };
             check_premise(store, steps, table, total, left, free, q)
         }
         Plan::Two(p, p2) => {
-            let begun = premises::begin(table, next, r, p);
-            let Begun::Begins(q, free) = begun else {
+            let Begun::Begins(q, free) = premises::begin(table, next, r, p) else {
                 return Outcome::Stopped(41, n);
             };
             let first = check_premise(store, steps, table, total, left, free, q);
             let Outcome::Done(left2, next2) = first else {
                 return first;
             };
-            let then = premises::begin(table, next2, r, p2);
-            let Begun::Begins(q2, free2) = then else {
+            let Begun::Begins(q2, free2) = premises::begin(table, next2, r, p2) else {
                 return Outcome::Stopped(41, n);
             };
             check_premise(store, steps, table, total, left2, free2, q2)

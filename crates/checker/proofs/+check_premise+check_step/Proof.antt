@@ -64,14 +64,14 @@ step-returns-2 t c =
 step-returns-3 : (t : ℕ) → step-lts.Need-returns-3 (step-with t) (step-at t) step.Post
 step-returns-3 t c =
     let a = c .before .before .before .before .before in
-    first-stops (a .before .before .before .before .before .plan2 .given .1) (a .begun2 .given .1)
+    first-stops (a .before .before .before .before .before .plan2 .given .1) (a .q2 .given .1)
     (a .before .before .begin2 .ensures) (c .enum-told5 .given .1) (c .before .before .check-premise2 .ensures)
 
 step-returns-4 : (t : ℕ) → step-lts.Need-returns-4 (step-with t) (step-at t) step.Post
 step-returns-4 t c =
     let a = c .before .before .before .before .before in
     let d = a .before .before .before .before .before in
-    second-full (d .before .before .before .before .before .plan2 .given .1) (d .begun2 .given .1)
+    second-full (d .before .before .before .before .before .plan2 .given .1) (d .q2 .given .1)
     (d .before .before .begin2 .ensures) (a .first .given .1) (a .before .before .check-premise2 .ensures) _
     (c .enum-told6 .given .1) (c .before .before .begin3 .ensures)
 
@@ -91,7 +91,7 @@ step-returns-6 t c = is-closed (c .enum-told2 .given .1)
 step-returns-7 : (t : ℕ) → step-lts.Need-returns-7 (step-with t) (step-at t) step.Post
 step-returns-7 t c =
     let a = c .before .before .before in
-    one (a .before .before .before .before .before .plan .given .1) (a .begun .given .1)
+    one (a .before .before .before .before .before .plan .given .1) (a .q .given .1)
     (a .before .before .begin .ensures) (c .check-premise .ensures)
 
 step-returns-8 : (t : ℕ) → step-lts.Need-returns-8 (step-with t) (step-at t) step.Post
@@ -99,9 +99,9 @@ step-returns-8 t c =
     let a = c .before .before .before in
     let d = a .before .before .before .before .before in
     let e = d .before .before .before .before .before in
-    both (e .before .before .before .before .before .plan2 .given .1) (e .begun2 .given .1)
+    both (e .before .before .before .before .before .plan2 .given .1) (e .q2 .given .1)
     (e .before .before .begin2 .ensures) (d .first .given .1) (d .before .before .check-premise2 .ensures)
-    (a .then .given .1) (a .before .before .begin3 .ensures) (c .check-premise3 .ensures)
+    (a .q22 .given .1) (a .before .before .begin3 .ensures) (c .check-premise3 .ensures)
 
 pub +check-premise+check-step-spec : {M : Type 1} → statement M
 +check-premise+check-step-spec =
