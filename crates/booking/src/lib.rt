@@ -14,7 +14,7 @@ use verdicts::Verdict;
 ghost use Rattle.store.specs.Store.{Good};
 ghost use Rattle.calls.specs.Handled.{Handled};
 ghost use Rattle.till.specs.Replied.{Called};
-ghost use Rattle.judging.specs.Booking.{bookingAt, Lent, ReadLines, Bookable, Opened};
+ghost use Rattle.judging.specs.Booking.{bookingAt, ReadLines, Bookable, Opened};
 
 // 24 for all holds, then 31.
 fn book_holds(till: &mut Store, head: Head, serials: &[u32; 32], rows: &[u32; 1536]) -> Answer
@@ -57,9 +57,8 @@ fn book_read(till: &mut Store, head: Head, serials: &[u32; 32], rows: &[u32; 153
 
 // A booking whose head has been read: the rest of 2, 3, then as above. The rows are lent for its step lines.
 fn book(till: &mut Store, sheet: &[u8], rows: &mut [u32; 1536], head: Head) -> Answer
-    requires { ⌜ Opened (now till) (now sheet) head × Lent (now rows) ⌝ }
+    requires { ⌜ Opened (now till) (now sheet) head ⌝ }
     ensures { λ r. ⌜ Called (now (till .entry)) (now (sheet .entry)) r (now (till .exit)) ⌝ }
-    ensures { λ _. ⌜ Lent (now (rows .exit)) ⌝ }
 {
     let mut serials = [0u32; 32];
     let held = read_holds(sheet, head.next, head.holds, &mut serials);
@@ -67,9 +66,10 @@ fn book(till: &mut Store, sheet: &[u8], rows: &mut [u32; 1536], head: Head) -> A
         return Answer::Refused(2, 0);
     };
     let at = end as usize;
-    if sheet.len() <= at {
+    let more = verdicts::tested(sheet.len() <= at);
+    let Verdict::Passed = more else {
         return Answer::Refused(2, 0);
-    }
+    };
     let read = read_steps(&sheet[at..], head.steps, rows);
     let StepsRead::Read(turned) = read else {
         return Answer::Refused(2, 0);
@@ -83,9 +83,8 @@ fn book(till: &mut Store, sheet: &[u8], rows: &mut [u32; 1536], head: Head) -> A
 
 // The one call: any bytes, of any length. The rows are lent for a booking's step lines; what they hold says nothing.
 pub fn call(till: &mut Store, sheet: &[u8], rows: &mut [u32; 1536]) -> Answer
-    requires { ⌜ Good (now till) × Lent (now rows) ⌝ }
+    requires { ⌜ Good (now till) ⌝ }
     ensures { λ r. ⌜ Called (now (till .entry)) (now (sheet .entry)) r (now (till .exit)) ⌝ }
-    ensures { λ _. ⌜ Lent (now (rows .exit)) ⌝ }
 {
     let reply = answer(till, sheet);
     match reply {

@@ -65,8 +65,7 @@ BookingLines =
     (h : Head) (b : List ℕ) → bookingFrom h b ≡ andThen (readLines (h .holds) holdLine b) (λ p.
     andThen (allLines (h .steps) stepLine (p .1)) (λ ss. some (booked h (p .0) ss)))
 
--- what the readers of several lines ask: the length of a request, a count in range, and the length of the array lent
-pub record LinesAsked (s : List ℕ) (count most : ℕ) (t : List ℕ) (size : ℕ) : Type 0 where
+-- what the readers of several lines ask: the length of a request, and a count in range
+pub record LinesAsked (s : List ℕ) (count most : ℕ) : Type 0 where
   pub short : length s ≤ maxBytes
   pub few : count ≤ most
-  pub long : length t ≡ size

@@ -11,6 +11,7 @@ ghost use lib.ListN.{length, drop};
 ghost use Rattle.request.specs.Read.{holdLine, stepLine};
 ghost use Rattle.logic.specs.Choice.{pick};
 ghost use Rattle.booking_lines.specs.Booking.{LinesAsked, readLines, holdsOf, turned, allLines, StepsIs};
+ghost use Rattle.booking_lines.specs.Booking.{BookingLines};
 
 // The hold lines of a booking were read, and the position after them.
 pub enum HoldsRead {
@@ -24,13 +25,24 @@ pub enum StepsRead {
     Broken,
 }
 
+// An array has the length of its type. A proof is told so of an array by value, not of one behind a reference; nothing
+// reads the copy, so that none is made.
+fn serials_sized(serials: [u32; 32])
+    ensures { λ _. ⌜ length serials ≡ 32 ⌝ }
+{}
+
+fn rows_sized(rows: [u32; 1536])
+    ensures { λ _. ⌜ length rows ≡ 1536 ⌝ }
+{}
+
 // `count` hold lines from `at` on, and their serials in order.
 pub fn read_holds(s: &[u8], at: u32, count: u32, serials: &mut [u32; 32]) -> HoldsRead
-    requires { ⌜ LinesAsked (now s) count 32 (now serials) 32 ⌝ }
+    requires { ⌜ LinesAsked (now s) count 32 ⌝ }
     ensures { λ r. ⌜ holdsOf (now (s .entry)) count (now (serials .exit)) r
         ≡ readLines count holdLine (drop at (now (s .entry))) ⌝ }
     ensures { λ _. ⌜ length (now (serials .exit)) ≡ 32 ⌝ }
 {
+    serials_sized(*serials);
     let mut i = at;
     let mut k: u32 = 0;
     while k < count {
@@ -61,10 +73,10 @@ fn turns(r: StepRow) -> u32
 // `count` step lines, to the end of the bytes, which are the part of a request from its first step line on; each in
 // its row.
 pub fn read_steps(s: &[u8], count: u32, rows: &mut [u32; 1536]) -> StepsRead
-    requires { ⌜ LinesAsked (now s) count 256 (now rows) 1536 ⌝ }
+    requires { ⌜ LinesAsked (now s) count 256 ⌝ }
     ensures { λ r. ⌜ StepsIs (allLines count stepLine (now (s .entry))) count (now (rows .exit)) r ⌝ }
-    ensures { λ _. ⌜ length (now (rows .exit)) ≡ 1536 ⌝ }
 {
+    rows_sized(*rows);
     let mut at: u32 = 0;
     let mut k: u32 = 0;
     let mut reversed: u32 = 0;
@@ -83,3 +95,9 @@ pub fn read_steps(s: &[u8], count: u32, rows: &mut [u32; 1536]) -> StepsRead
     }
     StepsRead::Read(0 < reversed)
 }
+
+// What the two readers say together: the request of a booking is the one of its head, its holds and its steps, or none.
+// The function does nothing: its `ensures` is the point.
+pub fn lines_of_a_booking()
+    ensures { λ _. ⌜ BookingLines ⌝ }
+{}

@@ -18,8 +18,8 @@ use Rattle.ledger.specs.declared.Answer.{Answer}
 use Rattle.ledger.specs.declared.Answer.the-variants.{Accepted, Counted, Refused}
 use Rattle.ledger.specs.Ledger.{Ledger, formula, withoutSerial, isNone}
 use Rattle.ledger.specs.Checks.{_if_, any, maxLive, missing, noRoom, usedUp, checks, readChecks}
-use Rattle.ledger.specs.Calls.{Reply, openSeats, shutSeats, withLive, withCredential, accept}
-use Rattle.ledger.specs.Statements.{Pass, FirstFails}
+use Rattle.ledger.specs.Calls.{Reply, told, openSeats, shutSeats, withLive, withCredential, accept}
+use Rattle.ledger.specs.Statements.{Pass, FirstFails, IsAccepted}
 use Rattle.ledger.proofs.Firsts.{if-false, if-true, skip, hit, handle-fails, handle-passes}
 use Rattle.lookup.specs.declared.Found.the-variants.{At, Nothing}
 use Rattle.cells.specs.Layout.{credentialAt}
@@ -31,11 +31,6 @@ use Rattle.tally.specs.Tally.{Tallied}
 use Rattle.verdicts.specs.Verdicts.{unfair, unfairNumber}
 use Rattle.calls.specs.Handled.{Handled, Issuable}
 
-abbrev IsDone : Answer → Type 0
-IsDone (Accepted n) = Unit {0}
-IsDone (Counted o s p) = Unit {0}
-IsDone (Refused n k) = ⊥
-
 -- a check fails, those before it pass
 pub refused : (l : List ℕ) (r : Request) {n k : ℕ} → Good l
     → FirstFails (record { number = n; step = k }) (readChecks (ledgerOf l) (some r)) → Handled l r (Refused n k) l
@@ -43,21 +38,22 @@ refused l r g f =
     let e = handle-fails (ledgerOf l) r f in
     record {
       good = g;
-      answer = sym (ap (λ (d : Reply). d .answer) e);
+      answer = sym (ap (λ (d : Reply). told (d .answer)) e);
       ledger = sym (ap (λ (d : Reply). d .ledger) e);
       same = λ n k q. refl;
     }
 
 -- no check fails, and the ledger is the accepted request's
 pub accepted : (l l′ : List ℕ) (r : Request) (a : Answer) → Pass (readChecks (ledgerOf l) (some r))
-    → a ≡ accept (ledgerOf l) r .answer → IsDone a → StandsFor l′ (accept (ledgerOf l) r .ledger) → Handled l r a l′
+    → a ≡ accept (ledgerOf l) r .answer → IsAccepted (told a) → StandsFor l′ (accept (ledgerOf l) r .ledger)
+    → Handled l r a l′
 accepted l l′ r a p q d s =
     let e = handle-passes (ledgerOf l) r p in
     record {
       good = s .good;
-      answer = q ∙ sym (ap (λ (d : Reply). d .answer) e);
+      answer = ap told q ∙ sym (ap (λ (d : Reply). told (d .answer)) e);
       ledger = s .ledger ∙ sym (ap (λ (d : Reply). d .ledger) e);
-      same = λ n k z. absurd (subst IsDone z d);
+      same = λ n k z. absurd (subst IsAccepted z d);
     }
 
 -- Withdraw

@@ -9,18 +9,17 @@ use Rattle.logic.specs.Interval.{reversed}
 use Rattle.request.specs.declared.Kind.{Kind}
 use Rattle.request.specs.Request.{Request}
 use Rattle.ledger.specs.declared.Answer.{Answer}
-use Rattle.ledger.specs.declared.Answer.the-variants.{Refused}
 use Rattle.ledger.specs.Ledger.{formula}
 use Rattle.ledger.specs.Checks.{missing}
-use Rattle.ledger.specs.Calls.{handle}
+use Rattle.ledger.specs.Calls.{Told, told, handle}
 use Rattle.store.specs.Store.{ledgerOf, Good}
 use Rattle.verdicts.specs.Verdicts.{unfair}
 
 pub record Handled (l : List ℕ) (r : Request) (a : Answer) (l′ : List ℕ) : Type 0 where
   pub good : Good l′
-  pub answer : a ≡ handle (ledgerOf l) r .answer
+  pub answer : told a ≡ told (handle (ledgerOf l) r .answer)
   pub ledger : ledgerOf l′ ≡ handle (ledgerOf l) r .ledger
-  pub same : (n k : ℕ) → a ≡ Refused n k → l′ ≡ l
+  pub same : (n k : ℕ) → told a ≡ Told.no n k → l′ ≡ l
 
 -- an issue that has passed the checks before 22
 pub record Issuable (l : List ℕ) (k : Kind) (n : ℕ) (i : Interval) : Type 0 where

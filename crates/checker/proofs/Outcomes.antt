@@ -11,21 +11,20 @@ use Rattle.steps.specs.Check.{Beginning, full, begun, begin, done, stopped, jud
 use Rattle.steps.specs.Check.{premiseOf, checkOf}
 use Rattle.steps.specs.Check.{Outcome as Result}
 use Rattle.steps.specs.Plans.{planOf}
+use Rattle.ledger.specs.Checks.{verdict}
 use Rattle.cells.specs.Layout.{rowAt}
 use Rattle.tables.specs.Held.{heldAt, putHeld}
 use Rattle.tables.specs.declared.StepRow.{StepRow}
 use Rattle.tables.specs.Lines.{stepRowAt, stepOf, stepAt, stepsFrom}
 use Rattle.tables.proofs.StepRows.{length-from}
-use Rattle.premises.specs.declared.begin.Begun.{Begun}
-use Rattle.premises.specs.declared.begin.Begun.the-variants.{Full, Begins}
-use Rattle.premises.specs.declared.flat.Outcome.{Outcome}
-use Rattle.premises.specs.declared.flat.Outcome.the-variants.{Done, Stopped}
-use Rattle.checker.specs.declared.Rest.{Rest}
+use Rattle.premises.specs.declared.Begun.{Begun}
+use Rattle.premises.specs.declared.Begun.the-variants.{Full, Begins}
+use Rattle.checker.specs.declared.Outcome.{Outcome}
+use Rattle.checker.specs.declared.Outcome.the-variants.{Done, Stopped}
 use Rattle.checker.specs.declared.Checked.{Checked}
 use Rattle.checker.specs.declared.Checked.the-variants.{Closed as IsClosed, Stopped as IsStopped}
 use Rattle.premises.specs.Begin.{toldBegun}
-use Rattle.checker.specs.Cycle.{Setting, linesLeft, told, judge, PremiseChecked, StepChecked, LastLeft}
-use Rattle.checker.specs.Cycle.{FirstIs, FirstChecked, Answers}
+use Rattle.checker.specs.Cycle.{Setting, linesLeft, told, judge, PremiseChecked, StepChecked, Answers}
 
 -- a premise that begins with no label left, or with a sequent
 is-full : {b : Begun} (t₁ : List ℕ) {x : Beginning (List ℕ)} → b ≡ Full → toldBegun b t₁ ≡ x → x ≡ full
@@ -39,15 +38,6 @@ pub premise-is : {e : Setting} {left next : ℕ} {t t′ : List ℕ} {q : Sequen
     → PremiseChecked e left next t q r t′ → PremiseChecked e left next t q r′ t′
 premise-is {e} {left} {next} {t} {t′} {q} x m = subst (λ (y : Outcome). PremiseChecked e left next t q y t′) x m
 
-pub premise-of : {e : Setting} {left next : ℕ} {t t′ : List ℕ} {q q′ : Sequent} {r : Outcome} → q ≡ q′
-    → PremiseChecked e left next t q r t′ → PremiseChecked e left next t q′ r t′
-premise-of {e} {left} {next} {t} {t′} {r = r} x m = subst (λ (y : Sequent). PremiseChecked e left next t y r t′) x m
-
-pub step-is : {e : Setting} {left next : ℕ} {t t′ : List ℕ} {R : ℕ} {p : Plan} {r r′ : Outcome} → r ≡ r′
-    → StepChecked e left next t R p r′ t′ → StepChecked e left next t R p r t′
-step-is {e} {left} {next} {t} {t′} {R} {p} x m =
-    subst (λ (y : Outcome). StepChecked e left next t R p y t′) (sym x) m
-
 module _ {e : Setting} {left next : ℕ} {t : List ℕ} {R : ℕ} {p : Plan} where
   pub is-refused : {t′ : List ℕ} → p ≡ Refused → StepChecked e left next t R p (Stopped 40 (e .total - left)) t′
   unfolding follow
@@ -57,52 +47,53 @@ module _ {e : Setting} {left next : ℕ} {t : List ℕ} {R : ℕ} {p : Plan} whe
   unfolding follow
   is-closed x = record { same = λ f _. simp x; fewer = omega arith }
 
-  pub is-one : {s : Premise} → p ≡ One s → LastLeft e left next t R p s left next t
-  unfolding follow
-  is-one x = record { same = λ f _. simp x; fewer = omega arith }
+  pub one-full : {s : Premise} {b : Begun} (t₁ : List ℕ) {t′ : List ℕ} → p ≡ One s → b ≡ Full
+      → toldBegun b t₁ ≡ begin putHeld t next R s → StepChecked e left next t R p (Stopped 41 (e .total - left)) t′
+  unfolding follow judged
+  one-full t₁ x v w = record { same = λ f _. simp (x, is-full t₁ v w); fewer = omega arith }
 
-  module _ {s s₂ : Premise} {b : Begun} (x : p ≡ Two s s₂) where
-    pub first-full : (t₁ : List ℕ) {t′ : List ℕ} → b ≡ Full → toldBegun b t₁ ≡ begin putHeld t next R s
+  pub one : {s : Premise} {b : Begun} {q : Sequent} {n : ℕ} {t₁ t′ : List ℕ} {r : Outcome} → p ≡ One s → b ≡ Begins q n
+      → toldBegun b t₁ ≡ begin putHeld t next R s → PremiseChecked e left n t₁ q r t′
+      → StepChecked e left next t R p r t′
+  unfolding follow judged
+  one x v w m = record { same = λ f h. simp (x, is-begun v w) (m .same f h); fewer = m .fewer }
+
+  pub first-full : {s s₂ : Premise} {b : Begun} (t₁ : List ℕ) {t′ : List ℕ} → p ≡ Two s s₂ → b ≡ Full
+      → toldBegun b t₁ ≡ begin putHeld t next R s → StepChecked e left next t R p (Stopped 41 (e .total - left)) t′
+  unfolding follow judged onward
+  first-full t₁ x v w = record { same = λ f _. simp (x, is-full t₁ v w); fewer = omega arith }
+
+  pub first-stops : {s s₂ : Premise} {b : Begun} {q : Sequent} {n c k : ℕ} {t₁ t′ t″ : List ℕ} {r : Outcome}
+      → p ≡ Two s s₂ → b ≡ Begins q n → toldBegun b t₁ ≡ begin putHeld t next R s → r ≡ Stopped c k
+      → PremiseChecked e left n t₁ q r t′ → StepChecked e left next t R p r t″
+  unfolding follow judged onward
+  first-stops {t″ = t″} x v w y m =
+      let m′ = premise-is y m in
+      subst (λ (z : Outcome). StepChecked e left next t R p z t″) (sym y)
+      (record { same = λ f h. simp (x, is-begun v w, sym (m′ .same f h)); fewer = omega arith })
+
+  module _ {s s₂ : Premise} {b b₂ : Begun} {q : Sequent} {n left₂ next₂ : ℕ} {t₁ t₂ : List ℕ} {r₁ : Outcome}
+      (x : p ≡ Two s s₂) (v : b ≡ Begins q n) (w : toldBegun b t₁ ≡ begin putHeld t next R s)
+      (y : r₁ ≡ Done left₂ next₂) (m : PremiseChecked e left n t₁ q r₁ t₂) where
+    pub second-full : (t₃ : List ℕ) {t′ : List ℕ} → b₂ ≡ Full → toldBegun b₂ t₃ ≡ begin putHeld t₂ next₂ R s₂
         → StepChecked e left next t R p (Stopped 41 (e .total - left)) t′
     unfolding follow judged onward
-    first-full t₁ v w = record { same = λ f _. simp (x, is-full t₁ v w); fewer = omega arith }
+    second-full t₃ v₂ w₂ = record {
+      same = λ f h. simp (x, is-begun v w, sym (premise-is y m .same f h), is-full t₃ v₂ w₂);
+      fewer = omega arith;
+    }
 
-    module _ {q : Sequent} {n : ℕ} {t₁ : List ℕ} (v : b ≡ Begins q n) (w : toldBegun b t₁ ≡ begin putHeld t next R s)
-      where
-        pub first-stops : {c k : ℕ} {t′ t″ : List ℕ} {r : Outcome} → r ≡ Stopped c k
-            → PremiseChecked e left n t₁ q r t′ → StepChecked e left next t R p r t″
-        unfolding follow judged onward
-        first-stops y m =
-            let m′ = premise-is y m in
-            step-is y (record { same = λ f h. simp (x, is-begun v w, sym (m′ .same f h)); fewer = omega arith })
-
-        pub first-closes : {left₂ next₂ : ℕ} {t₂ : List ℕ} {r : Outcome} → r ≡ Done left₂ next₂
-            → PremiseChecked e left n t₁ q r t₂ → LastLeft e left next t R p s₂ left₂ next₂ t₂
-        unfolding follow judged onward
-        first-closes y m =
-            let m′ = premise-is y m in
-            record { same = λ f h. simp (x, is-begun v w, sym (m′ .same f h)); fewer = m′ .fewer }
-
-  pub first-is : {o o′ : Rest} {t′ : List ℕ} → o ≡ o′ → FirstChecked e left next t R p o t′
-      → FirstIs e left next t R p o′ t′
-  first-is {t′ = t′} x m = subst (λ (y : Rest). FirstIs e left next t R p y t′) x (m .is)
-
-  -- the last premise cannot begin, or is judged
-  module _ {s : Premise} {b : Begun} {left₂ next₂ : ℕ} {t₂ : List ℕ} (l : LastLeft e left next t R p s left₂ next₂ t₂)
-    where
-      pub last-full : (t₃ : List ℕ) {t′ : List ℕ} → b ≡ Full → toldBegun b t₃ ≡ begin putHeld t₂ next₂ R s
-          → StepChecked e left next t R p (Stopped 41 (e .total - left)) t′
-      unfolding judged
-      last-full t₃ v w = record { same = λ f h. simp (l .same f h, is-full t₃ v w); fewer = omega arith }
-
-      pub last : {q : Sequent} {n : ℕ} {t₃ t′ : List ℕ} {r : Outcome} → b ≡ Begins q n
-          → toldBegun b t₃ ≡ begin putHeld t₂ next₂ R s → PremiseChecked e left₂ n t₃ q r t′
-          → StepChecked e left next t R p r t′
-      unfolding judged
-      last v w m = record {
-        same = λ f h. simp (l .same f h, is-begun v w) (m .same f (omega (arith, l .fewer)));
-        fewer = omega (arith, l .fewer, m .fewer);
-      }
+    pub both : {q₂ : Sequent} {n₂ : ℕ} {t₃ t′ : List ℕ} {r : Outcome} → b₂ ≡ Begins q₂ n₂
+        → toldBegun b₂ t₃ ≡ begin putHeld t₂ next₂ R s₂ → PremiseChecked e left₂ n₂ t₃ q₂ r t′
+        → StepChecked e left next t R p r t′
+    unfolding follow judged onward
+    both v₂ w₂ m₂ =
+        let m′ = premise-is y m in
+        record {
+          same = λ f h. simp (x, is-begun v w, sym (m′ .same f h), is-begun v₂ w₂)
+              (m₂ .same f (omega (arith, m′ .fewer)));
+          fewer = omega (arith, m′ .fewer, m₂ .fewer);
+        }
 
 -- the lines left, from the next on
 lines-next : (e : Setting) (left : ℕ) → left ≤ e .total → (left ≡ 0 → ⊥)
@@ -123,17 +114,17 @@ module _ {e : Setting} {left next : ℕ} {t : List ℕ} {q : Sequent} where
       go zero = refl
       go (suc f) = simp x
 
-  pub goes-on : {s : StepRow} {q′ : Sequent} {p : Plan} {r : Outcome} {t′ : List ℕ} → left ≤ e .total → (left ≡ 0 → ⊥)
-      → s ≡ stepRowAt (e .steps) (e .total - left) → q′ ≡ q
-      → p ≡ planOf (rowAt (e .store)) (heldAt t) (q′ .unrestricted) (q′ .linear) (q′ .goal) (stepOf s)
+  pub goes-on : {s : StepRow} {p : Plan} {r : Outcome} {t′ : List ℕ} → left ≤ e .total → (left ≡ 0 → ⊥)
+      → s ≡ stepRowAt (e .steps) (e .total - left)
+      → p ≡ planOf (rowAt (e .store)) (heldAt t) (q .unrestricted) (q .linear) (q .goal) (stepOf s)
       → StepChecked e (left - 1) next t (q .unrestricted) p r t′ → PremiseChecked e left next t q r t′
   unfolding premiseOf
-  goes-on {r = r} {t′} among n y v z m = record { same = go; fewer = omega (arith, m .fewer) }
+  goes-on {r = r} {t′} among n y z m = record { same = go; fewer = omega (arith, m .fewer) }
     where
       go : (f : ℕ) → left ≤ f → told e r t′ ≡ judge e f (linesLeft e left) t next q
       go zero h = absurd (n (omega arith))
       go (suc f) h =
-          rw (lines-next e left among n, premiseOf, length-from, ← y, ← v, ← z) (rw v (m .same f (omega arith)))
+          rw (lines-next e left among n, premiseOf, length-from, ← y, ← z) (m .same f (omega arith))
 
 -- The whole
 
@@ -141,6 +132,7 @@ answers-is : {o o′ : Result (List ℕ)} {r : Checked} {t : List ℕ} → o ≡
 answers-is {r = r} {t} x a = subst (λ (y : Result (List ℕ)). Answers y r t) (sym x) a
 
 answers-stopped : {c n : ℕ} {t : List ℕ} → Answers (stopped c n) (IsStopped c n) t
+unfolding verdict
 answers-stopped = record { same = refl; closes = λ x. let z : _≡_ {A = ℕ} 0 1 = cc in absurd (omega arith) }
 
 module _ {store steps t t′ : List ℕ} {total next : ℕ} {q : Sequent} {o : Outcome}
@@ -162,7 +154,7 @@ module _ {store steps t t′ : List ℕ} {total next : ℕ} {q : Sequent} {o : O
   whole-stops x = answers-is (outcome x) answers-stopped
 
   pub whole-closes : {left free : ℕ} → o ≡ Done left free → left ≡ 0 → Answers checked IsClosed t′
-  unfolding finished stepsFrom
+  unfolding finished stepsFrom verdict
   whole-closes {left} {free} x z =
       let y : finished total (told e (Done left free) t′) ≡ done [] t′ free = simp z in
       answers-is (outcome x ∙ y) (record { same = refl; closes = λ _. (free, refl) })

@@ -1,21 +1,21 @@
 -- What the premise checker, the step checker and `check` answer, as the definition's outcome.
 use mathlib.Core.Path.{_≡_}
 use mathlib.Core.List.{List, []}
+use mathlib.Core.Option.{none, some}
 use Prim.Native.Nat.{ℕ, _-_, _≤_}
 use Rattle.request.specs.Request.{Step}
 use Rattle.steps.specs.declared.Sequent.{Sequent}
-use Rattle.steps.specs.declared.Premise.{Premise}
 use Rattle.steps.specs.declared.Plan.{Plan}
-use Rattle.steps.specs.Check.{Judge, done, stopped, begin, judged, follow, premiseOf}
+use Rattle.steps.specs.Check.{Judge, done, stopped, follow, premiseOf}
 use Rattle.steps.specs.Check.{Outcome as Result}
+use Rattle.ledger.specs.declared.Answer.{Answer}
+use Rattle.ledger.specs.declared.Answer.the-variants.{Refused}
+use Rattle.ledger.specs.Checks.{Check, verdict}
 use Rattle.cells.specs.Layout.{rowAt}
 use Rattle.tables.specs.Held.{heldAt, putHeld}
 use Rattle.tables.specs.Lines.{stepsFrom}
-use Rattle.premises.specs.Flat.{outcomeOf}
-use Rattle.premises.specs.declared.flat.Outcome.{Outcome}
-use Rattle.premises.specs.declared.flat.Outcome.the-variants.{Done, Stopped}
-use Rattle.checker.specs.declared.Rest.{Rest}
-use Rattle.checker.specs.declared.Rest.the-variants.{Ended, Last}
+use Rattle.checker.specs.declared.Outcome.{Outcome}
+use Rattle.checker.specs.declared.Outcome.the-variants.{Done, Stopped}
 use Rattle.checker.specs.declared.Checked.{Checked}
 use Rattle.checker.specs.declared.Checked.the-variants.{Closed, Stopped as StoppedAt}
 
@@ -54,32 +54,23 @@ pub record StepChecked (e : Setting) (left next : ℕ) (t : List ℕ) (R : ℕ) 
       → told e r t′ ≡ follow putHeld (judge e f) (e .total - left) (linesLeft e left) t next R p
   pub fewer : leftOf r ≤ left
 
--- Of the plan p the last premise s is left, with `left₂` step lines and the next label: the answer is the one of s.
-pub record LastLeft (e : Setting) (left next : ℕ) (t : List ℕ) (R : ℕ) (p : Plan) (s : Premise) (left₂ next₂ : ℕ)
-    (t′ : List ℕ) : Type 0 where
-  pub same : (f : ℕ) → left ≤ f
-      → follow putHeld (judge e f) (e .total - left) (linesLeft e left) t next R p
-      ≡ judged (judge e f) (e .total - left) (linesLeft e left₂) (begin putHeld t′ next₂ R s)
-  pub fewer : left₂ ≤ left
-
-abbrev pub FirstIs : Setting → ℕ → ℕ → List ℕ → ℕ → Plan → Rest → List ℕ → Type 0
-FirstIs e left next t R p (Ended o) t′ = StepChecked e left next t R p (outcomeOf o) t′
-FirstIs e left next t R p (Last s left₂ next₂) t′ = LastLeft e left next t R p s left₂ next₂ t′
-
-pub record FirstChecked (e : Setting) (left next : ℕ) (t : List ℕ) (R : ℕ) (p : Plan) (o : Rest) (t′ : List ℕ) : Type 0
-  where
-    pub is : FirstIs e left next t R p o t′
-
 -- how many step lines there are, and are left
 pub record Fits (total left : ℕ) : Type 0 where
   pub among : left ≤ total
   pub few : total ≤ 256
 
--- `check` tells the outcome: stopped, with the refusal's number and step, or closed, with t the table after
-abbrev pub toldChecked : Result (List ℕ) → Checked
-toldChecked (done ss t next) = Closed
-toldChecked (stopped c n) = StoppedAt c n
+-- What `check` answers, as document 01's check of the steps: it passes, or gives its refusal, 40 to 42, with its step.
+abbrev pub refusalOf : Checked → Check
+refusalOf Closed = none
+refusalOf (StoppedAt c n) = some (record { number = c; step = n })
 
+-- "the first to fail answers, with its step": a call's answer where that check fails; one that passes answers nothing,
+-- written here as 0, 0
+abbrev pub refusedBy : Check → Answer
+refusedBy (some f) = Refused (f .number) (f .step)
+refusedBy none = Refused 0 0
+
+-- an answer r is the definition's outcome o, with t the table after where the steps close the sequent
 pub record Answers (o : Result (List ℕ)) (r : Checked) (t : List ℕ) : Type 0 where
-  pub same : r ≡ toldChecked o
+  pub same : refusalOf r ≡ verdict o
   pub closes : r ≡ Closed → (n : ℕ) × (o ≡ done [] t n)

@@ -12,7 +12,7 @@ use Rattle.logic.specs.Multiset.{Every}
 use Rattle.ledger.specs.declared.Credential.{Credential}
 use Rattle.ledger.specs.Ledger.{Ledger}
 use Rattle.ledger.proofs.Answers.{some-none, some-inj}
-use Rattle.ledger.proofs.Bounds.{Rises, Below}
+use Rattle.ledger.specs.Bounds.{Rises, Below}
 use Rattle.store.specs.Tab.{tab, present}
 use Rattle.cells.specs.Layout.{maxRows, lineCount, liveCount, nextSerial, rowCount, credentialAt, gapAt, entryAt}
 use Rattle.cells.specs.Layout.{putCredential, putRowCount, putHint}

@@ -10,7 +10,7 @@ use borrow.Author.Tests.{eq-eqb, ne-eqb}
 use Rattle.ledger.specs.declared.Credential.{Credential}
 use Rattle.logic.specs.Choice.{pick}
 use Rattle.ledger.specs.Ledger.{consSome, withoutSerial}
-use Rattle.ledger.proofs.Bounds.{Rises}
+use Rattle.ledger.specs.Bounds.{Rises}
 use Rattle.store.specs.Tab.{tab, present}
 use Rattle.store.proofs.Tabs.{tab-ext}
 use Rattle.store.proofs.Search.{entry, Only, only-later}

@@ -9,7 +9,7 @@ use Rattle.request.specs.Request.{Line}
 use Rattle.ledger.specs.declared.Credential.{Credential}
 use Rattle.ledger.specs.Table.{nth, formulas}
 use Rattle.ledger.specs.Ledger.{Ledger, formula}
-use Rattle.ledger.proofs.Bounds.{Bounded}
+use Rattle.ledger.specs.Bounds.{Bounded}
 use Rattle.store.specs.Tab.{tab, present}
 use Rattle.cells.specs.Layout.{lineCount, nextSerial, rowCount, entryAt, putHint}
 use Rattle.store.specs.Store.{lineOf, ledgerOf, Canonical, Ordered, Good, StandsFor}

@@ -23,7 +23,8 @@ use Rattle.demands.specs.History.{Event, History, note, learn, formulaIn
 use Rattle.demands.specs.History.{issued}
 use Rattle.demands.specs.History.{seatsAndPlacesOf, withdrawn}
 use Rattle.ledger.proofs.Credentials.{take-out, linearly}
-use Rattle.ledger.proofs.Tables.{formula-snoc, formula-stays, There, Tabled, line-tabled}
+use Rattle.ledger.specs.Bounds.{There, Tabled}
+use Rattle.ledger.proofs.Tables.{formula-snoc, formula-stays, line-tabled}
 use Rattle.ledger.proofs.Bounds.{same-table}
 use Rattle.ledger.proofs.Passed.{Fair}
 

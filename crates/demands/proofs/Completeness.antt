@@ -1,10 +1,10 @@
 -- Demand 2: completeness, down to bytes.
 use mathlib.Core.Path.{_≡_, refl, sym, ap, subst, _∙_}
 use mathlib.Core.Logic.{inl, inr}
-use mathlib.Core.List.{List, [], _∷_, _++_, map}
+use mathlib.Core.List.{List, [], _∷_, _++_}
 use mathlib.Core.Option.{Option, none, some}
 use mathlib.Core.Bool.{Bool, true, false, _||_}
-use Prim.Native.Nat.{ℕ, _<_, _≤_}
+use Prim.Native.Nat.{ℕ, _+_, _<_, _≤_}
 use native.Mathlib.Omega.{arith}
 use lib.Dec.{ltb}
 use lib.ListN.{length, length-map}
@@ -12,11 +12,11 @@ use borrow.Author.Tests.{leb-false, le-ltb}
 use Rattle.logic.specs.declared.Interval.{Interval}
 use Rattle.logic.specs.Interval.{Ordered, has, reversed}
 use Rattle.logic.specs.Multiset.{Every}
-use Rattle.logic.specs.Derives.{uses}
+use Rattle.logic.specs.Derives.{uses, taken}
 use Rattle.logic.proofs.Tests.{no-truth, and-decides, le-decides}
 use Rattle.logic.proofs.Intervals.{ordered-decides}
 use Rattle.logic.proofs.Multisets.{every-out, every-map}
-use Rattle.request.specs.Range.{serial, maxBytes}
+use Rattle.request.specs.Range.{serial, maxBytes, steps as stepCount}
 use Rattle.request.specs.Request.{Step, Booking, Request, book, stepIntervals, stepsIntervals, intervals}
 use Rattle.request.specs.Read.{requestOf}
 use Rattle.request.specs.Write.{write}
@@ -24,25 +24,29 @@ use Rattle.request.specs.InRange.{_∈_, BookingInRange, StepInRange}
 use Rattle.request.proofs.Requests.{write-read, write-short}
 use Rattle.steps.specs.declared.Sequent.{Sequent}
 use Rattle.steps.specs.declared.Goal.the-variants.{Holds}
-use Rattle.steps.specs.Check.{maxLabels, done, puts, premiseOf, finished, checkOf}
+use Rattle.steps.specs.Check.{maxLabels, done, premiseOf, finished, checkOf}
+use Rattle.steps.specs.Letters.{letterOf}
 use Rattle.steps.specs.Limits.{Writable}
+use Rattle.steps.proofs.Tables.{label-table}
 use Rattle.steps.proofs.Steps.{passing}
 use Rattle.ledger.specs.declared.Credential.{Credential}
 use Rattle.ledger.specs.Ledger.{Ledger, row, find, isNone, held, linearCount}
 use Rattle.ledger.specs.Checks.{LabelTable, Refusal, _if_, any, dead, twice, noRoom, usedUp}
 use Rattle.ledger.specs.Checks.{readLabel}
-use Rattle.ledger.specs.Checks.{writeLabel, noLabels}
-use Rattle.ledger.specs.Checks.{hypothesis, bookingSequent, verdict, steps, checks, readChecks, checksOf}
+use Rattle.ledger.specs.Checks.{writeLabel}
+use Rattle.ledger.specs.Checks.{verdict, steps, checks, readChecks, checksOf}
 use Rattle.ledger.specs.Calls.{ok, accept, says}
 use Rattle.ledger.specs.Statements.{Pass, FirstFails}
 use Rattle.ledger.proofs.Answers.{some-inj, heard}
-use Rattle.ledger.proofs.Credentials.{take-out, any-none, Alive, held-all}
-use Rattle.ledger.proofs.Bounds.{Rises, Bounded}
+use Rattle.ledger.proofs.Credentials.{take-out, any-none, Alive, held-length}
+use Rattle.ledger.specs.Bounds.{Rises, Bounded}
 use Rattle.ledger.proofs.Firsts.{if-false, if-true, skip, hit, not-true}
-use Rattle.demands.specs.Demands.{hyp, May, PastSteps, Completeness}
+use Rattle.demands.specs.Demands.{hyp, startLabels, booking, StepsComplete, May, PastSteps, Completeness}
 use Rattle.demands.proofs.Demand1.{demand-1, call-accepts}
-use Rattle.demands.proofs.Start.{unrolls, table, start}
+use Rattle.demands.proofs.Start.{unrolls, start}
 use Rattle.demands.proofs.Exactness.{reached-bounded}
+
+-- Every derivation within the limits has step lines that pass.
 
 -- no line, no pass
 some-steps : (t : Ledger) (ss : List Step) (f g : LabelTable) (next m : ℕ) (q : Sequent)
@@ -50,6 +54,23 @@ some-steps : (t : Ledger) (ss : List Step) (f g : LabelTable) (next m : ℕ) (q 
 unfolding checkOf premiseOf finished
 some-steps t [] f g next m q e = let z : _≡_ {A = ℕ} 0 1 = cc e in absurd (omega arith)
 some-steps t (s ∷ ss) f g next m q e = omega arith
+
+pub steps-complete : StepsComplete
+unfolding steps verdict
+steps-complete t reached n i hs x lim =
+    let bd = reached-bounded t reached in
+    let cs = held (t .live) hs in
+    let room : length cs + taken x ≤ maxLabels = omega (arith, lim .labels, held-length (t .live) hs) in
+    let p = passing label-table _ _ (unrolls t (bd .tabled)) _ (length cs) _ _ (startLabels t cs) _ _
+    (start t (bd .tabled) cs (omega arith)) (Holds n i) x (lim .minutes) (omega (arith, length-map cs (hyp t))) in
+    let many : length (p .0) ≡ uses x = sym (length-map (p .0) letterOf) ∙ ap length (p .1) in
+    record {
+      lines = p .0;
+      letters = p .1;
+      count = record { least = some-steps t (p .0) _ _ _ _ _ (p .3 .2); most = omega (arith, lim .rules) };
+      writable = p .2;
+      pass = λ now. ap verdict (p .3 .2);
+    }
 
 -- What a live serial is
 
@@ -153,7 +174,7 @@ module _ (t : Ledger) (b : Booking) (r : BookingInRange b) (p : Passing t b) whe
           (fails _ (up-to-42 _ (skip (if-false 22 _ e) (hit (if-true 23 _ q)))))))
       go false e false q = inl (accepted (passes (all-pass e q)))
 
--- The booking that a derivation within the limits makes
+-- The booking that it makes, down to bytes
 
 any-append : (xs ys : List Interval) → any reversed xs ≡ false → any reversed ys ≡ false
     → any reversed (xs ++ ys) ≡ false
@@ -191,8 +212,8 @@ writable-in-range : (ss : List Step) → Every Writable ss → Every StepInRange
 writable-in-range ss = every-map (λ s w. w .0) ss
 
 in-range : (t : Ledger) → Bounded t → (b : Booking) → May t (b .now) (b .formula) (b .interval) (b .holds)
-    → 1 ≤ length (b .steps) → length (b .steps) ≤ 256 → Every Writable (b .steps) → BookingInRange b
-in-range t bd b m one many w = record {
+    → length (b .steps) ∈ stepCount → Every Writable (b .steps) → BookingInRange b
+in-range t bd b m count w = record {
   now = record { least = omega arith; most = omega (arith, has-most (b .interval) (b .now) (m .inside), m .ranged) };
   formula = record {
     least = omega arith;
@@ -203,39 +224,21 @@ in-range t bd b m one many w = record {
     to = record { least = omega arith; most = m .ranged };
   };
   holdCount = record { least = omega arith; most = m .few };
-  stepCount = record { least = one; most = many };
+  stepCount = count;
   holds = every-map (λ n a. live-in-range t bd n a) (b .holds) (any-none (dead t) (b .holds) (m .live));
   steps = writable-in-range (b .steps) w;
 }
 
 pub completeness : Completeness
-unfolding steps verdict bytes
+unfolding bytes
 completeness t reached now n i hs m x lim =
-    let bd = reached-bounded t reached in
-    let cs = held (t .live) hs in
-    let size = held-all (t .live) hs (any-none (dead t) hs (m .live)) in
-    let room : length cs ≤ maxLabels = omega (arith, lim .labels) in
-    let start = start t (bd .tabled) cs room in
-    let p = passing (unrolls t (bd .tabled)) table start (Holds n i) x (lim .minutes)
-    (omega (arith, lim .labels, length-map cs (hyp t))) in
-    finish t bd now n i hs m (p .0) (p .2) (uses x) (p .1) (lim .rules) (p .3)
-  where
-    finish : (t : Ledger) → Bounded t → (now n : ℕ) (i : Interval) (hs : List ℕ) → May t now n i hs → (ss : List Step)
-        → Every Writable ss → (u : ℕ) → length ss ≡ u → u ≤ 256
-        → ((f : LabelTable) × (k : ℕ)
-        × (checkOf (row t) readLabel writeLabel (length ss) ss
-        (puts writeLabel noLabels 0 (map hypothesis (held (t .live) hs))) (length (held (t .live) hs))
-        (bookingSequent (held (t .live) hs) n i) ≡ done [] f k))
-        → (ss : List Step) × (length ss ≡ u) × PastSteps t (says t
-        (write (book (record { now = now; formula = n; interval = i; holds = hs; steps = ss }))))
-    finish t bd now n i hs m ss w u c short q =
-        let b : Booking = record { now = now; formula = n; interval = i; holds = hs; steps = ss } in
-        let r = in-range t bd b m (some-steps t ss _ _ _ _ _ (q .2)) (omega (arith, c)) w in (
-          ss,
-          c,
-          past t b r (record {
-            straight = booking-straight b (m .ordered) w;
-            may = m;
-            closes = ap verdict (q .2);
-          }),
-        )
+    let s = steps-complete t reached n i hs x lim in
+    let b = booking now n i hs (s .lines) in (
+      s .lines,
+      s .letters,
+      past t b (in-range t (reached-bounded t reached) b m (s .count) (s .writable)) (record {
+        straight = booking-straight b (m .ordered) (s .writable);
+        may = m;
+        closes = s .pass now;
+      }),
+    )

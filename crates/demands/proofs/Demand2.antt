@@ -12,15 +12,18 @@ use Rattle.logic.specs.Interval.{Ordered, reversed}
 use Rattle.logic.specs.Multiset.{Every}
 use Rattle.logic.proofs.Intervals.{ordered-decides}
 use Rattle.logic.proofs.Multisets.{every-left, every-right, every-map}
-use Rattle.logic.specs.Derives.{holds, uses, taken}
+use Rattle.logic.specs.Derives.{holds, letters, taken}
 use Rattle.request.specs.Request.{Step, Booking, book, stepIntervals, stepsIntervals, intervals}
 use Rattle.request.specs.InRange.{StepInRange, BookingInRange}
 use Rattle.steps.specs.declared.Goal.the-variants.{Holds}
 use Rattle.steps.specs.Check.{maxLabels, Outcome, done, stopped, puts, finished, checkOf}
+use Rattle.steps.specs.Letters.{lettersOf}
 use Rattle.steps.specs.Limits.{Minutes, Writable}
 use Rattle.steps.specs.Spells.{Labels, Spells, Refused}
+use Rattle.steps.specs.Statements.{ExactlyAt}
 use Rattle.steps.proofs.Holds.{begins-fits}
-use Rattle.steps.proofs.Steps.{exactly, refused-exactly, sound}
+use Rattle.steps.proofs.Tables.{label-table}
+use Rattle.steps.proofs.Steps.{exactly, sound}
 use Rattle.ledger.specs.declared.Credential.{Credential}
 use Rattle.ledger.specs.Ledger.{Ledger, formula, row, held}
 use Rattle.ledger.specs.Checks.{Refusal, LabelTable, noLabels, readLabel, writeLabel, hypothesis, verdict}
@@ -28,9 +31,9 @@ use Rattle.ledger.specs.Checks.{steps}
 use Rattle.ledger.specs.Checks.{any, bookingSequent}
 use Rattle.ledger.proofs.Answers.{some-none, some-inj}
 use Rattle.ledger.proofs.Credentials.{any-none, held-length}
-use Rattle.ledger.proofs.Tables.{Tabled}
+use Rattle.ledger.specs.Bounds.{Tabled}
 use Rattle.demands.specs.Demands.{hyp, startLabels, startSequent, Derivation}
-use Rattle.demands.proofs.Start.{unrolls, table, start}
+use Rattle.demands.proofs.Start.{unrolls, start}
 
 -- The check of the steps passes exactly if the checker closes with no line left, and refuses exactly as it stops.
 
@@ -68,15 +71,19 @@ module _ (t : Ledger) (tb : Tabled t) (cs : List Credential) (few : length cs �
   unfolding steps outcome checkOf
   closes e = passes-done t (length ss) _ e
 
+  spelt-or-stopped : ExactlyAt readLabel writeLabel (unrolls t tb) (puts writeLabel noLabels 0 (map hypothesis cs))
+      (length cs) (startLabels t cs) (bookingSequent cs n i) ss
+  spelt-or-stopped =
+      let b = start t tb cs few in
+      exactly label-table _ _ (unrolls t tb) _ (length cs) (startLabels t cs) (bookingSequent cs n i) (b .shows)
+      (begins-fits (unrolls t tb) label-table b (start-few t cs few) (holds (formula t n) i)) ss
+
   -- they pass exactly if they spell a derivation
   pub steps-exactly : (steps t cs n i ss ≡ none)
       ↔ ((ls : Labels) × Spells ss (startLabels t cs) (startSequent t cs n i) [] ls)
   unfolding steps outcome verdict
   steps-exactly =
-      let b = start t tb cs few in
-      let fits = begins-fits (unrolls t tb) table b (start-few t cs few) (holds (formula t n) i) in
-      let x = exactly (unrolls t tb) table _ (length cs) (startLabels t cs) (bookingSequent cs n i) (b .shows)
-      fits ss in
+      let x = spelt-or-stopped .passes in
       (λ e. x .0 (closes e), λ s. ap verdict (x .1 s .2))
 
   -- and are refused exactly where they stop
@@ -84,19 +91,17 @@ module _ (t : Ledger) (tb : Tabled t) (cs : List Credential) (few : length cs �
       ↔ Refused (length ss) ss (startLabels t cs) (startSequent t cs n i) c k
   unfolding steps outcome
   steps-refused c k =
-      let b = start t tb cs few in
-      let fits = begins-fits (unrolls t tb) table b (start-few t cs few) (holds (formula t n) i) in
-      let x = refused-exactly (unrolls t tb) table _ (length cs) (startLabels t cs) (bookingSequent cs n i) (b .shows)
-      fits ss c k in
+      let x = spelt-or-stopped .refused c k in
       let v = verdict-stops outcome c k in
       (λ e. x .0 (v .0 e), λ r. v .1 (x .1 r))
 
   -- what passes is a derivation within the limits
   pub steps-derive : Every Writable ss → steps t cs n i ss ≡ none
-      → (x : Derivation t cs n i) × (length ss ≡ uses x) × (length cs + taken x ≤ maxLabels) × Minutes x
+      → (x : Derivation t cs n i) × (lettersOf ss ≡ letters x) × (length cs + taken x ≤ maxLabels) × Minutes x
   unfolding outcome
   steps-derive w e =
-      let s = sound (unrolls t tb) table (start t tb cs few) (Holds n i) ss (start-few t cs few) w (closes e) in
+      let s = sound label-table _ _ (unrolls t tb) _ (length cs) _ _ (startLabels t cs) _ _ (start t tb cs few)
+      (start-few t cs few) (Holds n i) ss w (closes e) in
       (s .0, s .1, omega (arith, s .2, length-map cs (hyp t)), s .3)
 
 -- What an accepted booking's bytes give: few holds, and steps in range with no interval reversed.

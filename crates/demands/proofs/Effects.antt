@@ -19,7 +19,8 @@ use Rattle.ledger.proofs.Answers.{some-inj}
 use Rattle.demands.specs.History.{History, note}
 use Rattle.demands.proofs.Agrees.{note-silent}
 use Rattle.ledger.proofs.Walk.{Keeps, walk}
-use Rattle.ledger.proofs.Bounds.{Rises, Below, Bounded, rises-without, bounded}
+use Rattle.ledger.specs.Bounds.{Rises, Below, Bounded}
+use Rattle.ledger.proofs.Bounds.{rises-without, bounded}
 use Rattle.demands.specs.Effects.{EffectOf, Effects, spent, serials, CountUp, SerialsOnce}
 use Rattle.demands.proofs.Demand1.{call-accepts}
 

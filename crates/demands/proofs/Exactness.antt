@@ -15,7 +15,8 @@ use Rattle.ledger.specs.Statements.{Pass}
 use Rattle.ledger.proofs.Answers.{some-none, if-none}
 use Rattle.ledger.proofs.Credentials.{any-none, held-all}
 use Rattle.ledger.proofs.Passed.{passed-book}
-use Rattle.ledger.proofs.Bounds.{Bounded, bounded}
+use Rattle.ledger.specs.Bounds.{Bounded}
+use Rattle.ledger.proofs.Bounds.{bounded}
 use Rattle.demands.specs.Demands.{Reached, Soundness, stepsOf, OnlySteps}
 use Rattle.demands.specs.Demands.{Exactness}
 use Rattle.demands.proofs.Demand1.{demand-1}

@@ -5,7 +5,6 @@ use mathlib.Core.Bool.{true, false}
 use Prim.Native.Nat.{ℕ, suc, _+_, _≤_}
 use native.Mathlib.Omega.{arith}
 use lib.ListN.{length}
-use borrow.Author.Tests.{ne-eqb, eq-eqb}
 use Rattle.logic.specs.Formula.{Formula}
 use Rattle.logic.specs.Derives.{Hyp}
 use Rattle.logic.specs.Multiset.{Perm}
@@ -17,15 +16,15 @@ use Rattle.labels.specs.Labels.{insert}
 use Rattle.labels.proofs.Permutations.{perm-middle}
 use Rattle.steps.specs.Check.{maxLabels, puts}
 use Rattle.steps.specs.Spells.{Labels}
+use Rattle.steps.specs.Unroll.{letter, made, Unrolls}
 use Rattle.steps.proofs.Labelling.{length-snoc}
-use Rattle.steps.proofs.Unroll.{letter, made, Unrolls}
-use Rattle.steps.proofs.Tables.{Table}
+use Rattle.steps.proofs.Tables.{label-table}
 use Rattle.steps.proofs.Holds.{Begins, begins-same, begins-none, add-linear, add-unrestricted}
 use Rattle.ledger.specs.declared.Credential.{Credential}
 use Rattle.ledger.specs.Table.{form, rowOf}
 use Rattle.ledger.specs.Ledger.{Ledger, formula, row, isKind}
-use Rattle.ledger.specs.Checks.{LabelTable, noLabels, readLabel, writeLabel, hypothesis, labelsOf}
-use Rattle.ledger.proofs.Tables.{lineAt, Tabled}
+use Rattle.ledger.specs.Checks.{LabelTable, noLabels, writeLabel, hypothesis, labelsOf}
+use Rattle.ledger.specs.Bounds.{lineAt, Tabled}
 use Rattle.demands.specs.Demands.{hyp, hypsOf, startLabels}
 
 -- The formulas of a ledger unroll the rows of its lines.
@@ -62,18 +61,9 @@ unrolls t h = record {
   formed = λ i. h .reads i ∙ sym (made-row (formula t) (lineAt t i));
 }
 
--- The table of labels as a function.
-pub table : Table readLabel writeLabel
-table = record {
-  Good = λ f. Unit {0};
-  stays = λ f n h g. tt;
-  reads = λ f n h g l. rw (eq-eqb n n refl, writeLabel);
-  keeps = λ f n k h g d. rw (ne-eqb k n d, writeLabel);
-}
-
 module _ (t : Ledger) (tb : Tabled t) where
   abbrev pub Started : LabelTable → ℕ → ℕ → ℕ → Labels → List Hyp → List Hyp → Type 0
-  Started = Begins (unrolls t tb) table
+  Started = Begins (unrolls t tb) label-table
 
   -- the same list, put in front of what comes later
   moved : (h : Hyp) (hs D : List Hyp) → Perm (h ∷ (hs ++ D)) (hs ++ (h ∷ D))
@@ -121,27 +111,26 @@ module _ (t : Ledger) (tb : Tabled t) where
           (elim (isKind Linear k) as (λ z. List Hyp)
           [ true ↦ hyp t c ∷ hypsOf t Linear cs | false ↦ hypsOf t Linear cs ] ++ D)
       go Linear ih =
-          begins-same (unrolls t tb) table (perm-refl (hypsOf t Unrestricted cs ++ R))
+          begins-same (unrolls t tb) label-table (perm-refl (hypsOf t Unrestricted cs ++ R))
           (moved (hyp t c) (hypsOf t Linear cs) D)
           (along (ih r (insert d n) R (hyp t c ∷ D)
-          (add-linear (unrolls t tb) table (hypothesis c) b (omega arith))))
+          (add-linear (unrolls t tb) label-table (hypothesis c) b (omega arith))))
       go Unrestricted ih =
-          begins-same (unrolls t tb) table (moved (hyp t c) (hypsOf t Unrestricted cs) R)
+          begins-same (unrolls t tb) label-table (moved (hyp t c) (hypsOf t Unrestricted cs) R)
           (perm-refl (hypsOf t Linear cs ++ D))
           (along (ih (insert r n) d (hyp t c ∷ R) D
-          (add-unrestricted (unrolls t tb) table (hypothesis c) b (omega arith))))
+          (add-unrestricted (unrolls t tb) label-table (hypothesis c) b (omega arith))))
 
   -- what a booking of these credentials begins with
   pub start : (cs : List Credential) → length cs ≤ maxLabels
       → Started (puts writeLabel noLabels 0 (map hypothesis cs)) (length cs)
       (labelsOf Unrestricted 0 cs 0) (labelsOf Linear 0 cs 0) (startLabels t cs)
       (hypsOf t Unrestricted cs) (hypsOf t Linear cs)
-  unfolding table
   start cs room =
       let f = puts writeLabel noLabels 0 (map hypothesis cs) in
       let r = labelsOf Unrestricted 0 cs 0 in
       let d = labelsOf Linear 0 cs 0 in
-      let b = start-from cs (omega arith) (begins-none (unrolls t tb) table noLabels tt) in
+      let b = start-from cs (omega arith) (begins-none (unrolls t tb) label-table noLabels tt) in
       let n : 0 + length cs ≡ length cs = omega arith in
       subst₂ (λ (R D : List Hyp). Started f (length cs) r d (startLabels t cs) R D)
       (append-nil (hypsOf t Unrestricted cs)) (append-nil (hypsOf t Linear cs))

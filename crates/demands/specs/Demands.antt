@@ -11,7 +11,7 @@ use Rattle.logic.specs.declared.Interval.{Interval}
 use Rattle.logic.specs.Interval.{Ordered, has}
 use Rattle.logic.specs.Formula.{plain}
 use Rattle.logic.specs.Multiset.{Every}
-use Rattle.logic.specs.Derives.{Hyp, _⟦_⟧, Judgment, holds, Derives, uses, taken}
+use Rattle.logic.specs.Derives.{Hyp, _⟦_⟧, Judgment, holds, Derives, Letter, letters, uses, taken}
 use Rattle.request.specs.declared.Kind.{Kind}
 use Rattle.request.specs.declared.Kind.the-variants.{Linear, Unrestricted}
 use Rattle.request.specs.Range.{session, minute, steps as stepCount, holds as holdCount}
@@ -20,7 +20,8 @@ use Rattle.request.specs.Read.{requestOf}
 use Rattle.request.specs.Write.{write}
 use Rattle.request.specs.InRange.{_∈_}
 use Rattle.steps.specs.Check.{maxLabels}
-use Rattle.steps.specs.Limits.{Minutes}
+use Rattle.steps.specs.Letters.{lettersOf}
+use Rattle.steps.specs.Limits.{Minutes, Writable}
 use Rattle.steps.specs.Spells.{Labels, Labelled, Spells, Refused as StepsRefused}
 use Rattle.ledger.specs.declared.Credential.{Credential}
 use Rattle.ledger.specs.Ledger.{Ledger, empty, formula, isKind, held}
@@ -36,7 +37,8 @@ pub record Reached (t : Ledger) : Type 0 where
   pub gives : after empty calls ≡ t
 
 -- DEMAND 1. "Any bytes of any length: a sheet that fails a check gets the number of the first check that fails; till
--- and sheet stay exactly as they were."
+-- and sheet stay exactly as they were; nothing is required of the caller but a till that calls gave."
+-- The last clause: this holds of every ledger, reached or not, and of all bytes, with no hypothesis.
 
 pub record Demand1 (t : Ledger) (bytes : List ℕ) : Type 0 where
   -- refused with these two numbers exactly where they are the first check's that fails
@@ -48,7 +50,9 @@ pub record Demand1 (t : Ledger) (bytes : List ℕ) : Type 0 where
   pub accepted : IsAccepted (says t bytes) ↔ Pass (checksOf t bytes)
 
 -- DEMAND 2. "A booking is accepted exactly when the other checks pass and its steps are a derivation; every derivation
--- within the limits has step lines that pass."
+-- within the limits has step lines that pass. Other sheets pass exactly when no check fails; each accepted call does
+-- what the paper says."
+-- Of other sheets: `accepted` of Demand1.
 
 -- the hypothesis of a credential, and those of a kind among the credentials held
 abbrev pub hyp : Ledger → Credential → Hyp
@@ -62,11 +66,11 @@ hypsOf t k (c ∷ cs) = elim (isKind k (c .kind)) [ true ↦ hyp t c ∷ hypsOf 
 abbrev pub Derivation : Ledger → List Credential → ℕ → Interval → Type 0
 Derivation t cs n i = Derives (hypsOf t Unrestricted cs) (hypsOf t Linear cs) (holds (formula t n) i)
 
--- Soundness: an accepted booking's steps are a derivation of its goal from the credentials that it names, as many uses
--- of rules as steps.
+-- Soundness: an accepted booking's steps are a derivation of its goal from the credentials that it names: its rules, in
+-- their order and with the intervals that they choose, are those that the step lines name.
 pub record SoundFor (t : Ledger) (b : Booking) : Type 0 where
   pub derivation : Derivation t (held (t .live) (b .holds)) (b .formula) (b .interval)
-  pub lines : length (b .steps) ≡ uses derivation
+  pub lines : lettersOf (b .steps) ≡ letters derivation
   pub labels : length (b .holds) + taken derivation ≤ maxLabels
   pub minutes : Minutes derivation
 
@@ -74,11 +78,37 @@ abbrev pub Soundness : Type 0
 Soundness = (t : Ledger) → Reached t → (bytes : List ℕ) (b : Booking) → requestOf bytes ≡ some (book b)
     → IsAccepted (says t bytes) → SoundFor t b
 
--- Completeness, down to bytes: "Its limits there: 32 coupons, 256 uses of rules, 64 for coupons plus labels taken,
--- minutes in range, wordings of this till."
+-- Completeness. "Its limits there: 32 coupons, 256 uses of rules, 64 for coupons plus labels taken, minutes in range,
+-- wordings of this till."
 
--- what a booking may name: its credentials live and no two alike, its goal a plain formula of the ledger, its interval
--- in range and not reversed, with the minute in it
+pub record WithinLimits {R D : List Hyp} {g : Judgment} (credentials : ℕ) (x : Derives R D g) : Type 0 where
+  pub rules : uses x ≤ stepCount .last
+  pub labels : credentials + taken x ≤ maxLabels
+  pub minutes : Minutes x
+
+abbrev pub booking : ℕ → ℕ → Interval → List ℕ → List Step → Booking
+booking now n i hs ss = record { now = now; formula = n; interval = i; holds = hs; steps = ss }
+
+-- the check of a booking's steps
+abbrev pub stepsOf : Ledger → Booking → Check
+stepsOf t b = steps t (held (t .live) (b .holds)) (b .formula) (b .interval) (b .steps)
+
+-- step lines by these rules that pass: 2 and 3, so far as they speak of step lines, and 40 to 42
+pub record StepsFor (t : Ledger) (n : ℕ) (i : Interval) (hs : List ℕ) (rules : List Letter) : Type 0 where
+  pub lines : List Step
+  pub letters : lettersOf lines ≡ rules
+  pub count : length lines ∈ stepCount
+  pub writable : Every Writable lines
+  pub pass : (now : ℕ) → stepsOf t (booking now n i hs lines) ≡ none
+
+-- every derivation within the limits has step lines that pass, whatever its goal and the booking's minute; the limit of
+-- 32 credentials is not needed here
+abbrev pub StepsComplete : Type 0
+StepsComplete = (t : Ledger) → Reached t → (n : ℕ) (i : Interval) (hs : List ℕ)
+    → (x : Derivation t (held (t .live) hs) n i) → WithinLimits (length hs) x → StepsFor t n i hs (letters x)
+
+-- Down to bytes, for what a booking may name by the checks before its steps: its credentials live and no two alike, its
+-- goal a plain formula of the ledger, its interval in range and not reversed, with the minute in it.
 pub record May (t : Ledger) (now n : ℕ) (i : Interval) (hs : List ℕ) : Type 0 where
   pub few : length hs ≤ holdCount .last
   pub live : any (dead t) hs ≡ false
@@ -89,11 +119,6 @@ pub record May (t : Ledger) (now n : ℕ) (i : Interval) (hs : List ℕ) : Type 
   pub ranged : i .to ≤ minute .last
   pub inside : has i now ≡ true
 
-pub record WithinLimits {R D : List Hyp} {g : Judgment} (coupons : ℕ) (x : Derives R D g) : Type 0 where
-  pub rules : uses x ≤ stepCount .last
-  pub labels : coupons + taken x ≤ maxLabels
-  pub minutes : Minutes x
-
 -- past the checks up to 42: accepted with the next serial, or refused by 22 or 23
 abbrev pub PastSteps : Ledger → Told → Type 0
 PastSteps t a = (a ≡ ok (t .next ∷ [])) ⊎ (a ≡ Told.no 22 0) ⊎ (a ≡ Told.no 23 0)
@@ -102,8 +127,7 @@ PastSteps t a = (a ≡ ok (t .next ∷ [])) ⊎ (a ≡ Told.no 22 0) ⊎ (a ≡ 
 abbrev pub Completeness : Type 0
 Completeness = (t : Ledger) → Reached t → (now n : ℕ) (i : Interval) (hs : List ℕ) → May t now n i hs
     → (x : Derivation t (held (t .live) hs) n i) → WithinLimits (length hs) x
-    → (ss : List Step) × (length ss ≡ uses x) × PastSteps t (says t
-    (write (book (record { now = now; formula = n; interval = i; holds = hs; steps = ss }))))
+    → (ss : List Step) × (lettersOf ss ≡ letters x) × PastSteps t (says t (write (book (booking now n i hs ss))))
 
 -- Exactly
 
@@ -129,10 +153,6 @@ abbrev pub StepsStop : Ledger → Booking → ℕ → ℕ → Type 0
 StepsStop t b c k =
     let cs = held (t .live) (b .holds) in
     StepsRefused (length (b .steps)) (b .steps) (startLabels t cs) (startSequent t cs (b .formula) (b .interval)) c k
-
--- the check of a booking's steps
-abbrev pub stepsOf : Ledger → Booking → Check
-stepsOf t b = steps t (held (t .live) (b .holds)) (b .formula) (b .interval) (b .steps)
 
 -- a check passes or is one of 40 to 42
 abbrev pub OnlySteps : Check → Type 0

@@ -4,7 +4,8 @@
 ghost use Prim.Native.Nat.{ℕ};
 ghost use mathlib.Core.List.{List};
 ghost use Rattle.ledger.specs.Ledger.{Ledger};
-ghost use Rattle.demands.specs.Demands.{Demand1, Soundness, Completeness, Exactness, Accepts, Demand3};
+ghost use Rattle.demands.specs.Demands.{Demand1, Soundness, StepsComplete, Completeness};
+ghost use Rattle.demands.specs.Demands.{Exactness, Accepts, Demand3};
 ghost use Rattle.demands.specs.Effects.{Effects, SerialsOnce};
 
 // Demand 1: any bytes of any length get the first check that fails, and a refusal leaves the ledger as it was.
@@ -17,9 +18,10 @@ pub fn demand_2_soundness()
     ensures { λ _. ⌜ Soundness ⌝ }
 {}
 
-// Demand 2: every derivation within the limits has step lines that pass, down to the bytes.
+// Demand 2: every derivation within the limits has step lines that pass; and so do the bytes of a booking with them.
 pub fn demand_2_completeness()
-    ensures { λ _. ⌜ Completeness ⌝ }
+    ensures steps { λ _. ⌜ StepsComplete ⌝ }
+    ensures bytes { λ _. ⌜ Completeness ⌝ }
 {}
 
 // Demand 2: a booking is accepted exactly when the other checks pass and its steps are a derivation.

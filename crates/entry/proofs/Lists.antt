@@ -1,46 +1,101 @@
--- Calls in a row are the definition's.
-use mathlib.Core.Path.{_≡_, refl, ap, ap₂, _∙_}
-use mathlib.Core.List.{List, [], _∷_, map}
+-- Calls in a row are the definition's, and the demands hold of them.
+use mathlib.Core.Path.{_≡_, refl, sym, ap, ap₂, subst, _∙_}
+use mathlib.Core.List.{List, [], _∷_, _++_, map}
+use mathlib.Core.Option.{some}
 use Prim.Native.Nat.{ℕ}
 use native.Mathlib.Omega.{arith}
-use Rattle.request.specs.Request.{tally}
+use lib.ListN.{length, take}
+use Rattle.request.specs.Request.{Booking, Request, book, tally}
+use Rattle.request.specs.Read.{requestOf}
 use Rattle.request.specs.Write.{write}
-use Rattle.ledger.specs.declared.Answer.{Answer}
-use Rattle.ledger.specs.declared.Answer.the-variants.{Accepted, Counted, Refused}
 use Rattle.ledger.specs.Ledger.{Ledger, empty}
-use Rattle.ledger.specs.Calls.{ok, told, call, after, answers}
-use Rattle.store.specs.Store.{ledgerOf}
+use Rattle.ledger.specs.Checks.{checksOf}
+use Rattle.ledger.specs.Calls.{Reply, Told, ok, told, accept, call, says, after, answers}
+use Rattle.ledger.specs.Statements.{IsAccepted}
+use Rattle.ledger.proofs.Answers.{some-inj, Does, refuses, accepts, does}
+use Rattle.ledger.proofs.Firsts.{first-fails}
+use Rattle.store.specs.Store.{ledgerOf, StandsFor}
+use Rattle.demands.specs.Demands.{Reached}
+use Rattle.demands.proofs.Demand1.{call-accepts}
+use Rattle.demands.proofs.Exactness.{soundness, exactness}
 use Rattle.demands.proofs.Demand3.{demand-3}
-use Rattle.entry.specs.Entered.{numbersOf}
-use Rattle.entry.specs.Played.{Played, none, more, PlayedIs, CallsAddUp}
+use Rattle.entry.specs.Entered.{numbers, Entered}
+use Rattle.entry.specs.Played.{Played, none, more, PlayedIs, Answered, refused, accepted, CallsAnswered}
+use Rattle.entry.specs.Played.{BookingsExact, CallsAddUp}
 
 -- from any ledger
 played : {l l′ : List ℕ} {bs ns : List (List ℕ)} (t : Ledger) → ledgerOf l ≡ t → Played l bs ns l′
-    → (ledgerOf l′ ≡ after t bs) × (ns ≡ map numbersOf (answers t bs))
+    → (ledgerOf l′ ≡ after t bs) × (ns ≡ map (λ a. numbers (told a)) (answers t bs))
 unfolding after answers
 played t e none = (e, refl)
 played t e (more {b = b} h p) =
     let rest = played (call t b .ledger) (h .ledger ∙ ap (λ (u : Ledger). call u b .ledger) e) p in
-    (rest .0, ap₂ _∷_ (h .answer ∙ ap (λ (u : Ledger). numbersOf (call u b .answer)) e) (rest .1))
+    (rest .0, ap₂ _∷_ (h .answer ∙ ap (λ (u : Ledger). numbers (says u b)) e) (rest .1))
 
 pub played-is : PlayedIs
 played-is l l′ bs ns s p = played empty (s .ledger) p
 
--- three values are a tally's
-three-values : (a : Answer) {o s p : ℕ} → told a ≡ ok (o ∷ s ∷ p ∷ []) → numbersOf a ≡ 3 ∷ o ∷ s ∷ p ∷ []
-three-values (Accepted n) e = let z : _≡_ {A = ℕ} 0 1 = cc in absurd (omega arith)
-three-values (Counted x y z) e = cc
-three-values (Refused n k) e = let z : _≡_ {A = ℕ} 0 1 = cc in absurd (omega arith)
+-- the call after them, at the ledger that they give
+module _ (l l₁ b n l₂ : List ℕ) (bs ns : List (List ℕ)) (g : StandsFor l empty) (p : Played l bs ns l₁)
+    (h : Entered l₁ b n l₂) where
+  abbrev t : Ledger
+  t = after empty bs
+
+  at : ledgerOf l₁ ≡ t
+  at = played-is l l₁ bs ns g p .0
+
+  says-it : n ≡ numbers (says t b)
+  says-it = h .answer ∙ ap (λ (u : Ledger). numbers (says u b)) at
+
+  -- as the reply of the definition
+  replied : {d : Reply} → call t b ≡ d → n ≡ numbers (told (d .answer))
+  replied q = says-it ∙ ap (λ (d : Reply). numbers (told (d .answer))) q
+
+  pub calls-answered : Answered t b n l₁ l₂
+  calls-answered = go (does t b)
+    where
+      go : Does t b → Answered t b n l₁ l₂
+      go (refuses f e q) =
+          refused f (first-fails (checksOf t b) e) (replied q) (h .same (f .number) (f .step)
+          (ap (λ (u : Ledger). says u b) at ∙ ap (λ (d : Reply). told (d .answer)) q))
+      go (accepts r e c d q) =
+          accepted r e c (replied q)
+          (h .ledger ∙ ap (λ (u : Ledger). call u b .ledger) at ∙ ap (λ (d : Reply). d .ledger) q)
+
+  module _ (k : Booking) (e : requestOf b ≡ some (book k)) where
+    -- an accepted booking is answered with the next serial
+    serial : IsAccepted (says t b) → n ≡ 1 ∷ t .next ∷ 0 ∷ 0 ∷ []
+    unfolding accept
+    serial a =
+        let d = call-accepts t b a in
+        replied (d .2 ∙ ap (accept t) (some-inj (sym (d .1) ∙ e)))
+
+    is-accepted : n ≡ 1 ∷ t .next ∷ 0 ∷ 0 ∷ [] → IsAccepted (says t b)
+    is-accepted q = go (says t b) (sym says-it ∙ q)
+      where
+        go : (a : Told) → numbers a ≡ 1 ∷ t .next ∷ 0 ∷ 0 ∷ [] → IsAccepted a
+        go (ok ns) z = tt
+        go (Told.no f s) z = let z : _≡_ {A = ℕ} 0 1 = cc in absurd (omega arith)
+
+    reached : Reached t
+    reached = record { calls = bs; gives = refl }
+
+pub bookings-exact : BookingsExact
+bookings-exact l l₁ b n l₂ bs ns k g p h e =
+    let s = serial l l₁ b n l₂ bs ns g p h k e in
+    let i = is-accepted l l₁ b n l₂ bs ns g p h k e in
+    let r = reached l l₁ b n l₂ bs ns g p h k e in
+    let x = exactness (after empty bs) r b k e .accepted in
+    record { exactly = (λ q. x .0 (i q), λ d. s (x .1 d)); sound = λ q. soundness (after empty bs) r b k e (i q) }
 
 pub calls-add-up : CallsAddUp
-calls-add-up l l₁ n l₂ bs ns s m hs hm g p t =
+unfolding take length _++_
+calls-add-up l l₁ n l₂ bs ns s m hs hm g p h =
     let sums = demand-3 bs s m hs hm in
-    let at = played-is l l₁ bs ns g p .0 in
     record {
       openSeats = sums .openSeats;
       shutSeats = sums .shutSeats;
       placed = sums .placed;
-      answer = t .answer ∙ ap (λ (u : Ledger). numbersOf (call u (write (tally s m)) .answer)) at
-          ∙ three-values (call (after empty bs) (write (tally s m)) .answer) (sums .answer);
+      answer = says-it l l₁ (write (tally s m)) n l₂ bs ns g p h ∙ ap numbers (sums .answer);
       sum = sums .sum;
     }

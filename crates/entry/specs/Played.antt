@@ -1,16 +1,24 @@
--- Calls from C in a row, on one block: what they come to, and demand 3 of them.
+-- Calls from C in a row, on one block: what they come to, and the demands of the running code.
 use mathlib.Core.Path.{_≡_}
+use mathlib.Core.Logic.{_↔_}
 use mathlib.Core.List.{List, [], _∷_, map}
+use mathlib.Core.Option.{some}
 use Prim.Native.Nat.{ℕ, _+_}
+use Rattle.logic.specs.Multiset.{Every}
 use Rattle.request.specs.Range.{session, minute}
 use Rattle.request.specs.InRange.{_∈_}
-use Rattle.request.specs.Request.{tally}
+use Rattle.request.specs.Request.{Booking, Request, book, tally}
+use Rattle.request.specs.Read.{requestOf}
 use Rattle.request.specs.Write.{write}
-use Rattle.ledger.specs.Ledger.{empty}
-use Rattle.ledger.specs.Calls.{after, answers}
+use Rattle.ledger.specs.declared.Answer.{Answer}
+use Rattle.ledger.specs.Ledger.{Ledger, empty}
+use Rattle.ledger.specs.Checks.{Refusal, checksOf}
+use Rattle.ledger.specs.Calls.{Told, told, accept, after, answers}
+use Rattle.ledger.specs.Statements.{Pass, FirstFails}
 use Rattle.store.specs.Store.{ledgerOf, StandsFor}
+use Rattle.demands.specs.Demands.{OnlySteps, StepsDerive, SoundFor}
 use Rattle.demands.specs.History.{historyOf, issued, withdrawn}
-use Rattle.entry.specs.Entered.{numbersOf, Entered}
+use Rattle.entry.specs.Entered.{numbers, Entered}
 
 -- the sheets of the calls, the numbers of their answers, and the block from before the first to after the last
 pub data Played : List ℕ → List (List ℕ) → List (List ℕ) → List ℕ → Type 0 where
@@ -23,7 +31,32 @@ pub data Played : List ℕ → List (List ℕ) → List (List ℕ) → List ℕ 
 abbrev pub PlayedIs : Type 0
 PlayedIs =
     (l l′ : List ℕ) (bs ns : List (List ℕ)) → StandsFor l empty → Played l bs ns l′
-    → (ledgerOf l′ ≡ after empty bs) × (ns ≡ map numbersOf (answers empty bs))
+    → (ledgerOf l′ ≡ after empty bs) × (ns ≡ map (λ a. numbers (told a)) (answers empty bs))
+
+-- DEMAND 1 of the running code: after any calls on a block that was started, the next call's numbers and block are the
+-- first failing check's, with the very same block, or those of an accepted request, where no check fails.
+pub data Answered (t : Ledger) (b n l l′ : List ℕ) : Type 0 where
+  refused : (f : Refusal) → FirstFails f (checksOf t b) → n ≡ 0 ∷ f .number ∷ f .step ∷ 0 ∷ [] → l′ ≡ l
+      → Answered t b n l l′
+  accepted : (r : Request) → requestOf b ≡ some r → Pass (checksOf t b) → n ≡ numbers (told (accept t r .answer))
+      → ledgerOf l′ ≡ accept t r .ledger → Answered t b n l l′
+
+abbrev pub CallsAnswered : Type 0
+CallsAnswered =
+    (l l₁ b n l₂ : List ℕ) (bs ns : List (List ℕ)) → StandsFor l empty → Played l bs ns l₁ → Entered l₁ b n l₂
+    → Answered (after empty bs) b n l₁ l₂
+
+-- DEMAND 2 of the running code: after any calls on a block that was started, a booking is accepted, with the next
+-- serial, exactly when its other checks pass and its steps are a derivation; and these are one of its goal from the
+-- credentials that it names.
+pub record BookingExact (t : Ledger) (b n : List ℕ) (k : Booking) : Type 0 where
+  pub exactly : (n ≡ 1 ∷ t .next ∷ 0 ∷ 0 ∷ []) ↔ (Every OnlySteps (checksOf t b) × StepsDerive t k)
+  pub sound : n ≡ 1 ∷ t .next ∷ 0 ∷ 0 ∷ [] → SoundFor t k
+
+abbrev pub BookingsExact : Type 0
+BookingsExact =
+    (l l₁ b n l₂ : List ℕ) (bs ns : List (List ℕ)) (k : Booking) → StandsFor l empty → Played l bs ns l₁
+    → Entered l₁ b n l₂ → requestOf b ≡ some (book k) → BookingExact (after empty bs) b n k
 
 -- DEMAND 3 of the running code: after any calls from a block that was started, a call with a tally answers three
 -- figures that add up with what was withdrawn to what was issued.

@@ -17,7 +17,7 @@ use Rattle.ledger.specs.Table.{form, names}
 use Rattle.ledger.specs.Ledger.{Ledger, formula}
 use Rattle.ledger.specs.Checks.{any, missing}
 use Rattle.ledger.proofs.Credentials.{any-none}
-use Rattle.ledger.proofs.Tables.{There}
+use Rattle.ledger.specs.Bounds.{There}
 use Rattle.store.specs.Store.{lineOf, ledgerOf, Canonical}
 use Rattle.parts.specs.declared.Parts.{Parts}
 use Rattle.parts.specs.Parts.{among, plains, partsOf, numbers}

@@ -3,7 +3,7 @@ use mathlib.Core.List.{List}
 use Prim.Native.Nat.{ℕ}
 use Rattle.steps.specs.declared.Row.{Row}
 use Rattle.ledger.specs.Table.{names}
-use Rattle.ledger.proofs.Tables.{There}
+use Rattle.ledger.specs.Bounds.{There}
 use Rattle.store.specs.Store.{lineOf, ledgerOf, Canonical, Good}
 
 -- the row of a line whose numbers the store has, so that it stands for a formula

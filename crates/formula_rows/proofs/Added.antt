@@ -15,7 +15,8 @@ use Rattle.ledger.specs.Table.{form}
 use Rattle.ledger.specs.Ledger.{Ledger, formula}
 use Rattle.ledger.specs.Calls.{withLine}
 use Rattle.ledger.proofs.Tables.{formula-snoc, formula-stays}
-use Rattle.ledger.proofs.Bounds.{Bounded, line-bounded}
+use Rattle.ledger.specs.Bounds.{Bounded}
+use Rattle.ledger.proofs.Bounds.{line-bounded}
 use Rattle.store.specs.Tab.{tab}
 use Rattle.cells.specs.Layout.{lineCount, lineCell, rowAt, sizeAt, plainAt, balancedAt, lineCells, putLineCount}
 use Rattle.cells.specs.Layout.{putLine}

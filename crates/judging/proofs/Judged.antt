@@ -1,7 +1,6 @@
 -- The steps of a booking, judged on the array of labels, are judged as the definition judges them.
 use mathlib.Core.Path.{_≡_, refl, sym, ap, subst, _∙_}
 use mathlib.Core.List.{List, map}
-use mathlib.Core.Option.{none, some}
 use mathlib.Core.Bool.{Bool, true, false}
 use Prim.Native.Nat.{ℕ, _+_, _*_, _≤_, _<_}
 use native.Mathlib.Omega.{arith}
@@ -18,7 +17,7 @@ use Rattle.steps.specs.declared.Goal.the-variants.{Holds}
 use Rattle.steps.specs.Check.{maxLabels, puts, Outcome, done, stopped, checkOf}
 use Rattle.ledger.specs.declared.Credential.{Credential}
 use Rattle.ledger.specs.Ledger.{row, held}
-use Rattle.ledger.specs.Checks.{Check, LabelTable, noLabels, readLabel, writeLabel, hypothesis, bookingSequent}
+use Rattle.ledger.specs.Checks.{LabelTable, noLabels, readLabel, writeLabel, hypothesis, bookingSequent}
 use Rattle.ledger.specs.Checks.{verdict, steps}
 use Rattle.cells.specs.Layout.{rowAt}
 use Rattle.store.specs.Store.{ledgerOf, Good}
@@ -27,8 +26,7 @@ use Rattle.tables.specs.Held.{heldAt, putHeld}
 use Rattle.tables.specs.Lines.{stepsFrom}
 use Rattle.tables.proofs.LabelTable.{heldTable, held-good}
 use Rattle.checker.specs.declared.Checked.{Checked}
-use Rattle.checker.specs.declared.Checked.the-variants.{Closed, Stopped}
-use Rattle.checker.specs.Cycle.{toldChecked, Answers}
+use Rattle.checker.specs.Cycle.{refusalOf, Answers}
 use Rattle.premises.specs.Begin.{sequent}
 use Rattle.ledger.specs.Checks.{dead}
 use Rattle.ledger.proofs.Credentials.{any-none, held-all}
@@ -70,12 +68,7 @@ no-labels i k = record {
   interval = record { from = zero-at (k * 3 + 1) i; to = zero-at (k * 3 + 2) i };
 }
 
--- the check that an answer of the code is
-abbrev pub checkedOf : Checked → Check
-checkedOf Closed = none
-checkedOf (Stopped c n) = some (record { number = c; step = n })
-
-verdict-told : (o : Outcome (List ℕ)) → verdict (shownOutcome heldAt o) ≡ checkedOf (toldChecked o)
+verdict-told : (o : Outcome (List ℕ)) → verdict (shownOutcome heldAt o) ≡ verdict o
 unfolding verdict
 verdict-told (done ss t n) = refl
 verdict-told (stopped c n) = refl
@@ -88,7 +81,7 @@ module _ (l : List ℕ) (cs : List Credential) (n : ℕ) (i : Interval) (ss : Li
       → length ss ≡ total → length cs ≡ next → length cs ≤ maxLabels
       → puts putHeld zeros 0 (map hypothesis cs) ≡ table → bookingSequent cs n i ≡ q
       → Answers (checkOf (rowAt l) heldAt putHeld total ss table next q) r table′
-      → steps (ledgerOf l) cs n i ss ≡ checkedOf r
+      → steps (ledgerOf l) cs n i ss ≡ refusalOf r
   unfolding steps shown
   steps-judged {total} {next} {table} {table′} {q} {r} g t m few e s a =
       ap (λ (u : LabelTable). verdict (checkOf (row (ledgerOf l)) readLabel writeLabel (length ss) ss
@@ -99,7 +92,7 @@ module _ (l : List ℕ) (cs : List Credential) (n : ℕ) (i : Interval) (ss : Li
       ∙ rw (rows-are l g, t, m, s, e) (ap verdict (check-shown shown (rowAt l) total ss table next q
       (subst (heldTable .Good) e (puts-stay shown zeros 0 (map hypothesis cs) zeros-good))))
       ∙ verdict-told (checkOf (rowAt l) heldAt putHeld total ss table next q)
-      ∙ ap checkedOf (sym (a .same))
+      ∙ sym (a .same)
 
 -- the same for a booking on its way, with what the code has at hand
 pub steps-told : {l : List ℕ} {h : Head} {serials rows table table′ : List ℕ} {s : Sides} {q : Sequent} {r x : Checked}
@@ -108,7 +101,7 @@ pub steps-told : {l : List ℕ} {h : Head} {serials rows table table′ : List �
     → Answers (checkOf (rowAt l) heldAt putHeld (h .steps) (stepsFrom rows 0 (h .steps)) table (h .holds) q) r table′
     → r ≡ x
     → steps (ledgerOf l) (held (ledgerOf l .live) (take (h .holds) serials)) (h .formula) (h .interval)
-    (stepsFrom rows 0 (h .steps)) ≡ checkedOf x
+    (stepsFrom rows 0 (h .steps)) ≡ refusalOf x
 unfolding maxLabels
 steps-told {l} {h} {serials} {rows} {s = s} b q a e =
     let ns = take (h .holds) serials in
@@ -122,4 +115,4 @@ steps-told {l} {h} {serials} {rows} {s = s} b q a e =
       linear = b .holds .linear i;
       goal = Holds (h .formula) (h .interval);
     }) ∙ sym q) a
-    ∙ ap checkedOf e
+    ∙ ap refusalOf e

@@ -42,14 +42,13 @@ none-of (suc n) h = refl
 
 module _ {l b : List ℕ} {h : Head} (o : Opened l b h) where
   -- what the readers of the lines ask
-  pub holds-asked : (serials : List ℕ) → length serials ≡ 32 → LinesAsked b (h .holds) 32 serials 32
-  holds-asked serials e = record { short = o .short; few = o .head .range .holds .most; long = e }
+  pub holds-asked : LinesAsked b (h .holds) 32
+  holds-asked = record { short = o .short; few = o .head .range .holds .most }
 
-  pub steps-asked : (at : ℕ) (rows : List ℕ) → length rows ≡ 1536 → LinesAsked (from b at) (h .steps) 256 rows 1536
-  steps-asked at rows e = record {
+  pub steps-asked : (at : ℕ) → LinesAsked (from b at) (h .steps) 256
+  steps-asked at = record {
     short = rw (from-is b at) (omega (arith, o .short, length-drop at b));
     few = o .head .range .steps .most;
-    long = e;
   }
 
   pub holds-broken : none ≡ readLines (h .holds) holdLine (drop (h .next) b) → Called l b (Refused 2 0) l

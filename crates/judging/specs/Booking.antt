@@ -24,10 +24,6 @@ use Rattle.holds.specs.Holds.{Serials, AllHeld}
 abbrev pub bookingAt : Head → List ℕ → List ℕ → Request
 bookingAt h serials rows = booked h (take (h .holds) serials) (stepsFrom rows 0 (h .steps))
 
--- an array of 1536 numbers, lent for the rows of a booking's steps: what its type says
-abbrev pub Lent : List ℕ → Type 0
-Lent rows = length rows ≡ 1536
-
 -- its bytes have the right length and begin as a booking, whose head has been read
 pub record Opened (l b : List ℕ) (h : Head) : Type 0 where
   pub good : Good l

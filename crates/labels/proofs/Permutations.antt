@@ -1,7 +1,7 @@
 -- Laws of permutations that lists of a set's labels need: appended lists, one element in front, none.
 use mathlib.Core.Path.{_≡_, refl, ap, subst, _∙_}
 use mathlib.Core.List.{List, [], _∷_, _++_, List·Memᴰ, List·Memᴰ·head, List·Memᴰ·tail}
-use Rattle.logic.specs.Multiset.{Ins, here, there, Perm, none, more}
+use Rattle.logic.specs.Multiset.{Ins, here, there, Perm, none, more, Within}
 use Rattle.logic.proofs.Multisets.{perm-refl, perm-sym}
 
 module _ {A : Type 0} where
@@ -60,10 +60,6 @@ module _ {A : Type 0} where
   ins-new : {h x : A} {ys zs : List A} → h ≡ x → Ins x ys zs → List·Memᴰ h zs
   ins-new q (here e) = List·Memᴰ·head (q ∙ e)
   ins-new q (there i) = List·Memᴰ·tail (ins-new q i)
-
-  -- every member of the one is a member of the other
-  abbrev pub Within : List A → List A → Type 0
-  Within xs ys = (h : A) → List·Memᴰ h xs → List·Memᴰ h ys
 
   pub perm-in : {xs ys : List A} → Perm xs ys → Within xs ys
   perm-in (more i m) h (List·Memᴰ·head e) = ins-new e i

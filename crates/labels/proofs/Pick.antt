@@ -1,5 +1,5 @@
--- What a set of labels stands for, as a list: f k for the labels k below n that the set has, in rising order. One
--- label, a share and the rest, a new label; and conversely the labels and shares that parts of the list come from.
+-- What a set of labels stands for, as a list: one label, a share and the rest, a new label; and conversely the labels
+-- and shares that parts of the list come from.
 use mathlib.Core.Path.{_≡_, refl, sym, ap, ap₂, subst, _∙_}
 use mathlib.Core.List.{List, [], _∷_, _++_}
 use Prim.Native.Nat.{ℕ, zero, suc, _+_, _-_, _*_, _/_, _%_, _^_, _≤_, _<_, min}
@@ -10,7 +10,7 @@ use lib.Pow.{shr-shr}
 use borrow.Author.Tests.{eqb-true, eq-eqb}
 use Rattle.logic.specs.Multiset.{here, there, Perm, none, more}
 use Rattle.logic.proofs.Multisets.{perm-sym}
-use Rattle.labels.specs.Labels.{insert, without, remove, _∋_, _⊑_}
+use Rattle.labels.specs.Labels.{insert, without, remove, _∋_, _⊑_, later, prepend, pick}
 use Rattle.labels.proofs.Sets.{subset-le, member-subset, subset-member, insert-member, remove-insert}
 use Rattle.labels.proofs.Permutations.{on, perm-nil, perm-middle, front, inhabited, Side, left, right, side}
 
@@ -33,18 +33,6 @@ member-half d k h =
     eq-eqb _ _ (ap (λ (x : ℕ). x % 2) (sym (shr-shr d 1 k ∙ ap (λ (x : ℕ). d / 2 ^ x) e)) ∙ eqb-true _ _ h)
 
 module _ {A : Type 0} where
-  -- what stands for the labels from 1 on
-  abbrev pub later : (ℕ → A) → ℕ → A
-  later f k = f (suc k)
-
-  abbrev pub put : ℕ → A → List A → List A
-  put zero x l = l
-  put (suc b) x l = x ∷ l
-
-  abbrev pub pick : (ℕ → A) → ℕ → ℕ → List A
-  pick f zero d = []
-  pick f (suc n) d = put (d % 2) (f 0) (pick (later f) n (d / 2))
-
   -- No label, and one
 
   pub pick-empty : (f : ℕ → A) (n : ℕ) → pick f n 0 ≡ []
@@ -60,14 +48,14 @@ module _ {A : Type 0} where
       rw (a, b) (pick-only (later f) n k (omega arith))
 
   -- a set with nothing in its list is empty
-  put-nil : (b : ℕ) (x : A) (l : List A) → put b x l ≡ [] → (b ≡ 0) × (l ≡ [])
-  put-nil zero x l e = (refl, e)
-  put-nil (suc b) x l e = let z : _≡_ {A = ℕ} 1 0 = cc in absurd (omega arith)
+  low-nil : (b : ℕ) (x : A) (l : List A) → prepend b x l ≡ [] → (b ≡ 0) × (l ≡ [])
+  low-nil zero x l e = (refl, e)
+  low-nil (suc b) x l e = let z : _≡_ {A = ℕ} 1 0 = cc in absurd (omega arith)
 
   pub pick-nil : (f : ℕ → A) (n d : ℕ) → d < 2 ^ n → pick f n d ≡ [] → d ≡ 0
   pick-nil f zero d h e = omega arith
   pick-nil f (suc n) d h e =
-      let r = put-nil (d % 2) (f 0) (pick (later f) n (d / 2)) e in
+      let r = low-nil (d % 2) (f 0) (pick (later f) n (d / 2)) e in
       omega (arith, r .0, pick-nil (later f) n (d / 2) (omega (arith, pow-suc 2 n)) (r .1))
 
   -- two functions that agree on the labels give one list
@@ -76,21 +64,21 @@ module _ {A : Type 0} where
   pick-agree f g (suc n) d h =
       go (d % 2) refl (pick-agree (later f) (later g) n (d / 2) (λ k m. h (suc k) (member-half d k m)))
     where
-      go : (b : ℕ) → d % 2 ≡ b → {l m : List A} → l ≡ m → put b (f 0) l ≡ put b (g 0) m
+      go : (b : ℕ) → d % 2 ≡ b → {l m : List A} → l ≡ m → prepend b (f 0) l ≡ prepend b (g 0) m
       go zero e q = q
       go (suc b) e q = ap₂ _∷_ (h 0 (eq-eqb (d / 2 ^ 0 % 2) 1 (omega arith))) q
 
   -- A share and the rest
 
-  put-split : (x : A) (a b c : ℕ) → a + b ≡ c → c < 2 → (p q : List A) {r : List A} → Perm (p ++ q) r
-      → Perm (put a x p ++ put b x q) (put c x r)
-  put-split x zero zero zero e l p q m = m
-  put-split x zero zero (suc c) e l p q m = absurd (omega arith)
-  put-split x zero (suc b) zero e l p q m = absurd (omega arith)
-  put-split x zero (suc b) (suc c) e l p q m = perm-middle p q m
-  put-split x (suc a) zero zero e l p q m = absurd (omega arith)
-  put-split x (suc a) zero (suc c) e l p q m = on m
-  put-split x (suc a) (suc b) c e l p q m = absurd (omega arith)
+  split-low : (x : A) (a b c : ℕ) → a + b ≡ c → c < 2 → (p q : List A) {r : List A} → Perm (p ++ q) r
+      → Perm (prepend a x p ++ prepend b x q) (prepend c x r)
+  split-low x zero zero zero e l p q m = m
+  split-low x zero zero (suc c) e l p q m = absurd (omega arith)
+  split-low x zero (suc b) zero e l p q m = absurd (omega arith)
+  split-low x zero (suc b) (suc c) e l p q m = perm-middle p q m
+  split-low x (suc a) zero zero e l p q m = absurd (omega arith)
+  split-low x (suc a) zero (suc c) e l p q m = on m
+  split-low x (suc a) (suc b) c e l p q m = absurd (omega arith)
 
   pub pick-share : (f : ℕ → A) (n s d : ℕ) → s ⊑ d → Perm (pick f n s ++ pick f n (without d s)) (pick f n d)
   pick-share f zero s d h = none
@@ -98,7 +86,7 @@ module _ {A : Type 0} where
       let k = subset-half s d h in
       let e : without d s % 2 ≡ d % 2 - s % 2 = omega (arith, without-low d s, k .0) in
       rw (without-half d s, e)
-      (put-split (f 0) (s % 2) (d % 2 - s % 2) (d % 2) (omega (arith, k .0)) (omega arith) (pick (later f) n (s / 2))
+      (split-low (f 0) (s % 2) (d % 2 - s % 2) (d % 2) (omega (arith, k .0)) (omega arith) (pick (later f) n (s / 2))
       (pick (later f) n (without (d / 2) (s / 2))) (pick-share (later f) n (s / 2) (d / 2) (k .1)))
 
   pub pick-remove : (f : ℕ → A) (n d k : ℕ) → k < n → d ∋ k → Perm (f k ∷ pick f n (remove d k)) (pick f n d)
@@ -114,8 +102,8 @@ module _ {A : Type 0} where
   Share f n d D E = (s : ℕ) × (s ⊑ d) × Perm D (pick f n s) × Perm E (pick f n (without d s))
 
   doubled : (f : ℕ → A) (n d b c s : ℕ) (D E : List A) → b + c ≡ d % 2 → s ⊑ d / 2
-      → Perm D (put b (f 0) (pick (later f) n s))
-      → Perm E (put c (f 0) (pick (later f) n (without (d / 2) s)))
+      → Perm D (prepend b (f 0) (pick (later f) n s))
+      → Perm E (prepend c (f 0) (pick (later f) n (without (d / 2) s)))
       → Share f (suc n) d D E
   doubled f n d b c s D E e h p q =
       let t = s * 2 + b in
@@ -130,7 +118,7 @@ module _ {A : Type 0} where
 
   choose-go : (f : ℕ → A) (n d : ℕ) (D E : List A) (b : ℕ) → d % 2 ≡ b
       → ((P Q : List A) → Perm (P ++ Q) (pick (later f) n (d / 2)) → Share (later f) n (d / 2) P Q)
-      → Perm (put b (f 0) (pick (later f) n (d / 2))) (D ++ E) → Share f (suc n) d D E
+      → Perm (prepend b (f 0) (pick (later f) n (d / 2))) (D ++ E) → Share f (suc n) d D E
   choose-go f n d D E zero e ih m =
       let r = ih D E (perm-sym m) in
       doubled f n d 0 0 (r .0) D E (omega arith) (r .1) (r .2) (r .3)
@@ -161,7 +149,7 @@ module _ {A : Type 0} where
 
   only-go : (f : ℕ → A) (n s : ℕ) (h : A) (b : ℕ) → s % 2 ≡ b → s / 2 < 2 ^ n
       → (Perm (h ∷ []) (pick (later f) n (s / 2)) → Only (later f) n (s / 2) h)
-      → Perm (h ∷ []) (put b (f 0) (pick (later f) n (s / 2))) → Only f (suc n) s h
+      → Perm (h ∷ []) (prepend b (f 0) (pick (later f) n (s / 2))) → Only f (suc n) s h
   only-go f n s h zero e lim ih m =
       let r = ih m in
       (suc (r .0), omega (arith, r .1), r .2, omega (arith, r .3))

@@ -1,7 +1,8 @@
 -- Sets of labels, as numbers: "bit k (worth 2 to the k) stands for label k".
 use mathlib.Core.Path.{_≡_}
 use mathlib.Core.Bool.{Bool, true}
-use Prim.Native.Nat.{ℕ, _-_, _/_, _%_, _^_}
+use mathlib.Core.List.{List, [], _∷_}
+use Prim.Native.Nat.{ℕ, zero, suc, _-_, _/_, _%_, _^_}
 use lib.Dec.{eqb}
 use lib.Bits.{bitAnd, bitOr}
 
@@ -39,3 +40,18 @@ d ∋ k = member d k ≡ true
 infix 40 _⊑_
 abbrev pub _⊑_ : ℕ → ℕ → Type 0
 s ⊑ d = subset s d ≡ true
+
+-- What a set stands for, as a list: f k for the labels k below n that the set has, in rising order.
+module _ {A : Type 0} where
+  -- what stands for the labels from 1 on
+  abbrev pub later : (ℕ → A) → ℕ → A
+  later f k = f (suc k)
+
+  -- x in front, where the digit is not 0
+  abbrev pub prepend : ℕ → A → List A → List A
+  prepend zero x l = l
+  prepend (suc b) x l = x ∷ l
+
+  abbrev pub pick : (ℕ → A) → ℕ → ℕ → List A
+  pick f zero d = []
+  pick f (suc n) d = prepend (d % 2) (f 0) (pick (later f) n (d / 2))

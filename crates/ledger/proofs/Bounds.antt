@@ -1,4 +1,4 @@
--- What holds of every ledger that calls gave: the limits of document 01.
+-- Every ledger that calls gave is bounded: the empty one is, and each accepted request keeps it.
 use mathlib.Core.Path.{_≡_, refl, sym, subst}
 use mathlib.Core.List.{List, [], _∷_, _++_}
 use mathlib.Core.Option.{Option, some}
@@ -20,30 +20,13 @@ use Rattle.ledger.specs.declared.Answer.{Answer}
 use Rattle.ledger.specs.Table.{form, names, build, formulas}
 use Rattle.ledger.specs.Ledger.{Ledger, empty, formula, byKind, find, withoutSerial, held, spend}
 use Rattle.ledger.specs.Checks.{maxSize, maxFormulas, maxLive, checks}
-use Rattle.ledger.specs.Calls.{withLine, withLive, withCredential, accept, after}
+use Rattle.ledger.specs.Calls.{withLine, withLive, withCredential, accept}
 use Rattle.ledger.specs.Statements.{Pass}
 use Rattle.ledger.proofs.Walk.{walk}
 use Rattle.ledger.proofs.Credentials.{take-out, splits}
-use Rattle.ledger.proofs.Tables.{formula-snoc, Tabled, There, line-tabled}
+use Rattle.ledger.specs.Bounds.{Tabled, There, Rises, Below, Bounded, AlwaysBounded}
+use Rattle.ledger.proofs.Tables.{formula-snoc, line-tabled}
 use Rattle.ledger.proofs.Passed.{passed-word, passed-issue, passed-withdraw, passed-book}
-
--- serials rise, from above lo
-abbrev pub Rises : ℕ → List Credential → Type 0
-Rises lo [] = Unit {0}
-Rises lo (c ∷ cs) = (lo < c .serial) × Rises (c .serial) cs
-
-abbrev pub Below : ℕ → List Credential → Type 0
-Below n = Every (λ c. c .serial < n)
-
-pub record Bounded (t : Ledger) : Type 0 where
-  pub tabled : Tabled t
-  pub rises : Rises 0 (t .live)
-  pub below : Below (t .next) (t .live)
-  pub lines : length (t .lines) ≤ maxFormulas
-  pub live : length (t .live) ≤ maxLive
-  pub first : 1 ≤ t .next
-  pub last : t .next ≤ serial .last + 1
-  pub sizes : (n : ℕ) → size (formula t n) ≤ maxSize
 
 one-more : (cs : List Credential) (c : Credential) {n : ℕ} → length cs < n → length (cs ++ (c ∷ [])) ≤ n
 one-more cs c h = omega (arith, length-append cs (c ∷ []))
@@ -175,7 +158,7 @@ empty-bounded = record {
 abbrev forget : Option Request → Answer → Unit {0} → Unit {0}
 forget o a u = u
 
-pub bounded : (bs : List (List ℕ)) → Bounded (after empty bs)
+pub bounded : AlwaysBounded
 bounded bs =
     walk forget (λ t u. Bounded t) (λ o n k u. refl) (λ t u b r e p. accept-bounded t r (p .1)) empty tt bs
     empty-bounded

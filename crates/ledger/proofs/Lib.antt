@@ -8,3 +8,4 @@ pub mod Bounds
 pub mod Compute
 pub mod Sessions
 pub mod Cases
+pub mod LastSerials

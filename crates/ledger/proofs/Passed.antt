@@ -24,7 +24,7 @@ use Rattle.ledger.specs.Checks.{checks}
 use Rattle.ledger.specs.Statements.{Pass}
 use Rattle.ledger.proofs.Answers.{if-none}
 use Rattle.ledger.proofs.Credentials.{any-none}
-use Rattle.ledger.proofs.Tables.{There}
+use Rattle.ledger.specs.Bounds.{There}
 
 -- linear credentials are plain, unrestricted ones balanced
 abbrev pub Fair : Kind → Formula → Type 0

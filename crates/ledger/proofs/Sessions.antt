@@ -1,8 +1,12 @@
--- M1 to M9, by computation.
+-- M1 to M10, by computation.
 use mathlib.Core.Path.{refl}
-use Rattle.ledger.specs.Sessions.{Plays, AllPlay, SessionsPlay}
+use Rattle.ledger.specs.Sessions.{Plays, AllPlay, SessionsPlay, times, counting, M10}
 use Rattle.ledger.proofs.Compute.{played}
 
 pub sessions-play : SessionsPlay
 unfolding played Plays AllPlay
 sessions-play = (refl, (refl, (refl, (refl, (refl, (refl, (refl, (refl, (refl, tt)))))))))
+
+pub m10-plays : Plays M10
+unfolding played Plays times counting
+m10-plays = refl

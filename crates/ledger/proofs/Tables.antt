@@ -14,6 +14,7 @@ use Rattle.request.specs.Request.{Line}
 use Rattle.ledger.specs.Table.{form, names, nth, build, formulas}
 use Rattle.ledger.specs.Ledger.{Ledger, formula}
 use Rattle.ledger.specs.Calls.{withLine}
+use Rattle.ledger.specs.Bounds.{lineAt, There, Tabled}
 
 build-snoc : (acc : List Formula) (ls : List Line) (l : Line)
     → build acc (ls ++ (l ∷ [])) ≡ build acc ls ++ (form (nth (build acc ls)) l ∷ [])
@@ -68,17 +69,6 @@ form-agree f g (Line.bang i) h = ap bang (h .0)
 form-agree f g (Line.at i w) h = ap (λ (a : Formula). at a w) (h .0)
 form-agree f g (Line.says k i) h = ap (says k) (h .0)
 form-agree f g (Line.superset v w) h = refl
-
-abbrev pub lineAt : Ledger → ℕ → Line
-lineAt t n = getD (t .lines) n Line.one
-
--- the numbers are there
-abbrev pub There : Ledger → List ℕ → Type 0
-There t = Every (λ k. k < length (t .lines))
-
-pub record Tabled (t : Ledger) : Type 0 where
-  pub reads : (n : ℕ) → formula t n ≡ form (formula t) (lineAt t n)
-  pub refs : (n : ℕ) → There t (names (lineAt t n))
 
 pub line-tabled : (t : Ledger) (l : Line) → Tabled t → There t (names l) → Tabled (withLine t l)
 line-tabled t l h r = record {

@@ -1,15 +1,15 @@
 -- Further sessions: one for each place where document 01 is easily read otherwise (docs/DECISIONS.md has the reasons).
--- A request is given by its whole text.
+-- A request is given by its whole text. Those of the steps are in StepCases.antt.
 use mathlib.Core.Path.{_≡_}
 use mathlib.Core.List.{List, [], _∷_, _++_, map}
-use Prim.Native.Nat.{ℕ, zero, suc}
+use Prim.Native.Nat.{ℕ}
 use Prim.Native.String.{String}
 use Rattle.request.specs.Text.{bytes}
-use Rattle.ledger.specs.Ledger.{empty}
+use Rattle.ledger.specs.Ledger.{Ledger, empty}
 use Rattle.ledger.specs.Calls.{Told, ok, told, answers}
 use Rattle.ledger.specs.Sessions.{ofLines}
 
--- texts from the empty ledger on, each with what it is answered
+-- a text with what it is answered
 pub record Turn : Type 0 where
   pub text : List ℕ
   pub reply : Told
@@ -29,8 +29,13 @@ accepted n = ok (n ∷ [])
 abbrev pub refused : ℕ → Told
 refused n = Told.no n 0
 
-unfoldable pub Answered : List Turn → Type 0
-Answered ts = map told (answers empty (map (λ t. t .text) ts)) ≡ map (λ t. t .reply) ts
+-- texts one after the other, from a ledger on and from the empty one
+unfoldable pub AnsweredFrom : Ledger → List Turn → Type 0
+AnsweredFrom l ts = map told (answers l (map (λ t. t .text) ts)) ≡ map (λ t. t .reply) ts
+
+unfoldable pub AllAnswered : List (List Turn) → Type 0
+AllAnswered [] = Unit {0}
+AllAnswered (ts ∷ more) = AnsweredFrom empty ts × AllAnswered more
 
 -- Form: "lines ended by byte 10", "no spaces", "without leading zeros", ranges, "empty"; 2 before all else.
 abbrev pub form : List Turn
@@ -69,7 +74,7 @@ order =
     ("issue,s,0,0,9\n" ⇒ refused 20) ∷
     ("issue,r,0,0,9\n" ⇒ accepted 1) ∷ []
 
--- A seat (0), a free atom (1), two principals' (2, 3); serial 1 is a seat, 2 is 1's free atom.
+-- A seat (0), a free atom (1), two principals' (2, 3); serial 1 is a seat, 2 is 1's free atom, 3 an unrestricted atom.
 abbrev pub start : List Turn
 start =
     ("word,a,1,7\n" ⇒ accepted 0) ∷
@@ -77,76 +82,31 @@ start =
     ("word,s,1,1\n" ⇒ accepted 2) ∷
     ("word,s,2,1\n" ⇒ accepted 3) ∷
     ("issue,s,0,0,9\n" ⇒ accepted 1) ∷
-    ("issue,s,2,0,9\n" ⇒ accepted 2) ∷ []
+    ("issue,s,2,0,9\n" ⇒ accepted 2) ∷
+    ("issue,r,1,0,9\n" ⇒ accepted 3) ∷ []
 
--- "All holds pass 24 before 31 is tried"; 30 before both; a step's window is 3; a label out of range is 2, one never
--- taken 40; more lines than announced are 2.
+-- "All holds pass 24 before 31 is tried"; 31 of both kinds; 30 before both; a step's window is 3; a label out of range
+-- is 2, one never taken 40; more lines than announced are 2; of lines that follow the close the first is 42.
 abbrev pub bookings : List Turn
 bookings =
     start ++
     (("book,5,0,0,9,3,1" ∷ "hold,1" ∷ "hold,1" ∷ "hold,9" ∷ "ax,0" ∷ []) ⇛ refused 24) ∷
     (("book,5,0,0,9,2,1" ∷ "hold,1" ∷ "hold,1" ∷ "ax,0" ∷ []) ⇛ refused 31) ∷
+    (("book,5,1,0,9,2,2" ∷ "hold,3" ∷ "hold,3" ∷ "cp,0" ∷ "ax,2" ∷ []) ⇛ refused 31) ∷
     (("book,10,0,0,9,2,1" ∷ "hold,1" ∷ "hold,9" ∷ "ax,0" ∷ []) ⇛ refused 30) ∷
     (("book,5,0,0,9,1,2" ∷ "hold,1" ∷ "ax,0" ∷ "ul,0,9,0" ∷ []) ⇛ refused 3) ∷
     (("book,5,0,0,9,1,1" ∷ "hold,1" ∷ "ax,64" ∷ []) ⇛ refused 2) ∷
     (("book,5,0,0,9,1,1" ∷ "hold,1" ∷ "ax,63" ∷ []) ⇛ Told.no 40 1) ∷
     (("book,5,0,0,9,1,1" ∷ "hold,1" ∷ "ax,0" ∷ "ax,0" ∷ []) ⇛ refused 2) ∷
-    (("book,5,0,0,9,1,2" ∷ "hold,1" ∷ "ax,0" ∷ "ax,0" ∷ []) ⇛ Told.no 42 2) ∷
+    (("book,5,0,0,9,1,3" ∷ "hold,1" ∷ "ax,0" ∷ "ax,9" ∷ "ax,0" ∷ []) ⇛ Told.no 42 2) ∷
     (("book,5,2,0,9,1,2" ∷ "hold,2" ∷ "sr" ∷ "sl,0" ∷ []) ⇛ Told.no 42 3) ∷
     (("book,5,0,0,9,2,1" ∷ "hold,1" ∷ "hold,2" ∷ "ax,0" ∷ []) ⇛ Told.no 40 1) ∷
     (("book,5,3,0,9,1,4" ∷ "hold,2" ∷ "sr" ∷ "sl,0" ∷ "af" ∷ "ax,1" ∷ []) ⇛ Told.no 40 2) ∷
-    (("book,5,2,0,9,1,4" ∷ "hold,2" ∷ "sr" ∷ "sl,0" ∷ "af" ∷ "ax,1" ∷ []) ⇛ accepted 3) ∷ []
-
--- "A from an empty D": the linear free atom cannot prove the left of ⊃, an unrestricted one can.
-abbrev pub arrows : List Turn
-arrows =
-    ("word,a,9,7\n" ⇒ accepted 0) ∷
-    ("word,a,8,7\n" ⇒ accepted 1) ∷
-    ("word,u,0,1\n" ⇒ accepted 2) ∷
-    ("issue,r,2,0,9\n" ⇒ accepted 1) ∷
-    ("issue,s,0,0,9\n" ⇒ accepted 2) ∷
-    ("issue,r,0,0,9\n" ⇒ accepted 3) ∷
-    (("book,5,1,0,9,2,4" ∷ "hold,1" ∷ "hold,2" ∷ "cp,0" ∷ "ul,2,0,9" ∷ "ax,1" ∷ "ax,3" ∷ []) ⇛ Told.no 40 3) ∷
-    (("book,5,1,0,9,2,5" ∷ "hold,1" ∷ "hold,3" ∷ "cp,0" ∷ "ul,2,0,9" ∷ "cp,1" ∷ "ax,3" ∷ "ax,4" ∷ []) ⇛ accepted 4)
-    ∷ []
-
--- "both arms, each from all of D"; "which must not have L".
-abbrev pub arms : List Turn
-arms =
-    ("word,a,9,7\n" ⇒ accepted 0) ∷
-    ("word,w,0,0\n" ⇒ accepted 1) ∷
-    ("word,l,1,0\n" ⇒ accepted 2) ∷
-    ("issue,r,2,0,9\n" ⇒ accepted 1) ∷
-    ("issue,s,0,0,9\n" ⇒ accepted 2) ∷
-    (("book,5,0,0,9,2,6" ∷ "hold,1" ∷ "hold,2" ∷ "cp,0" ∷ "ll,2,0000000000000006,0,9" ∷ "wr" ∷ "ax,1" ∷ "ax,1"
-    ∷ "ax,3" ∷ []) ⇛ Told.no 40 2) ∷
-    (("book,5,0,0,9,2,6" ∷ "hold,1" ∷ "hold,2" ∷ "cp,0" ∷ "ll,2,0000000000000002,0,9" ∷ "wr" ∷ "ax,1" ∷ "ax,1"
-    ∷ "ax,3" ∷ []) ⇛ accepted 3) ∷ []
-
--- the same line n times
-unfoldable pub times : ℕ → String → List String
-times zero l = []
-times (suc n) l = l ∷ times n l
-
--- Labels end at 63: one hold and 63 copies fit, the 64th copy is 41 with its own step. `pl` takes a label for each arm
--- as that premise begins.
-abbrev pub labels : List Turn
-labels =
-    ("word,a,9,7\n" ⇒ accepted 0) ∷
-    ("word,p,0,0\n" ⇒ accepted 1) ∷
-    ("word,l,0,1\n" ⇒ accepted 2) ∷
-    ("issue,r,0,0,9\n" ⇒ accepted 1) ∷
-    ("issue,r,2,0,9\n" ⇒ accepted 2) ∷
-    ("issue,s,0,0,9\n" ⇒ accepted 3) ∷
-    (("book,5,0,0,9,1,64" ∷ "hold,1" ∷ times 64 "cp,0") ⇛ Told.no 41 64) ∷
-    (("book,5,0,0,9,1,63" ∷ "hold,1" ∷ times 63 "cp,0") ⇛ Told.no 42 64) ∷
-    (("book,5,0,0,9,3,5" ∷ "hold,1" ∷ "hold,2" ∷ "hold,3" ∷ "cp,1" ∷ "ll,3,0000000000000004,0,9" ∷ "ax,2" ∷ "pl,4"
-    ∷ "ax,5" ∷ []) ⇛ Told.no 42 6) ∷
-    (("book,5,0,0,9,3,6" ∷ "hold,1" ∷ "hold,2" ∷ "hold,3" ∷ "cp,1" ∷ "ll,3,0000000000000004,0,9" ∷ "ax,2" ∷ "pl,4"
-    ∷ "ax,5" ∷ "ax,6" ∷ []) ⇛ accepted 4) ∷ []
+    (("book,5,2,0,9,1,4" ∷ "hold,2" ∷ "sr" ∷ "sl,0" ∷ "af" ∷ "ax,1" ∷ []) ⇛ accepted 4) ∷ []
 
 -- "open = seats of the session in coupons whose window has the minute": both ends are in; an unrestricted credential
--- counts nothing; a part counts as often as it stands there.
+-- counts nothing; a part counts as often as it stands there. A booking makes the seat a place, and the credential that
+-- it gave can be withdrawn.
 abbrev pub tallies : List Turn
 tallies =
     ("word,a,1,7\n" ⇒ accepted 0) ∷
@@ -164,4 +124,20 @@ tallies =
     ("withdraw,1\n" ⇒ accepted 1) ∷
     ("withdraw,2\n" ⇒ accepted 2) ∷
     ("withdraw,2\n" ⇒ refused 24) ∷
-    ("tally,7,5\n" ⇒ ok (0 ∷ 0 ∷ 1 ∷ [])) ∷ []
+    ("tally,7,5\n" ⇒ ok (0 ∷ 0 ∷ 1 ∷ [])) ∷
+    ("issue,r,3,0,9\n" ⇒ accepted 4) ∷
+    ("issue,s,0,0,9\n" ⇒ accepted 5) ∷
+    ("tally,7,5\n" ⇒ ok (1 ∷ 0 ∷ 1 ∷ [])) ∷
+    (("book,5,1,0,9,2,4" ∷ "hold,4" ∷ "hold,5" ∷ "cp,0" ∷ "ll,2,0000000000000002,0,9" ∷ "ax,1" ∷ "ax,3"
+    ∷ []) ⇛ accepted 6) ∷
+    ("tally,7,5\n" ⇒ ok (0 ∷ 0 ∷ 2 ∷ [])) ∷
+    ("withdraw,6\n" ⇒ accepted 6) ∷
+    ("tally,7,5\n" ⇒ ok (0 ∷ 0 ∷ 1 ∷ [])) ∷
+    ("withdraw,5\n" ⇒ refused 24) ∷
+    ("withdraw,4\n" ⇒ accepted 4) ∷ []
+
+abbrev pub cases : List (List Turn)
+cases = form ∷ order ∷ bookings ∷ tallies ∷ []
+
+abbrev pub CasesPlay : Type 0
+CasesPlay = AllAnswered cases

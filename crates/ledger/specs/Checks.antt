@@ -21,6 +21,7 @@ use Rattle.steps.specs.declared.Hypothesis.{Hypothesis}
 use Rattle.steps.specs.declared.Goal.the-variants.{Holds}
 use Rattle.steps.specs.declared.Sequent.{Sequent}
 use Rattle.steps.specs.Check.{Outcome, done, stopped, puts, checkOf}
+pub use Rattle.steps.specs.Labelling.{LabelTable, readLabel, writeLabel}
 use Rattle.ledger.specs.declared.Credential.{Credential}
 use Rattle.ledger.specs.Table.{form, names, rowOf}
 use Rattle.ledger.specs.Ledger.{Ledger, formula, row, isKind, find, isNone, held, linearCount}
@@ -95,18 +96,9 @@ usedUp t = ltb (serial .last) (t .next)
 
 -- The steps of a booking
 
--- the table of labels, as a function
-abbrev pub LabelTable : Type 0
-LabelTable = ℕ → Hypothesis
-
+-- the table of labels, as a function, before any is taken
 abbrev pub noLabels : LabelTable
 noLabels k = record { formula = 0; interval = span 0 0 }
-
-abbrev pub readLabel : LabelTable → ℕ → Hypothesis
-readLabel f k = f k
-
-abbrev pub writeLabel : LabelTable → ℕ → Hypothesis → LabelTable
-writeLabel f n h = λ k. elim (eqb k n) [ true ↦ h | false ↦ f k ]
 
 -- "Holds take labels 0, 1, .. in order": what they stand for, and the set of those of a kind, from label n on, with d
 abbrev pub hypothesis : Credential → Hypothesis

@@ -1,7 +1,7 @@
--- Document 01's sessions M1 to M9: inputs, as the bytes of the requests, with their answers.
+-- Document 01's sessions M1 to M10: inputs, as the bytes of the requests, with their answers.
 use mathlib.Core.Path.{_≡_}
 use mathlib.Core.List.{List, [], _∷_, _++_, map}
-use Prim.Native.Nat.{ℕ}
+use Prim.Native.Nat.{ℕ, zero, suc}
 use Prim.Native.String.{String}
 use Rattle.request.specs.Text.{bytes}
 use Rattle.ledger.specs.Ledger.{empty}
@@ -135,6 +135,27 @@ M9 = record {
       each ("word,a,9,7" ∷ "word,t,0,0" ∷ "word,t,1,1" ∷ "word,t,2,2" ∷ "word,t,3,3" ∷ "word,t,4,4" ∷ [])
       ++ each ("word,s,1,5" ∷ "word,s,1,6" ∷ []);
   replies = oks (0 ∷ 1 ∷ 2 ∷ 3 ∷ 4 ∷ 5 ∷ 6 ∷ []) ++ (Told.no 12 0 ∷ []);
+}
+
+-- the same line n times
+unfoldable pub times : ℕ → String → List String
+times zero l = []
+times (suc n) l = l ∷ times n l
+
+-- n numbers from k on
+unfoldable pub counting : ℕ → ℕ → List ℕ
+counting zero k = []
+counting (suc n) k = k ∷ counting n (suc k)
+
+-- "M1's words, `issue,r,2,0,9`, then 511 times `issue,s,2,0,9`: `book,0,2,0,9,1,1` with hold 2 and step `ax,0` gives
+-- ok,513; then `book,0,2,0,9,1,2` with hold 1 and steps `cp,0` `ax,1` gives no,22,0."
+abbrev pub M10 : Session
+M10 = record {
+  requests =
+      words ++ each ("issue,r,2,0,9" ∷ times 511 "issue,s,2,0,9")
+      ++ (("book,0,2,0,9,1,1" ∷ "hold,2" ∷ "ax,0" ∷ []) ∷ ("book,0,2,0,9,1,2" ∷ "hold,1" ∷ "cp,0" ∷ "ax,1" ∷ []) ∷ []);
+  replies =
+      oks (0 ∷ 1 ∷ 2 ∷ 3 ∷ 4 ∷ 5 ∷ 6 ∷ 7 ∷ counting 513 1) ++ (Told.no 22 0 ∷ []);
 }
 
 -- "M1 to M9 stand as one proved statement, a list of inputs with answers"

@@ -1,5 +1,13 @@
 // The ledger (document 01: the till): formulas and live credentials, and the answer to each request. This file has the
-// types that definitions and code share; specs/ has the definitions and what is proved of them, proofs/ the proofs.
+// types that definitions and code share; specs/ has the definitions and what is proved of them, proofs/ the proofs. The
+// functions here do nothing: each ensures a statement of specs/, and that it is proved is the point.
+
+ghost use Rattle.ledger.specs.Bounds.{AlwaysBounded};
+ghost use Rattle.ledger.specs.Statements.{Refusals};
+ghost use Rattle.ledger.specs.Sessions.{SessionsPlay, Plays, M10};
+ghost use Rattle.ledger.specs.Cases.{CasesPlay};
+ghost use Rattle.ledger.specs.StepCases.{StepCasesPlay};
+ghost use Rattle.ledger.specs.LastSerials.{IdleGiven, LastSerialsPlay};
 
 // A credential (document 01: a coupon): its serial, its kind, its formula's number (wording) and its interval (window).
 pub struct Credential {
@@ -18,3 +26,27 @@ pub enum Answer {
     // the refusal's number and its step
     Refused(u32, u32),
 }
+
+// What holds of every ledger that calls gave.
+pub fn always_bounded()
+    ensures { λ _. ⌜ AlwaysBounded ⌝ }
+{}
+
+// A refusal leaves the ledger as it was, and has a step exactly for 40 to 42.
+pub fn refusals()
+    ensures { λ _. ⌜ Refusals ⌝ }
+{}
+
+// Document 01's sessions: M1 to M9, and M10.
+pub fn sessions_play()
+    ensures to_m9 { λ _. ⌜ SessionsPlay ⌝ }
+    ensures m10 { λ _. ⌜ Plays M10 ⌝ }
+{}
+
+// Further sessions: form, order, holds and tallies; every step word; the last serials, and that calls lead there.
+pub fn cases_play()
+    ensures cases { λ _. ⌜ CasesPlay ⌝ }
+    ensures steps { λ _. ⌜ StepCasesPlay ⌝ }
+    ensures given { λ _. ⌜ IdleGiven ⌝ }
+    ensures serials { λ _. ⌜ LastSerialsPlay ⌝ }
+{}

@@ -32,7 +32,7 @@ pub fn ol(d: u64, g: Goal, x: Row) -> Plan
     ensures { λ r. ⌜ r ≡ when (is x "o") (Plan.One (premise d g Fresh.Nothing)) ⌝ }
 {
     plans::when(
-        x.letter == 111,
+        x.letter == plans::ONE,
         Plan::One(plans::premise(d, g, Fresh::Nothing)),
     )
 }
@@ -42,7 +42,7 @@ pub fn w1(d: u64, g: Goal, x: Row, i: Interval) -> Plan
     ensures { λ r. ⌜ r ≡ when (is x "w") (Plan.One (premise d g (Fresh.Linear ((x .a) at i)))) ⌝ }
 {
     plans::when(
-        x.letter == 119,
+        x.letter == plans::WITH,
         Plan::One(plans::premise(d, g, Fresh::Linear(plans::held(x.a, i)))),
     )
 }
@@ -51,7 +51,7 @@ pub fn w2(d: u64, g: Goal, x: Row, i: Interval) -> Plan
     ensures { λ r. ⌜ r ≡ when (is x "w") (Plan.One (premise d g (Fresh.Linear ((x .b) at i)))) ⌝ }
 {
     plans::when(
-        x.letter == 119,
+        x.letter == plans::WITH,
         Plan::One(plans::premise(d, g, Fresh::Linear(plans::held(x.b, i)))),
     )
 }
@@ -61,7 +61,7 @@ pub fn bl(d: u64, g: Goal, x: Row, i: Interval) -> Plan
     ensures { λ r. ⌜ r ≡ when (is x "b") (Plan.One (premise d g (Fresh.Unrestricted ((x .a) at i)))) ⌝ }
 {
     plans::when(
-        x.letter == 98,
+        x.letter == plans::BANG,
         Plan::One(plans::premise(d, g, Fresh::Unrestricted(plans::held(x.a, i)))),
     )
 }
@@ -73,7 +73,7 @@ pub fn hl(d: u64, g: Goal, x: Row) -> Plan
 {
     let j = Interval { from: x.b, to: x.c };
     plans::when(
-        x.letter == 104,
+        x.letter == plans::AT,
         Plan::One(plans::premise(d, g, Fresh::Linear(plans::held(x.a, j)))),
     )
 }
@@ -85,7 +85,7 @@ pub fn sl(d: u64, g: Goal, x: Row, i: Interval, k: u32, j: Interval) -> Plan
 {
     let p = plans::premise(d, g, Fresh::Linear(plans::held(x.b, i)));
     plans::when(
-        (x.letter == 115) & ((x.a == k) & plans::contains(i, j)),
+        (x.letter == plans::SAYS) & ((x.a == k) & plans::contains(i, j)),
         Plan::One(p),
     )
 }
@@ -95,7 +95,7 @@ pub fn tl(d: u64, g: Goal, x: Row, i: Interval) -> Plan
     ensures { λ r. ⌜ r ≡ when (is x "t") (Plan.One (premise d g (Fresh.Both ((x .a) at i) ((x .b) at i)))) ⌝ }
 {
     let p = plans::premise(d, g, Fresh::Both(plans::held(x.a, i), plans::held(x.b, i)));
-    plans::when(x.letter == 116, Plan::One(p))
+    plans::when(x.letter == plans::TENSOR, Plan::One(p))
 }
 
 // "a premise for each arm"
@@ -105,7 +105,7 @@ pub fn pl(d: u64, g: Goal, x: Row, i: Interval) -> Plan
 {
     let p = plans::premise(d, g, Fresh::Linear(plans::held(x.a, i)));
     let p2 = plans::premise(d, g, Fresh::Linear(plans::held(x.b, i)));
-    plans::when(x.letter == 112, Plan::Two(p, p2))
+    plans::when(x.letter == plans::PLUS, Plan::Two(p, p2))
 }
 
 // "A ⊸ B; L's window ⊇ J = from..to; A at J from the share, which must not have L; then the goal from the rest with
@@ -122,7 +122,7 @@ pub fn ll(d: u64, g: Goal, x: Row, i: Interval, share: u64, j: Interval) -> Plan
         Fresh::Linear(plans::held(x.b, j)),
     );
     plans::when(
-        (x.letter == 108) & (plans::contains(i, j) & labels::subset(share, d)),
+        (x.letter == plans::LOLLI) & (plans::contains(i, j) & labels::subset(share, d)),
         Plan::Two(p, p2),
     )
 }
@@ -135,5 +135,8 @@ pub fn ul(d: u64, g: Goal, x: Row, i: Interval, j: Interval) -> Plan
 {
     let p = plans::premise(0, Goal::Holds(x.a, j), Fresh::Nothing);
     let p2 = plans::premise(d, g, Fresh::Linear(plans::held(x.b, j)));
-    plans::when((x.letter == 117) & plans::contains(i, j), Plan::Two(p, p2))
+    plans::when(
+        (x.letter == plans::IMPLIES) & plans::contains(i, j),
+        Plan::Two(p, p2),
+    )
 }

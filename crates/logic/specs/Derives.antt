@@ -1,7 +1,8 @@
 -- Derivations: the ground rules of document 01 over hypotheses as multisets, in the form of Figure 1 and Appendix A of
 -- the report (source document 000), without labels, shares or tables. Names are those of the step letters.
 use mathlib.Core.List.{List, [], _∷_, _++_, List·Memᴰ}
-use Prim.Native.Nat.{ℕ, suc, _+_}
+use Prim.Native.Nat.{ℕ, _+_}
+use lib.ListN.{length}
 use Rattle.logic.specs.declared.Interval.{Interval}
 use Rattle.logic.specs.Interval.{_⊇_, Ordered}
 use Rattle.logic.specs.Formula.{Formula, atom, one, tensor, with, plus, lolli, implies, bang, at, says}
@@ -65,31 +66,42 @@ pub data Derives : List Hyp → List Hyp → Judgment → Type 0 where
       → i ⊇ j → Derives R (a ⟦ i ⟧ ∷ D) (affirms k b j) → Derives R (says k a ⟦ i ⟧ ∷ D) (affirms k b j)
   gr : {R : List Hyp} {i j k : Interval} → i ⊇ j → Derives R [] (holds (superset i j) k)
 
+-- The rules by their step letters; `ll` and `ul` with the interval J that they choose.
+pub data Letter : Type 0 where
+  ax cp tr tl or ol wr w1 w2 p1 p2 pl : Letter
+  ll ul : Interval → Letter
+  br bl hr hl sr af sl gr : Letter
+
+-- The rules that a derivation uses, in the order of step lines: "first comes the whole of the first premise, then the
+-- whole of the second."
+unfoldable pub letters : {R D : List Hyp} {g : Judgment} → Derives R D g → List Letter
+letters (Derives.same m n d) = letters d
+letters (Derives.ax c) = Letter.ax ∷ []
+letters (Derives.cp m d) = Letter.cp ∷ letters d
+letters (Derives.tr d e) = Letter.tr ∷ (letters d ++ letters e)
+letters (Derives.tl d) = Letter.tl ∷ letters d
+letters Derives.or = Letter.or ∷ []
+letters (Derives.ol d) = Letter.ol ∷ letters d
+letters (Derives.wr d e) = Letter.wr ∷ (letters d ++ letters e)
+letters (Derives.w1 d) = Letter.w1 ∷ letters d
+letters (Derives.w2 d) = Letter.w2 ∷ letters d
+letters (Derives.p1 d) = Letter.p1 ∷ letters d
+letters (Derives.p2 d) = Letter.p2 ∷ letters d
+letters (Derives.pl d e) = Letter.pl ∷ (letters d ++ letters e)
+letters (Derives.ll {j = j} o c d e) = Letter.ll j ∷ (letters d ++ letters e)
+letters (Derives.ul {j = j} o c d e) = Letter.ul j ∷ (letters d ++ letters e)
+letters (Derives.br d) = Letter.br ∷ letters d
+letters (Derives.bl d) = Letter.bl ∷ letters d
+letters (Derives.hr d) = Letter.hr ∷ letters d
+letters (Derives.hl d) = Letter.hl ∷ letters d
+letters (Derives.sr d) = Letter.sr ∷ letters d
+letters (Derives.af d) = Letter.af ∷ letters d
+letters (Derives.sl c d) = Letter.sl ∷ letters d
+letters (Derives.gr c) = Letter.gr ∷ []
+
 -- the uses of rules
-unfoldable pub uses : {R D : List Hyp} {g : Judgment} → Derives R D g → ℕ
-uses (Derives.same m n d) = uses d
-uses (Derives.ax c) = 1
-uses (Derives.cp m d) = suc (uses d)
-uses (Derives.tr d e) = suc (uses d + uses e)
-uses (Derives.tl d) = suc (uses d)
-uses Derives.or = 1
-uses (Derives.ol d) = suc (uses d)
-uses (Derives.wr d e) = suc (uses d + uses e)
-uses (Derives.w1 d) = suc (uses d)
-uses (Derives.w2 d) = suc (uses d)
-uses (Derives.p1 d) = suc (uses d)
-uses (Derives.p2 d) = suc (uses d)
-uses (Derives.pl d e) = suc (uses d + uses e)
-uses (Derives.ll o c d e) = suc (uses d + uses e)
-uses (Derives.ul o c d e) = suc (uses d + uses e)
-uses (Derives.br d) = suc (uses d)
-uses (Derives.bl d) = suc (uses d)
-uses (Derives.hr d) = suc (uses d)
-uses (Derives.hl d) = suc (uses d)
-uses (Derives.sr d) = suc (uses d)
-uses (Derives.af d) = suc (uses d)
-uses (Derives.sl c d) = suc (uses d)
-uses (Derives.gr c) = 1
+abbrev pub uses : {R D : List Hyp} {g : Judgment} → Derives R D g → ℕ
+uses x = length (letters x)
 
 -- The labels taken: "Each part that replaces L, each copy and each part that joins R takes one."
 unfoldable pub taken : {R D : List Hyp} {g : Judgment} → Derives R D g → ℕ

@@ -6,3 +6,4 @@ pub mod Multiset
 pub mod Derives
 pub mod Counts
 pub mod Statements
+pub mod Examples

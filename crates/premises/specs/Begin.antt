@@ -4,8 +4,8 @@ use Prim.Native.Nat.{ℕ}
 use Rattle.steps.specs.declared.Goal.{Goal}
 use Rattle.steps.specs.declared.Sequent.{Sequent}
 use Rattle.steps.specs.Check.{Beginning, full, begun}
-use Rattle.premises.specs.declared.begin.Begun.{Begun}
-use Rattle.premises.specs.declared.begin.Begun.the-variants.{Full, Begins}
+use Rattle.premises.specs.declared.Begun.{Begun}
+use Rattle.premises.specs.declared.Begun.the-variants.{Full, Begins}
 
 abbrev pub sequent : ℕ → ℕ → Goal → Sequent
 sequent r d g = record { unrestricted = r; linear = d; goal = g }

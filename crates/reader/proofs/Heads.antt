@@ -25,7 +25,7 @@ use Rattle.ledger.specs.Table.{rowOf}
 use Rattle.numbers.specs.Field.{fieldTo, strip}
 use Rattle.forms.specs.Line.{readLine, intervalTo, rowed}
 use Rattle.reader.specs.First.{after, issueFields, WordIs, FirstIs, requestFrom}
-use Rattle.reader.specs.declared.First.{First}
+use Rattle.reader.specs.declared.FirstRead.{FirstRead}
 use Rattle.numbers.proofs.Then.{then-same, then-some, then-no, by-test}
 use Rattle.numbers.proofs.Bytes.{here, past}
 use Rattle.reader.proofs.Split.{lines-several, request-first}
@@ -179,5 +179,5 @@ interval-range stop b e = given {P = λ x. IntervalInRange (x .0)}
 
 -- The request by another name
 
-pub first-by : {q p : Option Request} (s : List ℕ) (r : First) → q ≡ p → FirstIs p s r → FirstIs q s r
+pub first-by : {q p : Option Request} (s : List ℕ) (r : FirstRead) → q ≡ p → FirstIs p s r → FirstIs q s r
 first-by s r e h = subst (λ x. FirstIs x s r) (sym e) h

@@ -16,7 +16,9 @@ use Rattle.steps.specs.declared.Row.{Row}
 use Rattle.ledger.specs.Table.{rowOf}
 use Rattle.reader.specs.declared.Head.{Head}
 use Rattle.reader.specs.declared.First.{First}
-use Rattle.reader.specs.declared.First.the-variants.{Word, Issue, Withdraw, Tally, Book, Broken}
+use Rattle.reader.specs.declared.First.the-variants.{Word, Issue, Withdraw, Tally, Book}
+use Rattle.reader.specs.declared.FirstRead.{FirstRead}
+use Rattle.reader.specs.declared.FirstRead.the-variants.{Read, Broken}
 use Rattle.forms.specs.Line.{readLine}
 
 -- the request that a first line and the bytes after it make
@@ -57,15 +59,18 @@ pub record BookIs (q : Option Request) (s : List ℕ) (h : Head) : Type 0 where
   pub reads : q ≡ bookingFrom h (drop (h .next) s)
   pub range : HeadInRange h
 
--- the answer for bytes s whose request is q
-abbrev pub FirstIs : Option Request → List ℕ → First → Type 0
-FirstIs q s (Word x) = WordIs q x
-FirstIs q s (Issue k n i) = q ≡ some (issue k n i)
-FirstIs q s (Withdraw n) = q ≡ some (withdraw n)
-FirstIs q s (Tally a m) = q ≡ some (tally a m)
-FirstIs q s (Book h) = BookIs q s h
+-- what was read of bytes s whose request is q
+abbrev pub LineIs : Option Request → List ℕ → First → Type 0
+LineIs q s (Word x) = WordIs q x
+LineIs q s (Issue k n i) = q ≡ some (issue k n i)
+LineIs q s (Withdraw n) = q ≡ some (withdraw n)
+LineIs q s (Tally a m) = q ≡ some (tally a m)
+LineIs q s (Book h) = BookIs q s h
+
+abbrev pub FirstIs : Option Request → List ℕ → FirstRead → Type 0
+FirstIs q s (Read f) = LineIs q s f
 FirstIs q s Broken = q ≡ none
 
 -- the answer for bytes s that begin with the word w, whose fields begin at a position
-abbrev pub FirstAfter : String → List ℕ → ℕ → First → Type 0
+abbrev pub FirstAfter : String → List ℕ → ℕ → FirstRead → Type 0
 FirstAfter w s at r = FirstIs (requestFrom (readLine (after w) (drop at s))) s r

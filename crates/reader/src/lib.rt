@@ -23,5 +23,10 @@ pub enum First {
     Withdraw(u32),
     Tally(u32, u32),
     Book(Head),
+}
+
+// The first line was read, or its form is broken (refusal 2).
+pub enum FirstRead {
+    Read(First),
     Broken,
 }

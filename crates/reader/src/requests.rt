@@ -1,5 +1,6 @@
 // The first line of a request (document 01: a sheet).
 use crate::First;
+use crate::FirstRead;
 use crate::Head;
 use forms::FormulaLine;
 use forms::Span;
@@ -18,41 +19,41 @@ ghost use Rattle.forms.specs.Line.{readLine};
 ghost use Rattle.reader.specs.First.{requestFrom, issueFields, FirstIs, FirstAfter};
 
 // `word,` and a formula line
-fn word(s: &[u8], at: u32) -> First
+fn word(s: &[u8], at: u32) -> FirstRead
     requires { ⌜ length (now s) ≤ maxBytes ⌝ }
     ensures { λ r. ⌜ FirstAfter "word" (now (s .entry)) at r ⌝ }
 {
     let f = formula_line(s, at);
     let FormulaLine::Formula(x, i) = f else {
-        return First::Broken;
+        return FirstRead::Broken;
     };
     if (i as usize) < s.len() {
-        return First::Broken;
+        return FirstRead::Broken;
     }
-    First::Word(x)
+    FirstRead::Read(First::Word(x))
 }
 
 // The fields of an issue after its kind.
-fn issued(s: &[u8], at: u32, k: Kind) -> First
+fn issued(s: &[u8], at: u32, k: Kind) -> FirstRead
     requires { ⌜ length (now s) ≤ maxBytes ⌝ }
     ensures { λ r. ⌜ FirstIs (requestFrom (readLine (issueFields k) (drop at (now (s .entry))))) (now (s .entry)) r ⌝ }
 {
     let f = number(s, at, 0, 999, 44);
     let Decimal::Number(n, i) = f else {
-        return First::Broken;
+        return FirstRead::Broken;
     };
     let g = interval(s, i, 10);
     let Span::Minutes(w, j) = g else {
-        return First::Broken;
+        return FirstRead::Broken;
     };
     if (j as usize) < s.len() {
-        return First::Broken;
+        return FirstRead::Broken;
     }
-    First::Issue(k, n, w)
+    FirstRead::Read(First::Issue(k, n, w))
 }
 
 // `issue,kind,wording,from,to`
-fn issue(s: &[u8], at: u32) -> First
+fn issue(s: &[u8], at: u32) -> FirstRead
     requires { ⌜ length (now s) ≤ maxBytes ⌝ }
     ensures { λ r. ⌜ FirstAfter "issue" (now (s .entry)) at r ⌝ }
 {
@@ -64,80 +65,80 @@ fn issue(s: &[u8], at: u32) -> First
     if let Prefix::Past(i) = b {
         return issued(s, i, Kind::Unrestricted);
     }
-    First::Broken
+    FirstRead::Broken
 }
 
 // `withdraw,serial`
-fn withdraw(s: &[u8], at: u32) -> First
+fn withdraw(s: &[u8], at: u32) -> FirstRead
     requires { ⌜ length (now s) ≤ maxBytes ⌝ }
     ensures { λ r. ⌜ FirstAfter "withdraw" (now (s .entry)) at r ⌝ }
 {
     let f = number(s, at, 1, 999999, 10);
     let Decimal::Number(n, i) = f else {
-        return First::Broken;
+        return FirstRead::Broken;
     };
     if (i as usize) < s.len() {
-        return First::Broken;
+        return FirstRead::Broken;
     }
-    First::Withdraw(n)
+    FirstRead::Read(First::Withdraw(n))
 }
 
 // `tally,session,minute`
-fn tally(s: &[u8], at: u32) -> First
+fn tally(s: &[u8], at: u32) -> FirstRead
     requires { ⌜ length (now s) ≤ maxBytes ⌝ }
     ensures { λ r. ⌜ FirstAfter "tally" (now (s .entry)) at r ⌝ }
 {
     let f = number(s, at, 0, 255, 44);
     let Decimal::Number(a, i) = f else {
-        return First::Broken;
+        return FirstRead::Broken;
     };
     let g = number(s, i, 0, 9999999, 10);
     let Decimal::Number(m, j) = g else {
-        return First::Broken;
+        return FirstRead::Broken;
     };
     if (j as usize) < s.len() {
-        return First::Broken;
+        return FirstRead::Broken;
     }
-    First::Tally(a, m)
+    FirstRead::Read(First::Tally(a, m))
 }
 
 // `book,now,wording,from,to,holds,steps`
-fn book(s: &[u8], at: u32) -> First
+fn book(s: &[u8], at: u32) -> FirstRead
     requires { ⌜ length (now s) ≤ maxBytes ⌝ }
     ensures { λ r. ⌜ FirstAfter "book" (now (s .entry)) at r ⌝ }
 {
     let a = number(s, at, 0, 9999999, 44);
     let Decimal::Number(now, i) = a else {
-        return First::Broken;
+        return FirstRead::Broken;
     };
     let b = number(s, i, 0, 999, 44);
     let Decimal::Number(formula, j) = b else {
-        return First::Broken;
+        return FirstRead::Broken;
     };
     let c = interval(s, j, 44);
     let Span::Minutes(interval, k) = c else {
-        return First::Broken;
+        return FirstRead::Broken;
     };
     let d = number(s, k, 0, 32, 44);
     let Decimal::Number(holds, l) = d else {
-        return First::Broken;
+        return FirstRead::Broken;
     };
     let e = number(s, l, 1, 256, 10);
     let Decimal::Number(steps, next) = e else {
-        return First::Broken;
+        return FirstRead::Broken;
     };
-    First::Book(Head {
+    FirstRead::Read(First::Book(Head {
         now,
         formula,
         interval,
         holds,
         steps,
         next,
-    })
+    }))
 }
 
 // What the bytes of a request say, up to the lines after a booking's head.
-pub fn read_first(s: &[u8]) -> First
+pub fn read_first(s: &[u8]) -> FirstRead
     requires { ⌜ length (now s) ≤ maxBytes ⌝ }
     ensures { λ r. ⌜ FirstIs (requestOf (now (s .entry))) (now (s .entry)) r ⌝ }
 {
@@ -161,5 +162,5 @@ pub fn read_first(s: &[u8]) -> First
     if let Prefix::Past(i) = e {
         return tally(s, i);
     }
-    First::Broken
+    FirstRead::Broken
 }

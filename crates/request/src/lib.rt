@@ -7,3 +7,25 @@ pub enum Kind {
     Linear,
     Unrestricted,
 }
+
+// What is proved of reading and writing requests. Each function does nothing: its `ensures` is the statement, of
+// specs/Statements.antt.
+
+ghost use Rattle.request.specs.Statements.{WriteRead, ReadInRange, ReadWrite, Longest, WriteShort};
+
+// A request has one spelling: what is written is read again, and bytes that read as a request are those written.
+pub fn one_spelling()
+    ensures written { λ _. ⌜ WriteRead ⌝ }
+    ensures read { λ _. ⌜ ReadWrite ⌝ }
+{}
+
+// Whatever is read is in range.
+pub fn read_in_range()
+    ensures { λ _. ⌜ ReadInRange ⌝ }
+{}
+
+// No request is longer than the longest booking, so none that is written is over the bytes of a sheet.
+pub fn requests_are_short()
+    ensures longest { λ _. ⌜ Longest ⌝ }
+    ensures short { λ _. ⌜ WriteShort ⌝ }
+{}

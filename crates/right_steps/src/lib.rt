@@ -17,7 +17,7 @@ ghost use Rattle.steps.specs.Plans.{when, is, premise};
 pub fn or(d: u64, x: Row) -> Plan
     ensures { λ r. ⌜ r ≡ when (is x "o") (when (isEmpty d) Plan.Closed) ⌝ }
 {
-    plans::when((x.letter == 111) & labels::is_empty(d), Plan::Closed)
+    plans::when((x.letter == plans::ONE) & labels::is_empty(d), Plan::Closed)
 }
 
 // "⊇ that holds, D empty; closes."
@@ -28,7 +28,7 @@ pub fn gr(d: u64, x: Row) -> Plan
     let i = Interval { from: x.a, to: x.b };
     let j = Interval { from: x.c, to: x.d };
     plans::when(
-        (x.letter == 103) & (labels::is_empty(d) & plans::contains(i, j)),
+        (x.letter == plans::CONTAINS) & (labels::is_empty(d) & plans::contains(i, j)),
         Plan::Closed,
     )
 }
@@ -38,7 +38,7 @@ pub fn p1(d: u64, x: Row, i: Interval) -> Plan
     ensures { λ r. ⌜ r ≡ when (is x "p") (Plan.One (premise d (Goal.Holds (x .a) i) Fresh.Nothing)) ⌝ }
 {
     plans::when(
-        x.letter == 112,
+        x.letter == plans::PLUS,
         Plan::One(plans::premise(d, Goal::Holds(x.a, i), Fresh::Nothing)),
     )
 }
@@ -47,7 +47,7 @@ pub fn p2(d: u64, x: Row, i: Interval) -> Plan
     ensures { λ r. ⌜ r ≡ when (is x "p") (Plan.One (premise d (Goal.Holds (x .b) i) Fresh.Nothing)) ⌝ }
 {
     plans::when(
-        x.letter == 112,
+        x.letter == plans::PLUS,
         Plan::One(plans::premise(d, Goal::Holds(x.b, i), Fresh::Nothing)),
     )
 }
@@ -58,7 +58,10 @@ pub fn br(d: u64, x: Row, i: Interval) -> Plan
         (Plan.One (premise d (Goal.Holds (x .a) i) Fresh.Nothing))) ⌝ }
 {
     let p = plans::premise(d, Goal::Holds(x.a, i), Fresh::Nothing);
-    plans::when((x.letter == 98) & labels::is_empty(d), Plan::One(p))
+    plans::when(
+        (x.letter == plans::BANG) & labels::is_empty(d),
+        Plan::One(p),
+    )
 }
 
 // "A@J becomes A at J."
@@ -68,7 +71,7 @@ pub fn hr(d: u64, x: Row) -> Plan
 {
     let j = Interval { from: x.b, to: x.c };
     plans::when(
-        x.letter == 104,
+        x.letter == plans::AT,
         Plan::One(plans::premise(d, Goal::Holds(x.a, j), Fresh::Nothing)),
     )
 }
@@ -78,7 +81,7 @@ pub fn sr(d: u64, x: Row, i: Interval) -> Plan
     ensures { λ r. ⌜ r ≡ when (is x "s") (Plan.One (premise d (Goal.Affirms (x .b) i (x .a)) Fresh.Nothing)) ⌝ }
 {
     plans::when(
-        x.letter == 115,
+        x.letter == plans::SAYS,
         Plan::One(plans::premise(d, Goal::Affirms(x.b, i, x.a), Fresh::Nothing)),
     )
 }
@@ -90,7 +93,7 @@ pub fn wr(d: u64, x: Row, i: Interval) -> Plan
 {
     let p = plans::premise(d, Goal::Holds(x.a, i), Fresh::Nothing);
     let p2 = plans::premise(d, Goal::Holds(x.b, i), Fresh::Nothing);
-    plans::when(x.letter == 119, Plan::Two(p, p2))
+    plans::when(x.letter == plans::WITH, Plan::Two(p, p2))
 }
 
 // "⊗; left from the share, right from the rest of D."
@@ -106,7 +109,7 @@ pub fn tr(d: u64, x: Row, i: Interval, share: u64) -> Plan
         Fresh::Nothing,
     );
     plans::when(
-        (x.letter == 116) & labels::subset(share, d),
+        (x.letter == plans::TENSOR) & labels::subset(share, d),
         Plan::Two(p, p2),
     )
 }
@@ -118,9 +121,9 @@ pub fn ax(d: u64, x: Row, i: Interval, k: u32, h: Hypothesis, y: Row) -> Plan
         && ((is y "a" && (eqb (y .a) (x .a) && eqb (y .b) (x .b))) && contains (h .interval) i)) Plan.Closed) ⌝ }
 {
     let j = h.interval;
-    let same = (y.letter == 97) & ((y.a == x.a) & (y.b == x.b));
+    let same = (y.letter == plans::ATOM) & ((y.a == x.a) & (y.b == x.b));
     plans::when(
-        (x.letter == 97) & (labels::is_just(d, k) & (same & plans::contains(j, i))),
+        (x.letter == plans::ATOM) & (labels::is_just(d, k) & (same & plans::contains(j, i))),
         Plan::Closed,
     )
 }

@@ -34,6 +34,7 @@ fn at_right(store: &Store, table: &[u32; 192], q: Sequent, n: u32, i: Interval, 
         7 => right_steps::sr(d, x, i),
         8 => right_steps::wr(d, x, i),
         9 => right_steps::tr(d, x, i, lines::share(s)),
+        // `ax`, 10: the last of them
         _ => {
             if 64 <= s.label {
                 return Plan::Refused;
@@ -76,6 +77,7 @@ fn at_left(store: &Store, table: &[u32; 192], q: Sequent, s: StepRow) -> Plan
         18 => left_steps::tl(d, g, x, i),
         19 => left_steps::pl(d, g, x, i),
         20 => left_steps::ll(d, g, x, i, lines::share(s), j),
+        // `ul`, 21: a row with a number past it reads as `ul` too
         _ => left_steps::ul(d, g, x, i, j),
     }
 }
@@ -101,6 +103,6 @@ pub fn rule(store: &Store, table: &[u32; 192], q: Sequent, s: StepRow) -> Plan
             Goal::Affirms(_, _, _) => Plan::Refused,
         },
         11 => left_steps::cp(table, q, s.label),
-        _ => at_left(store, table, q, s),
+        12.. => at_left(store, table, q, s),
     }
 }

@@ -11,6 +11,7 @@ use store::Store;
 use verdicts::Verdict;
 ghost use mathlib.Core.Path.{_≡_};
 ghost use Rattle.premises.specs.Begin.{sequent};
+ghost use Rattle.checker.specs.Cycle.{refusalOf, refusedBy};
 ghost use Rattle.calls.specs.Handled.{Handled};
 ghost use Rattle.judging.specs.Booking.{bookingAt, Steppable};
 
@@ -25,6 +26,16 @@ fn opening(head: Head, sides: Sides) -> Sequent
         unrestricted: sides.unrestricted,
         linear: sides.linear,
         goal,
+    }
+}
+
+// The refusal of steps that are stopped; it is not asked for where they are closed.
+fn refusal(c: Checked) -> Answer
+    ensures { λ r. ⌜ r ≡ refusedBy (refusalOf c) ⌝ }
+{
+    match c {
+        Checked::Stopped(number, step) => Answer::Refused(number, step),
+        Checked::Closed => Answer::Refused(0, 0),
     }
 }
 
@@ -49,9 +60,9 @@ pub fn book_steps(
         opening(head, sides),
         head.holds,
     );
-    if let Checked::Stopped(number, step) = checked {
-        return Answer::Refused(number, step);
-    }
+    let Checked::Closed = checked else {
+        return refusal(checked);
+    };
     let room = verdicts::room(till, sides.linears);
     let Verdict::Passed = room else {
         return Answer::Refused(22, 0);

@@ -17,10 +17,10 @@ use Rattle.sheets.specs.Statements.{ReadBack, AllParts, InPieces, RestSk
 use Rattle.sheets.proofs.Lines.{left-true, right-true, begins-snoc, empty-snoc}
 use Rattle.sheets.proofs.Splits.{split-append, cut, kept, ended, run, closes}
 
-in-pieces : InPieces
+pub in-pieces : InPieces
 in-pieces b c = split-append start b c
 
-rest-skipped : RestSkipped
+pub rest-skipped : RestSkipped
 unfolding answers
 rest-skipped t [] = refl
 rest-skipped t (b ∷ bs) =
@@ -43,7 +43,7 @@ all e (s ∷ ss) r h u =
     ∙ ap (λ (z : List (List ℕ)). record { ended = z; begun = r; fresh = lineBegins true r })
     (append-assoc e (s ∷ []) ss)
 
-read-back : ReadBack
+pub read-back : ReadBack
 read-back ss r h u = ap (λ (z : Split). z .ended ++ oneMore (z .begun)) (all [] ss r h u)
 
 -- Every stream
@@ -92,7 +92,7 @@ unfolding splitFrom
 parted-from s b [] p = rw append-nil p
 parted-from s b (x ∷ c) p = rw append-assoc at (parted-from (next s x) (b ++ (x ∷ [])) c (parted-next s b x p))
 
-all-parts : AllParts
+pub all-parts : AllParts
 unfolding withEmptyLines emptyLine lineBegins
 all-parts b =
     let p = parted-from start [] b (record { bytes = refl; sheets = tt; rest = refl; fresh = refl }) in

@@ -7,6 +7,7 @@ ghost use lib.ListN.{length};
 ghost use Rattle.sheets.specs.Sheets.{emptyLine, most};
 ghost use Rattle.sheets.specs.Ends.{BothTen, Skipped, EndIs};
 ghost use Rattle.sheets.specs.Keeping.{Kept};
+ghost use Rattle.sheets.specs.Statements.{ReadBack, AllParts, InPieces, RestSkipped};
 
 // Where the first empty line stands; or that there is none, and whether a line begins after the bytes.
 pub enum End {
@@ -95,3 +96,12 @@ pub fn keep(begun: &mut [u8], held: usize, bytes: &[u8]) -> usize
     }
     copy(begun, held, &bytes[..room])
 }
+
+// Does nothing: that it is proved says that sheets with an empty line after each are read as just these, that every
+// stream is of that form, in whatever pieces it comes, and that 16,385 bytes of a sheet get the answer of the whole.
+pub fn sheets_of_streams()
+    ensures read_back { λ _. ⌜ ReadBack ⌝ }
+    ensures all_parts { λ _. ⌜ AllParts ⌝ }
+    ensures in_pieces { λ _. ⌜ InPieces ⌝ }
+    ensures rest_skipped { λ _. ⌜ RestSkipped ⌝ }
+{}

@@ -23,7 +23,8 @@ use Rattle.steps.specs.declared.Plan.{Plan}
 use Rattle.steps.specs.declared.Plan.the-variants.{Refused, Closed, One, Two}
 use Rattle.steps.specs.Plans.{is, when, right, affirmed, left, sameAtom, planOf}
 use Rattle.steps.specs.Rule.{Leaves, nothing, premise, premises, from, Rule}
-use Rattle.steps.proofs.Unroll.{letter, made, Unrolls, of-letter, letter-of, hypOf, goalOf, branchOf, leaves}
+use Rattle.steps.specs.Unroll.{letter, made, Unrolls, hypOf, goalOf}
+use Rattle.steps.proofs.Unroll.{of-letter, letter-of, branchOf, leaves}
 
 itself : (b : Bool) → Decides b (b ≡ true)
 itself b = (λ e. e, λ e. e)

@@ -19,9 +19,11 @@ use Rattle.steps.specs.Check.{Beginning, begin, Outcome, done, stopped, 
 use Rattle.steps.specs.Check.{maxLabels, premiseOf}
 use Rattle.steps.specs.Rule.{Branch, Leaves, nothing, premise, premises}
 use Rattle.steps.specs.Spells.{Labels, named, Labelled, Right, begun, beginning, Room, Spells, Stops}
+use Rattle.steps.specs.Labelling.{Fits}
+use Rattle.steps.specs.Unroll.{Unrolls, goalOf, sequentOf}
 use Rattle.steps.proofs.Labelling.{Extends, ext-refl, ext-trans}
-use Rattle.steps.proofs.Premises.{Fits, ext-begun, spells-extends, lowers, fits-begun}
-use Rattle.steps.proofs.Unroll.{Unrolls, goalOf, sequentOf, branchOf, leaves}
+use Rattle.steps.proofs.Premises.{ext-begun, spells-extends, lowers, fits-begun}
+use Rattle.steps.proofs.Unroll.{branchOf, leaves}
 use Rattle.steps.proofs.Agree.{Ruled, plan-rule, rule-plan}
 use Rattle.steps.proofs.Runs.{Result, closed, halted, Ends, Enters, After, ends-after, after-ends}
 use Rattle.steps.proofs.Tables.{Table, Shows, Starts, starts}

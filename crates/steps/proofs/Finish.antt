@@ -10,7 +10,7 @@ use Rattle.steps.specs.declared.Row.{Row}
 use Rattle.steps.specs.declared.Hypothesis.{Hypothesis}
 use Rattle.steps.specs.Check.{Outcome, done, stopped, finished}
 use Rattle.steps.specs.Spells.{Labels, Labelled, Spells, Refused}
-use Rattle.steps.proofs.Unroll.{Unrolls}
+use Rattle.steps.specs.Unroll.{Unrolls}
 use Rattle.steps.proofs.Runs.{Result, closed, halted, Ends}
 use Rattle.steps.proofs.Tables.{Table}
 use Rattle.steps.proofs.Checker.{Shown, closes, stops}

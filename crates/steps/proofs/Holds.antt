@@ -1,7 +1,7 @@
 -- Labels for the hypotheses that a booking holds, taken one after another: "Holds take labels 0, 1, .. in order."
 use mathlib.Core.Path.{_≡_, sym, subst}
 use mathlib.Core.List.{List, [], _∷_, _++_}
-use Prim.Native.Nat.{ℕ, suc, _^_, _≤_, _<_}
+use Prim.Native.Nat.{ℕ, suc, _≤_, _<_}
 use lib.ListN.{length}
 use lib.Pow.{pow-pos}
 use Rattle.logic.specs.Formula.{Formula}
@@ -14,11 +14,11 @@ use Rattle.steps.specs.declared.Row.{Row}
 use Rattle.steps.specs.declared.Hypothesis.{Hypothesis}
 use Rattle.steps.specs.Check.{maxLabels}
 use Rattle.steps.specs.Spells.{Labels}
-use Rattle.steps.proofs.Labelling.{hyps, no-hyps, Known, known-up, kept, ext-snoc, known-snoc, fresh}
-use Rattle.steps.proofs.Premises.{Fits}
-use Rattle.steps.proofs.Lines.{sequent}
-use Rattle.steps.proofs.Unroll.{Unrolls, hypOf}
-use Rattle.steps.proofs.Tables.{Table, Shows, shows-none, shows-put}
+use Rattle.steps.specs.Labelling.{Begins as BeginsWith}
+use Rattle.steps.specs.Labelling.{hyps, Fits, sequent}
+use Rattle.steps.specs.Unroll.{Unrolls, hypOf}
+use Rattle.steps.proofs.Labelling.{no-hyps, Known, known-up, kept, ext-snoc, known-snoc, fresh}
+use Rattle.steps.proofs.Tables.{Table, shows-none, shows-put}
 
 -- d with the new label of h stands for h besides
 joined : (ls : Labels) (d n : ℕ) (h : Hyp) {D : List Hyp} → n ≡ length ls → Known ls d → length ls < maxLabels
@@ -33,14 +33,8 @@ passed ls d h {D} k m = (known-up d (ext-snoc ls h) k, subst (Perm D) (sym (kept
 
 module _ {row : ℕ → Row} {formula : ℕ → Formula} (u : Unrolls row formula) {T : Type 0} {held : T → ℕ → Hypothesis}
     {put : T → ℕ → Hypothesis → T} (table : Table held put) where
-  -- The table t shows the labels ls, n is the next; the labels r stand for the unrestricted hypotheses R, the labels d
-  -- for the linear ones D.
-  pub record Begins (t : T) (n r d : ℕ) (ls : Labels) (R D : List Hyp) : Type 0 where
-    pub shows : Shows u table t n ls
-    pub unrestricted-known : r < 2 ^ length ls
-    pub linear-known : d < 2 ^ length ls
-    pub unrestricted : Perm R (hyps ls r)
-    pub linear : Perm D (hyps ls d)
+  abbrev pub Begins : T → ℕ → ℕ → ℕ → Labels → List Hyp → List Hyp → Type 0
+  Begins = BeginsWith u (table .Good) held
 
   pub begins-fits : {t : T} {n r d : ℕ} {ls : Labels} {R D : List Hyp} → Begins t n r d ls R D → length ls ≤ maxLabels
       → (g : Judgment) → Fits ls (sequent r d g)

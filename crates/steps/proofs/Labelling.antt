@@ -1,4 +1,4 @@
--- The hypotheses that a set of labels stands for, and how they fare when labels are taken.
+-- The hypotheses that a set of labels stands for: how they fare when labels are taken.
 use mathlib.Core.Path.{_≡_, refl, sym, subst, subst₂, _∙_}
 use mathlib.Core.List.{List, [], _∷_, _++_}
 use Prim.Native.Nat.{ℕ, suc, _+_, _^_, _<_, _≤_}
@@ -12,13 +12,10 @@ use Rattle.logic.proofs.Multisets.{perm-refl, perm-sym, perm-trans}
 use Rattle.labels.specs.Labels.{insert}
 use Rattle.labels.proofs.Sets.{member-below, insert-below}
 use Rattle.labels.proofs.Permutations.{before, perm-middle}
-use Rattle.labels.proofs.Pick.{pick, pick-agree, pick-insert, pick-empty}
+use Rattle.labels.proofs.Pick.{pick-agree, pick-insert, pick-empty}
 use Rattle.steps.specs.Check.{maxLabels}
 use Rattle.steps.specs.Spells.{Labels, noHyp, named, grown, adding}
-
--- the hypotheses of a set of labels, in rising order
-abbrev pub hyps : Labels → ℕ → List Hyp
-hyps ls d = pick (named ls) maxLabels d
+use Rattle.steps.specs.Labelling.{hyps}
 
 pub no-hyps : (ls : Labels) → Perm [] (hyps ls 0)
 no-hyps ls = subst (Perm []) (sym (pick-empty (named ls) maxLabels)) none

@@ -1,7 +1,7 @@
 -- Premises: their linear labels are among those of the step's sequent, and what they stand for when they have begun.
 use mathlib.Core.Path.{_≡_, sym, subst, subst₂}
 use mathlib.Core.List.{List, _++_}
-use Prim.Native.Nat.{ℕ, _+_, _^_, _<_, _≤_}
+use Prim.Native.Nat.{ℕ, _+_, _<_, _≤_}
 use native.Mathlib.Omega.{arith}
 use lib.ListN.{length}
 use Rattle.logic.specs.Derives.{Hyp, Judgment}
@@ -9,17 +9,11 @@ use Rattle.logic.specs.Multiset.{Perm}
 use Rattle.request.specs.Request.{Step}
 use Rattle.labels.specs.Labels.{remove}
 use Rattle.labels.proofs.Sets.{subset-le}
-use Rattle.steps.specs.Check.{maxLabels}
 use Rattle.steps.specs.Rule.{Branch, Leaves, nothing, premise, premises, Rule}
 use Rattle.steps.specs.Spells.{Labels, grown, adding, Labelled, begun, beginning, Room, Spells}
-use Rattle.steps.proofs.Labelling.{hyps, Known, Extends, ext-refl, ext-trans, known-up, kept, ext-grown}
+use Rattle.steps.specs.Labelling.{hyps, Fits}
+use Rattle.steps.proofs.Labelling.{Known, Extends, ext-refl, ext-trans, known-up, kept, ext-grown}
 use Rattle.steps.proofs.Labelling.{length-grown, known-adding, grows}
-
--- the sets of a sequent have only labels that are taken, and there are not too many of these
-pub record Fits (ls : Labels) (q : Labelled) : Type 0 where
-  pub unrestricted : q .unrestricted < 2 ^ length ls
-  pub linear : q .linear < 2 ^ length ls
-  pub room : length ls ≤ maxLabels
 
 -- the labels that a premise takes
 abbrev pub news : Branch → ℕ

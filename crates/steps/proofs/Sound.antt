@@ -1,10 +1,10 @@
 -- Step lines that spell a derivation: the derivation itself, its labels forgotten.
-use mathlib.Core.Path.{_≡_, refl, ap, _∙_}
-use mathlib.Core.List.{List, [], _∷_, _++_, List·Memᴰ, List·Memᴰ·head}
-use Prim.Native.Nat.{ℕ, suc, _+_, _^_, _<_, _≤_}
+use mathlib.Core.Path.{_≡_, refl, sym, ap, _∙_}
+use mathlib.Core.List.{List, [], _∷_, _++_, append-assoc, List·Memᴰ, List·Memᴰ·head}
+use Prim.Native.Nat.{ℕ, _+_, _^_, _<_, _≤_}
 use native.Mathlib.Omega.{arith}
 use lib.ListN.{length}
-use Rattle.logic.specs.Derives.{Hyp, Judgment, Derives, uses, taken}
+use Rattle.logic.specs.Derives.{Hyp, Judgment, Derives, Letter, letters, taken}
 use Rattle.logic.specs.Multiset.{Perm, Every}
 use Rattle.logic.proofs.Multisets.{perm-refl, perm-sym, perm-trans}
 use Rattle.request.specs.Request.{Step}
@@ -15,27 +15,32 @@ use Rattle.labels.proofs.Pick.{pick-empty, pick-only, pick-share, pick-remove}
 use Rattle.steps.specs.Check.{maxLabels}
 use Rattle.steps.specs.Rule.{Branch, Leaves, nothing, premise, premises, Rule}
 use Rattle.steps.specs.Spells.{Labels, named, Labelled, begun, beginning, Room, Spells}
+use Rattle.steps.specs.Letters.{letterOf, lettersOf}
 use Rattle.steps.specs.Limits.{Minutes, Writable}
-use Rattle.steps.proofs.Labelling.{hyps, Extends, ext-refl, ext-trans}
-use Rattle.steps.proofs.Premises.{Fits, news, length-begun, ext-begun, spells-extends, lowers, fits-begun}
+use Rattle.steps.specs.Labelling.{hyps, Fits}
+use Rattle.steps.proofs.Labelling.{Extends, ext-refl, ext-trans}
+use Rattle.steps.proofs.Premises.{news, length-begun, ext-begun, spells-extends, lowers, fits-begun}
 use Rattle.steps.proofs.Premises.{linear-begun, unrestricted-begun}
 
--- a derivation with u uses of rules that takes v labels, its minutes in range
-abbrev pub Derivation : List Hyp → List Hyp → Judgment → ℕ → ℕ → Type 0
-Derivation R D g u v = (x : Derives R D g) × (uses x ≡ u) × (taken x ≡ v) × Minutes x
+-- a derivation by the rules u that takes v labels, its minutes in range
+abbrev pub Derivation : List Hyp → List Hyp → Judgment → List Letter → ℕ → Type 0
+Derivation R D g u v = (x : Derives R D g) × (letters x ≡ u) × (taken x ≡ v) × Minutes x
 
 -- a premise's derivation, before its labels are taken
 abbrev Of : Labels → ℕ → Branch → Type 0
 Of ls r p = Derives (p .joins ++ hyps ls r) (p .linears ++ hyps ls (p .linear)) (p .goal)
 
--- what a rule makes of derivations of what it leaves: one use more, and the labels that the premises take
-abbrev Makes : Labels → ℕ → ℕ → Judgment → Leaves → Type 0
-Makes ls r d g nothing = Derivation (hyps ls r) (hyps ls d) g 1 0
-Makes ls r d g (premise p) =
-    (y : Of ls r p) → Minutes y → Derivation (hyps ls r) (hyps ls d) g (suc (uses y)) (news p + taken y)
-Makes ls r d g (premises p₁ p₂) =
+-- what a step's rule makes of derivations of what it leaves: the step's letter first, and the labels that the premises
+-- take
+abbrev Makes : Labels → ℕ → ℕ → Step → Judgment → Leaves → Type 0
+Makes ls r d s g nothing = Derivation (hyps ls r) (hyps ls d) g (letterOf s ∷ []) 0
+Makes ls r d s g (premise p) =
+    (y : Of ls r p) → Minutes y
+    → Derivation (hyps ls r) (hyps ls d) g (letterOf s ∷ letters y) (news p + taken y)
+Makes ls r d s g (premises p₁ p₂) =
     (y : Of ls r p₁) → Minutes y → (z : Of ls r p₂) → Minutes z
-    → Derivation (hyps ls r) (hyps ls d) g (suc (uses y + uses z)) (news p₁ + news p₂ + (taken y + taken z))
+    → Derivation (hyps ls r) (hyps ls d) g (letterOf s ∷ (letters y ++ letters z))
+    (news p₁ + news p₂ + (taken y + taken z))
 
 module _ (ls : Labels) (R D : ℕ) (known-R : R < 2 ^ length ls) (known-D : D < 2 ^ length ls)
     (low : length ls ≤ maxLabels) where
@@ -62,8 +67,8 @@ module _ (ls : Labels) (R D : ℕ) (known-R : R < 2 ^ length ls) (known-D : D < 
   rest = perm-refl (hyps ls R)
 
   makes : {s : Step} {g : Judgment} {w : Leaves} → Rule (named ls) R D s g w → Writable s
-      → Makes ls R D g w
-  unfolding uses taken
+      → Makes ls R D s g w
+  unfolding letters taken
   makes (Rule.ax {l = l} q e c) w = (Derives.same rest (only l q e) (Derives.ax c), refl, refl, tt)
   makes (Rule.cp {l = l} m) w = λ y my. (Derives.cp (copied l m) y, refl, omega arith, my)
   makes (Rule.tr {s = s} h) w = λ y my z mz.
@@ -94,10 +99,10 @@ module _ (ls : Labels) (R D : ℕ) (known-R : R < 2 ^ length ls) (known-D : D < 
   makes (Rule.sl {l = l} m e c) w = λ y my. (Derives.same rest (out l m e) (Derives.sl c y), refl, omega arith, my)
   makes (Rule.gr e c) w = (Derives.same rest (perm-sym (bare D e)) (Derives.gr c), refl, refl, tt)
 
--- The derivation that the lines spell: as many uses of rules as lines, as many labels as it takes.
+-- The derivation that the lines spell: by their rules, as many labels as it takes.
 pub record Derived (ss : List Step) (ls : Labels) (q : Labelled) (rest : List Step) (ls′ : Labels) : Type 0 where
   pub derivation : Derives (hyps ls (q .unrestricted)) (hyps ls (q .linear)) (q .goal)
-  pub lines : length ss ≡ uses derivation + length rest
+  pub lines : lettersOf ss ≡ letters derivation ++ lettersOf rest
   pub labels : length ls′ ≡ length ls + taken derivation
   pub room : length ls′ ≤ maxLabels
   pub minutes : Minutes derivation
@@ -109,8 +114,8 @@ unlabelled : {ls ls₁ : Labels} {q : Labelled} (p : Branch) → Extends ls ls�
     → (y : Derives (hyps (begun ls₁ p) (beginning ls₁ (q .unrestricted) p .unrestricted))
     (hyps (begun ls₁ p) (beginning ls₁ (q .unrestricted) p .linear)) (p .goal))
     → Minutes y → Derivation (p .joins ++ hyps ls (q .unrestricted)) (p .linears ++ hyps ls (p .linear)) (p .goal)
-    (uses y) (taken y)
-unfolding uses taken
+    (letters y) (taken y)
+unfolding letters taken
 unlabelled p x fits low room y my = (
   Derives.same (perm-sym (unrestricted-begun p x fits low room)) (perm-sym (linear-begun p x fits low room)) y,
   refl,
@@ -120,30 +125,30 @@ unlabelled p x fits low room y my = (
 
 pub derived : {ss rest : List Step} {ls ls′ : Labels} {q : Labelled} → Spells ss ls q rest ls′ → Fits ls q
     → Every Writable ss → Derived ss ls q rest ls′
-derived {ls = ls} {q = q} (Spells.closes r) f w =
+derived {rest = rest} {ls = ls} {q = q} (Spells.closes r) f w =
     let m = makes ls (q .unrestricted) (q .linear) (f .unrestricted) (f .linear) (f .room) r (w .0) in
     record {
       derivation = m .0;
-      lines = omega (arith, m .1);
+      lines = ap (_++ lettersOf rest) (sym (m .1));
       labels = omega (arith, m .2);
       room = f .room;
       minutes = m .3;
       left = w .1;
     }
-derived {ls = ls} {q = q} (Spells.goes {p = p} r room s) f w =
+derived {ls = ls} {q = q} (Spells.goes {s = t} {p = p} r room s) f w =
     let low = lowers r in
     let c = derived s (fits-begun p (ext-refl ls) f low room) (w .1) in
     let y = unlabelled p (ext-refl ls) f low room (c .derivation) (c .minutes) in
     let m = makes ls (q .unrestricted) (q .linear) (f .unrestricted) (f .linear) (f .room) r (w .0) (y .0) (y .3) in
     record {
       derivation = m .0;
-      lines = omega (arith, m .1, y .1, c .lines);
+      lines = rw (m .1, y .1) (ap (letterOf t ∷_) (c .lines));
       labels = omega (arith, m .2, y .2, c .labels, length-begun ls p);
       room = c .room;
       minutes = m .3;
       left = c .left;
     }
-derived {ls = ls} {q = q} (Spells.parts {ls₁ = ls₁} {p₁ = p₁} {p₂ = p₂} r room₁ s₁ room₂ s₂) f w =
+derived {rest = rest} {ls = ls} {q = q} (Spells.parts {s = t} {ls₁ = ls₁} {p₁ = p₁} {p₂ = p₂} r room₁ s₁ room₂ s₂) f w =
     let low = lowers r in
     let x = ext-trans (ext-begun ls p₁) (spells-extends s₁ .0) in
     let c₁ = derived s₁ (fits-begun p₁ (ext-refl ls) f (low .0) room₁) (w .1) in
@@ -154,7 +159,8 @@ derived {ls = ls} {q = q} (Spells.parts {ls₁ = ls₁} {p₁ = p₁} {p₂ = p�
     (y₁ .0) (y₁ .3) (y₂ .0) (y₂ .3) in
     record {
       derivation = m .0;
-      lines = omega (arith, m .1, y₁ .1, y₂ .1, c₁ .lines, c₂ .lines);
+      lines = rw (m .1, y₁ .1, y₂ .1) (ap (letterOf t ∷_) (c₁ .lines ∙ ap (letters (c₁ .derivation) ++_) (c₂ .lines)
+          ∙ sym (append-assoc (letters (c₁ .derivation)) (letters (c₂ .derivation)) (lettersOf rest))));
       labels = omega (arith, m .2, y₁ .2, y₂ .2, c₁ .labels, c₂ .labels, length-begun ls p₁, length-begun ls₁ p₂);
       room = c₂ .room;
       minutes = m .3;

@@ -6,7 +6,7 @@ use native.Mathlib.Omega.{arith}
 use native.Mathlib.Decide.{decLt, decLe}
 use lib.ListN.{length, List·getD-append, length-map}
 use lib.Seq.{getD-append-seam}
-use borrow.Author.Tests.{le-leb, lt-leb}
+use borrow.Author.Tests.{le-leb, lt-leb, ne-eqb, eq-eqb}
 use Rattle.logic.specs.Formula.{Formula}
 use Rattle.labels.specs.Labels.{insert}
 use Rattle.steps.specs.declared.Row.{Row}
@@ -14,12 +14,14 @@ use Rattle.steps.specs.declared.Hypothesis.{Hypothesis}
 use Rattle.steps.specs.declared.Sequent.{Sequent}
 use Rattle.steps.specs.declared.Premise.{Premise}
 use Rattle.steps.specs.Check.{maxLabels, linears, joins, puts, adds, Beginning, full, begun, begin}
+use Rattle.steps.specs.Labelling.{AnyTable, readLabel, writeLabel, Shows as ShowsLabels}
 use Rattle.steps.specs.Rule.{Branch}
 use Rattle.steps.specs.Spells.{Labels, noHyp, named, grown, adding, beginning, Room}
 use Rattle.steps.specs.Spells.{begun as labels-begun}
+use Rattle.steps.specs.Unroll.{Unrolls, hypOf, goalOf, sequentOf}
 use Rattle.steps.proofs.Labelling.{length-snoc, ext-grown, length-grown}
 use Rattle.steps.proofs.Premises.{length-begun}
-use Rattle.steps.proofs.Unroll.{Unrolls, hypOf, goalOf, sequentOf, branchOf}
+use Rattle.steps.proofs.Unroll.{branchOf}
 
 -- what is put at a label is read there, and nowhere else
 pub record Table {T : Type 0} (held : T → ℕ → Hypothesis) (put : T → ℕ → Hypothesis → T) : Type 1 where
@@ -28,13 +30,19 @@ pub record Table {T : Type 0} (held : T → ℕ → Hypothesis) (put : T → ℕ
   pub reads : (t : T) (n : ℕ) (h : Hypothesis) → Good t → n < maxLabels → held (put t n h) n ≡ h
   pub keeps : (t : T) (n k : ℕ) (h : Hypothesis) → Good t → (k ≡ n → ⊥) → held (put t n h) k ≡ held t k
 
+-- the table as a function
+abbrev pub label-table : Table readLabel writeLabel
+label-table = record {
+  Good = AnyTable;
+  stays = λ t n h g. tt;
+  reads = λ t n h g l. rw (eq-eqb n n refl, writeLabel);
+  keeps = λ t n k h g d. rw (ne-eqb k n d, writeLabel);
+}
+
 module _ {row : ℕ → Row} {formula : ℕ → Formula} (u : Unrolls row formula) {T : Type 0} {held : T → ℕ → Hypothesis}
     {put : T → ℕ → Hypothesis → T} (table : Table held put) where
-  -- the table shows the labels taken so far, and n is the next
-  pub record Shows (t : T) (n : ℕ) (ls : Labels) : Type 0 where
-    pub good : table .Good t
-    pub next : n ≡ length ls
-    pub same : (k : ℕ) → k < length ls → named ls k ≡ hypOf u (held t k)
+  abbrev pub Shows : T → ℕ → Labels → Type 0
+  Shows = ShowsLabels u (table .Good) held
 
   pub shows-none : (t : T) → table .Good t → Shows t 0 []
   shows-none t g = record { good = g; next = refl; same = λ k l. absurd (omega arith) }

@@ -1,63 +1,16 @@
--- The formula that a number stands for, by the rows of a table; hypotheses, goals and sequents by their formulas.
+-- The formula of a number by its letter, and back; premises and plans by their formulas.
 use mathlib.Core.Path.{_≡_, sym, ap, _∙_}
 use mathlib.Core.List.{map}
-use mathlib.Core.Bool.{Bool, true, false}
 use mathlib.Core.Option.{Option, none, some}
 use Prim.Native.Nat.{ℕ}
-use Prim.Native.Char.{code}
-use lib.Dec.{eqb}
-use Rattle.logic.specs.Interval.{span}
-use Rattle.logic.specs.Formula.{Formula, atom, one, tensor, with, plus, lolli, implies, bang, at, says, superset}
-use Rattle.logic.specs.Derives.{Hyp, _⟦_⟧, Judgment, holds, affirms}
+use Rattle.logic.specs.Formula.{Formula}
 use Rattle.steps.specs.declared.Row.{Row}
-use Rattle.steps.specs.declared.Hypothesis.{Hypothesis}
-use Rattle.steps.specs.declared.Goal.{Goal}
-use Rattle.steps.specs.declared.Goal.the-variants.{Holds, Affirms}
-use Rattle.steps.specs.declared.Sequent.{Sequent}
 use Rattle.steps.specs.declared.Premise.{Premise}
 use Rattle.steps.specs.declared.Plan.{Plan}
 use Rattle.steps.specs.declared.Plan.the-variants.{Refused, Closed, One, Two}
-use Rattle.steps.specs.Plans.{is}
+use Rattle.steps.specs.Unroll.{letter, made, Unrolls, hypOf, goalOf}
 use Rattle.steps.specs.Check.{linears, joins}
 use Rattle.steps.specs.Rule.{Branch, Leaves, nothing, premise, premises}
-use Rattle.steps.specs.Spells.{Labelled}
-
-abbrev pub letter : Formula → ℕ
-letter (atom p s) = code "a"
-letter one = code "o"
-letter (tensor a b) = code "t"
-letter (with a b) = code "w"
-letter (plus a b) = code "p"
-letter (lolli a b) = code "l"
-letter (implies a b) = code "u"
-letter (bang a) = code "b"
-letter (at a i) = code "h"
-letter (says k a) = code "s"
-letter (superset i j) = code "g"
-
-abbrev choose : {A : Type 0} → Bool → A → A → A
-choose true a b = a
-choose false a b = b
-
--- the formula of a row with the letter c, from those of its parts; 1 where it is no other
-abbrev pub made : (ℕ → Formula) → ℕ → Row → Formula
-made f c x =
-    choose (eqb c (code "a")) (atom (x .a) (x .b))
-    (choose (eqb c (code "t")) (tensor (f (x .a)) (f (x .b)))
-    (choose (eqb c (code "w")) (with (f (x .a)) (f (x .b)))
-    (choose (eqb c (code "p")) (plus (f (x .a)) (f (x .b)))
-    (choose (eqb c (code "l")) (lolli (f (x .a)) (f (x .b)))
-    (choose (eqb c (code "u")) (implies (f (x .a)) (f (x .b)))
-    (choose (eqb c (code "b")) (bang (f (x .a)))
-    (choose (eqb c (code "h")) (at (f (x .a)) (span (x .b) (x .c)))
-    (choose (eqb c (code "s")) (says (x .a) (f (x .b)))
-    (choose (eqb c (code "g")) (superset (span (x .a) (x .b)) (span (x .c) (x .d)))
-    one)))))))))
-
--- f unrolls the rows: every number's letter and parts are its row's
-pub record Unrolls (row : ℕ → Row) (f : ℕ → Formula) : Type 0 where
-  pub letters : (i : ℕ) → letter (f i) ≡ row i .letter
-  pub formed : (i : ℕ) → f i ≡ made f (row i .letter) (row i)
 
 module _ {row : ℕ → Row} {f : ℕ → Formula} (u : Unrolls row f) where
   -- the formula of a number by its letter
@@ -70,22 +23,12 @@ module _ {row : ℕ → Row} {f : ℕ → Formula} (u : Unrolls row f) where
       let o : row i .letter ≡ letter a = sym (u .letters i) ∙ ap letter e in
       (o, sym (of-letter i (letter a) o) ∙ e)
 
-  abbrev pub hypOf : Hypothesis → Hyp
-  hypOf h = f (h .formula) ⟦ h .interval ⟧
-
-  abbrev pub goalOf : Goal → Judgment
-  goalOf (Holds n i) = holds (f n) i
-  goalOf (Affirms n i k) = affirms k (f n) i
-
-  abbrev pub sequentOf : Sequent → Labelled
-  sequentOf q = record { unrestricted = q .unrestricted; linear = q .linear; goal = goalOf (q .goal) }
-
   abbrev pub branchOf : Premise → Branch
   branchOf p = record {
     linear = p .linear;
-    goal = goalOf (p .goal);
-    linears = map hypOf (linears (p .fresh));
-    joins = map hypOf (joins (p .fresh));
+    goal = goalOf u (p .goal);
+    linears = map (hypOf u) (linears (p .fresh));
+    joins = map (hypOf u) (joins (p .fresh));
   }
 
   -- what a plan leaves, if it is no refusal

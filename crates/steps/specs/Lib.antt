@@ -2,4 +2,8 @@ pub mod Plans
 pub mod Check
 pub mod Rule
 pub mod Spells
+pub mod Letters
 pub mod Limits
+pub mod Unroll
+pub mod Labelling
+pub mod Statements

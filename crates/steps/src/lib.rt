@@ -52,3 +52,27 @@ pub enum Plan {
     One(Premise),
     Two(Premise, Premise),
 }
+
+// What is proved of the step checker and of the lines that it reads, with the table of labels as a function. Each
+// function does nothing: its `ensures` is the statement, of specs/Statements.antt.
+
+ghost use Rattle.steps.specs.Labelling.{AnyTable, readLabel, writeLabel};
+ghost use Rattle.steps.specs.Statements.{Spelt, Complete, Exactly, Sound, Passing};
+
+// Lines that spell a derivation give one by their rules, and every derivation within the limits has such lines.
+pub fn lines_are_derivations()
+    ensures sound { λ _. ⌜ Spelt ⌝ }
+    ensures complete { λ _. ⌜ Complete ⌝ }
+{}
+
+// The checker passes lines exactly if they spell a derivation, and refuses them exactly where they are stopped.
+pub fn checker_is_exact()
+    ensures { λ _. ⌜ Exactly AnyTable readLabel writeLabel ⌝ }
+{}
+
+// From the hypotheses that a booking holds: what passes is a derivation by the rules of its lines, and every derivation
+// within the limits has lines that pass.
+pub fn passing_is_deriving()
+    ensures sound { λ _. ⌜ Sound AnyTable readLabel writeLabel ⌝ }
+    ensures complete { λ _. ⌜ Passing AnyTable readLabel writeLabel ⌝ }
+{}

@@ -12,7 +12,8 @@ use Rattle.logic.specs.Multiset.{sum}
 use Rattle.request.specs.declared.Kind.the-variants.{Unrestricted}
 use Rattle.ledger.specs.declared.Credential.{Credential}
 use Rattle.ledger.specs.Ledger.{Ledger, empty, consSome}
-use Rattle.ledger.proofs.Bounds.{Bounded, empty-bounded}
+use Rattle.ledger.specs.Bounds.{Bounded}
+use Rattle.ledger.proofs.Bounds.{empty-bounded}
 use Rattle.store.specs.Tab.{tab, present}
 use Rattle.cells.specs.Layout.{cells, lineCount, liveCount, nextSerial, rowCount, credentialAt, gapAt, entryAt}
 use Rattle.store.specs.Store.{ledgerOf, Ordered, StandsFor}

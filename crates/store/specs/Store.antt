@@ -17,8 +17,7 @@ use Rattle.steps.specs.declared.Row.{Row}
 use Rattle.ledger.specs.Table.{form, names, rowOf}
 use Rattle.ledger.specs.Ledger.{Ledger, formula}
 use Rattle.ledger.specs.Checks.{maxSize, maxFormulas, maxLive}
-use Rattle.ledger.proofs.Tables.{There}
-use Rattle.ledger.proofs.Bounds.{Bounded}
+use Rattle.ledger.specs.Bounds.{There, Bounded}
 use Rattle.logic.specs.Choice.{pick}
 use Rattle.store.specs.Tab.{tab, present}
 use Rattle.cells.specs.Layout.{cells, maxRows, lineCount, liveCount, nextSerial, rowCount, rowAt, sizeAt, plainAt}

@@ -6,7 +6,6 @@ ghost use mathlib.Core.List.{_++_};
 ghost use Prim.Native.Nat.{_<_};
 ghost use lib.ListN.{length, take};
 ghost use Rattle.store.specs.Store.{Good};
-ghost use Rattle.judging.specs.Booking.{Lent};
 ghost use Rattle.print.specs.Printed.{longest, Room};
 ghost use Rattle.stream.specs.Stream.{Said, Ready, Took, TookSome, Ended};
 
@@ -28,10 +27,9 @@ struct Taken {
 
 // Answers a sheet and puts the answer's line into the text.
 fn answer(till: &mut Store, rows: &mut Rows, sheet: &[u8], text: &mut [u8], at: usize) -> usize
-    requires { ⌜ Good (now till) × (Lent (now rows) × Room (now text) at longest) ⌝ }
+    requires { ⌜ Good (now till) × Room (now text) at longest ⌝ }
     ensures { λ r. ⌜ Said (now (till .entry)) (now (sheet .entry)) (now (text .entry)) at
         (now (till .exit)) (now (text .exit)) r ⌝ }
-    ensures { λ _. ⌜ Lent (now (rows .exit)) ⌝ }
 {
     let a = booking::call(till, sheet, rows);
     print::put_answer(text, at, a)
@@ -47,10 +45,9 @@ fn answer_ended(
     place: Place,
     bytes: &[u8],
 ) -> usize
-    requires { ⌜ Ready (now till) (now begun) (now text) place 1 × Lent (now rows) ⌝ }
+    requires { ⌜ Ready (now till) (now begun) (now text) place 1 ⌝ }
     ensures { λ r. ⌜ Said (now (till .entry)) (take (place .held) (now (begun .entry)) ++ now (bytes .entry))
         (now (text .entry)) (place .text) (now (till .exit)) (now (text .exit)) r ⌝ }
-    ensures { λ _. ⌜ Lent (now (rows .exit)) ⌝ }
 {
     if place.held == 0 {
         return answer(till, rows, bytes, text, place.text);
@@ -68,11 +65,10 @@ fn take_sheet(
     place: Place,
     piece: &[u8],
 ) -> Taken
-    requires { ⌜ Ready (now till) (now begun) (now text) place (length (now piece)) × Lent (now rows) ⌝ }
+    requires { ⌜ Ready (now till) (now begun) (now text) place (length (now piece)) ⌝ }
     requires { ⌜ 0 < length (now piece) ⌝ }
     ensures { λ r. ⌜ TookSome (now (till .entry)) (now (begun .entry)) (now (text .entry)) place (now (piece .entry))
         (now (till .exit)) (now (begun .exit)) (now (text .exit)) r ⌝ }
-    ensures { λ _. ⌜ Lent (now (rows .exit)) ⌝ }
 {
     let end = sheets::sheet_end(piece, place.fresh);
     match end {
@@ -110,10 +106,9 @@ pub fn feed(
     place: Place,
     piece: &[u8],
 ) -> Place
-    requires { ⌜ Ready (now till) (now begun) (now text) place (length (now piece)) × Lent (now rows) ⌝ }
+    requires { ⌜ Ready (now till) (now begun) (now text) place (length (now piece)) ⌝ }
     ensures { λ r. ⌜ Took (now (till .entry)) (now (begun .entry)) (now (text .entry)) place (now (piece .entry))
         (now (till .exit)) (now (begun .exit)) (now (text .exit)) r ⌝ }
-    ensures { λ _. ⌜ Lent (now (rows .exit)) ⌝ }
 {
     let mut p = place;
     let mut i = 0;
@@ -133,7 +128,7 @@ pub fn finish(
     text: &mut [u8],
     place: Place,
 ) -> usize
-    requires { ⌜ Ready (now till) (now begun) (now text) place 1 × Lent (now rows) ⌝ }
+    requires { ⌜ Ready (now till) (now begun) (now text) place 1 ⌝ }
     ensures { λ r. ⌜ Ended (now (till .entry)) (now (begun .entry)) (now (text .entry)) place (now (text .exit)) r ⌝ }
 {
     let held = place.held;

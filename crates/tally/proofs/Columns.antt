@@ -18,7 +18,8 @@ use Rattle.request.specs.Request.{Line}
 use Rattle.ledger.specs.Table.{form, nth, build, formulas}
 use Rattle.ledger.specs.Ledger.{Ledger, formula}
 use Rattle.ledger.specs.Checks.{maxSize, maxFormulas}
-use Rattle.ledger.proofs.Tables.{formulas-length, formula-snoc, lineAt}
+use Rattle.ledger.specs.Bounds.{lineAt}
+use Rattle.ledger.proofs.Tables.{formulas-length, formula-snoc}
 use Rattle.tally.specs.Column.{early, Column}
 
 module _ (t : Ledger) where

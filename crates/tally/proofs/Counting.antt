@@ -17,7 +17,7 @@ use Rattle.logic.proofs.Stores.{replicate-is}
 use Rattle.request.specs.Request.{Line}
 use Rattle.ledger.specs.Table.{form, names, rowOf}
 use Rattle.ledger.specs.Checks.{maxSize, maxFormulas}
-use Rattle.ledger.proofs.Tables.{lineAt}
+use Rattle.ledger.specs.Bounds.{lineAt}
 use Rattle.cells.specs.Layout.{rowAt}
 use Rattle.store.specs.Store.{ledgerOf, Good}
 use Rattle.store.proofs.Views.{row-is}

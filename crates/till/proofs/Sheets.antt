@@ -13,15 +13,16 @@ use Rattle.request.specs.Read.{requestOf}
 use Rattle.steps.specs.declared.Row.{Row}
 use Rattle.ledger.specs.declared.Answer.{Answer}
 use Rattle.ledger.specs.declared.Answer.the-variants.{Refused}
-use Rattle.ledger.specs.Calls.{Reply, call}
+use Rattle.ledger.specs.Calls.{Reply, told, call}
 use Rattle.ledger.proofs.Firsts.{call-long, call-none, call-read}
 use Rattle.store.specs.Store.{lineOf, ledgerOf, Canonical, Good}
 use Rattle.store.proofs.Lines.{line-of-row, row-canonical}
 use Rattle.reader.specs.declared.First.{First}
-use Rattle.reader.specs.First.{WordIs, FirstIs}
+use Rattle.reader.specs.declared.FirstRead.{FirstRead}
+use Rattle.reader.specs.First.{WordIs, FirstIs, LineIs}
 use Rattle.verdicts.specs.declared.Verdict.{Verdict}
 use Rattle.verdicts.specs.declared.Verdict.the-variants.{Passed}
-use Rattle.verdicts.specs.Verdicts.{fails}
+use Rattle.verdicts.specs.Verdicts.{Tells}
 use Rattle.calls.specs.Handled.{Handled}
 use Rattle.till.specs.Replied.{Called}
 use Rattle.verdicts.proofs.Laws.{by-verdict}
@@ -31,7 +32,7 @@ module _ (l b : List ℕ) where
       → e .ledger ≡ ledgerOf l → Called l b (Refused n 0) l
   refused n g e q a t = record {
     good = g;
-    answer = sym (ap (λ (d : Reply). d .answer) q ∙ a);
+    answer = sym (ap (λ (d : Reply). told (d .answer)) q ∙ ap told a);
     ledger = sym (ap (λ (d : Reply). d .ledger) q ∙ t);
     same = λ n k z. refl;
   }
@@ -48,7 +49,7 @@ module _ (l b : List ℕ) where
       let q = call-read (ledgerOf l) b r s e in
       record {
         good = h .good;
-        answer = h .answer ∙ sym (ap (λ (d : Reply). d .answer) q);
+        answer = h .answer ∙ sym (ap (λ (d : Reply). told (d .answer)) q);
         ledger = h .ledger ∙ sym (ap (λ (d : Reply). d .ledger) q);
         same = h .same;
       }
@@ -61,9 +62,12 @@ pub word-reads : {q : Option Request} {x : Row} → WordIs q x → q ≡ some (w
 word-reads w = w .reads ∙ ap (λ (m : Line). some (word m)) (sym (line-of-row (w .line)) ∙ ap lineOf (w .row))
 
 -- what was read, by the match on it
-pub read-as : (b : List ℕ) {f g : First} → FirstIs (requestOf b) b f → f ≡ g → FirstIs (requestOf b) b g
-read-as b h e = subst (λ (f : First). FirstIs (requestOf b) b f) e h
+pub read-as : (b : List ℕ) {f g : FirstRead} → FirstIs (requestOf b) b f → f ≡ g → FirstIs (requestOf b) b g
+read-as b h e = subst (FirstIs (requestOf b) b) e h
+
+pub line-as : (b : List ℕ) {f g : First} → LineIs (requestOf b) b f → f ≡ g → LineIs (requestOf b) b g
+line-as b h e = subst (LineIs (requestOf b) b) e h
 
 -- within the length, by the verdict
-pub within : (b : List ℕ) {v : Verdict} → fails v ≡ ltb maxBytes (length b) → v ≡ Passed → length b ≤ maxBytes
+pub within : (b : List ℕ) {v : Verdict} → Tells 1 v (ltb maxBytes (length b)) → v ≡ Passed → length b ≤ maxBytes
 within b e g = ltb-false _ _ (by-verdict e g)

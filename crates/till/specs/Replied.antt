@@ -6,8 +6,7 @@ use lib.ListN.{length}
 use Rattle.request.specs.Range.{maxBytes}
 use Rattle.request.specs.Read.{requestOf}
 use Rattle.ledger.specs.declared.Answer.{Answer}
-use Rattle.ledger.specs.declared.Answer.the-variants.{Refused}
-use Rattle.ledger.specs.Calls.{call}
+use Rattle.ledger.specs.Calls.{Told, told, call, says}
 use Rattle.store.specs.Store.{ledgerOf, Good}
 use Rattle.reader.specs.declared.Head.{Head}
 use Rattle.reader.specs.First.{BookIs}
@@ -17,9 +16,9 @@ use Rattle.till.specs.declared.Reply.the-variants.{Answered, Booking}
 -- the answer and the ledger of the definition; at a refusal the very same numbers
 pub record Called (l b : List ℕ) (a : Answer) (l′ : List ℕ) : Type 0 where
   pub good : Good l′
-  pub answer : a ≡ call (ledgerOf l) b .answer
+  pub answer : told a ≡ says (ledgerOf l) b
   pub ledger : ledgerOf l′ ≡ call (ledgerOf l) b .ledger
-  pub same : (n k : ℕ) → a ≡ Refused n k → l′ ≡ l
+  pub same : (n k : ℕ) → told a ≡ Told.no n k → l′ ≡ l
 
 -- bytes within the length that begin as a booking; nothing is done yet
 pub record Pending (l b : List ℕ) (h : Head) (l′ : List ℕ) : Type 0 where

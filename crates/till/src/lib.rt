@@ -1,6 +1,7 @@
 // The answer to a sheet's bytes: a request that has been read is handed to its call.
 use ledger::Answer;
 use reader::First;
+use reader::FirstRead;
 use reader::Head;
 use store::Store;
 use verdicts::Verdict;
@@ -23,7 +24,10 @@ pub fn answer(till: &mut Store, sheet: &[u8]) -> Reply
     let Verdict::Passed = short else {
         return Reply::Answered(Answer::Refused(1, 0));
     };
-    let first = reader::requests::read_first(sheet);
+    let read = reader::requests::read_first(sheet);
+    let FirstRead::Read(first) = read else {
+        return Reply::Answered(Answer::Refused(2, 0));
+    };
     match first {
         First::Word(row) => Reply::Answered(wording::word(till, row)),
         First::Issue(kind, formula, interval) => Reply::Answered(calls::issue(
@@ -35,6 +39,5 @@ pub fn answer(till: &mut Store, sheet: &[u8]) -> Reply
         First::Withdraw(serial) => Reply::Answered(calls::withdraw(till, serial)),
         First::Tally(session, minute) => Reply::Answered(calls::tally(till, session, minute)),
         First::Book(head) => Reply::Booking(head),
-        First::Broken => Reply::Answered(Answer::Refused(2, 0)),
     }
 }

@@ -1,36 +1,54 @@
 -- What the program's turns leave: a till, the first bytes of the sheet that has begun, what has been read and written.
 use mathlib.Core.Path.{_≡_}
+use mathlib.Core.Bool.{true}
 use mathlib.Core.List.{List, _++_}
-use Prim.Native.Nat.{ℕ, _*_}
-use lib.ListN.{length}
+use mathlib.Core.Logic.{_⊎_}
+use Prim.Native.Nat.{ℕ, _%_, _^_}
+use lib.IntN.{pos}
+use lib.ListN.{length, take}
 use Rattle.ledger.specs.Ledger.{empty}
-use Rattle.store.specs.Store.{StandsFor}
-use Rattle.print.specs.Printed.{longest}
-use Rattle.sheets.specs.Sheets.{most}
-use Rattle.stream.specs.declared.Place.{Place}
+use Rattle.ledger.specs.Calls.{answers}
+use Rattle.print.specs.Printed.{printed}
+use Rattle.sheets.specs.Sheets.{split, sheetsOf}
 use Rattle.stream.specs.Stream.{Ready, Stands}
+use Rattle.console.specs.declared.Input.{Input}
+use Rattle.console.specs.declared.Output.{Output}
+use Rattle.tillrun.specs.declared.Turn.{Turn}
+use Rattle.console.specs.Console.{Received, Sent, Stopped}
 
--- One more piece of the input was read, if any, and what waited was written.
-pub record Turned (l k o : List ℕ) (p : Place) (l′ k′ o′ : List ℕ) (p′ : Place) (n : ℕ) : Type 0 where
-  pub ready : Ready l′ k′ o′ p′ n
-  pub read : List ℕ
-  pub wrote : List ℕ
-  pub stands : (w b : List ℕ) → Stands w l k o p b → Stands (w ++ wrote) l′ k′ o′ p′ (b ++ read)
+-- One read, and one write of what then waited. What was read is the front of the piece x′, what was written the front
+-- of the text o′.
+pub record Turned (l k o : List ℕ) (t : Turn) (l′ k′ o′ x′ : List ℕ) (t′ : Turn) : Type 0 where
+  pub ready : Ready l′ k′ o′ (t′ .place) (length x′)
+  pub received : Received (t .input) (length x′) (t′ .input)
+  pub sent : Sent (t .output) (length o′) (t′ .output)
+  pub none : t′ .place .text ≡ 0
+  pub stands : (w b : List ℕ) → Stands w l k o (t .place) b
+      → Stands (w ++ take (t′ .output .put) o′) l′ k′ o′ (t′ .place) (b ++ take (t′ .input .got) x′)
 
--- how many bytes are read at once
-abbrev pub piece : ℕ
-piece = 16384
+-- The bytes b came from standard input, as many as were read, and the bytes w went to standard output, as many as were
+-- written.
+pub record Through (b : List ℕ) (i : Input) (w : List ℕ) (u : Output) : Type 0 where
+  pub from : i .from ≡ pos 0
+  pub read : i .bytes ≡ length b % 2 ^ 64
+  pub to : u .to ≡ pos 1
+  pub written : u .bytes ≡ length w % 2 ^ 64
 
--- an empty till, and the buffers: for the first bytes of a sheet, for the answers to a piece, for a piece
-pub record Opened (l k o x : List ℕ) : Type 0 where
-  pub till : StandsFor l empty
-  pub begun : length k ≡ most
-  pub text : length o ≡ longest * piece
-  pub piece : length x ≡ piece
-
--- what the loop keeps: the bytes read so far and the bytes written so far
-pub record Going (l k o : List ℕ) (p : Place) (n : ℕ) : Type 0 where
-  pub ready : Ready l k o p n
+-- What the loop keeps.
+pub record Going (l k o : List ℕ) (t : Turn) (n : ℕ) : Type 0 where
+  pub ready : Ready l k o (t .place) n
+  pub none : t .place .text ≡ 0
   pub read : List ℕ
   pub written : List ℕ
-  pub stands : Stands written l k o p read
+  pub through : Through read (t .input) written (t .output)
+  pub stands : Stands written l k o (t .place) read
+
+-- The input was read until it ended, a write failed or 2^64 - 1 reads were made. What was handed over to be written are
+-- the answers to all its sheets; where a write failed before the end, to those that an empty line has ended.
+pub record Played (i : Input) (u : Output) : Type 0 where
+  pub read : List ℕ
+  pub written : List ℕ
+  pub through : Through read i written u
+  pub stopped : Stopped i u
+  pub answered : (written ≡ printed (answers empty (sheetsOf read)))
+      ⊎ ((u .failed ≡ true) × (written ≡ printed (answers empty (split read .ended))))

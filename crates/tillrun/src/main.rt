@@ -1,20 +1,44 @@
 // `tillrun` (document 01, "Kiosk"): reads sheets from standard input and prints their answers, starting with an empty
 // till. What is read in one piece is answered and written before more input is waited for.
+use console::Input;
+use console::Output;
 use store::Store;
 use stream::Place;
 use stream::Rows;
 ghost use mathlib.Core.Path.{_≡_};
 ghost use lib.ListN.{length};
-ghost use Rattle.judging.specs.Booking.{Lent};
+ghost use Rattle.ledger.specs.Ledger.{empty};
+ghost use Rattle.store.specs.Store.{StandsFor};
 ghost use Rattle.stream.specs.Stream.{Ready};
-ghost use Rattle.tillrun.specs.Program.{Turned, Opened};
+ghost use Rattle.tillrun.specs.Program.{Turned, Played};
 
-// A place, whether to go on, and whether the answers could be written.
+// The first bytes of a sheet that has begun: one more than a sheet may have.
+type Begun = [u8; 16385];
+
+// The answers to the sheets of a piece, each of which takes a byte at least, of 36 bytes at most.
+type Text = [u8; 589824];
+
+// What is read at once.
+type Piece = [u8; 16384];
+
+// Between two reads: what the state stands for, and what has been read and written.
 struct Turn {
     place: Place,
-    more: bool,
-    written: bool,
+    input: Input,
+    output: Output,
 }
+
+// What has been read and written in the end.
+struct Run {
+    input: Input,
+    output: Output,
+}
+
+// That the buffers are as long as their types say, which a proof is told of arrays by value. They are not read, so that
+// no copy is made.
+fn sized(begun: Begun, text: Text, piece: Piece)
+    ensures { λ _. ⌜ (length begun ≡ 16385) × ((length text ≡ 589824) × (length piece ≡ 16384)) ⌝ }
+{}
 
 // Reads once, answers what came and writes the answers.
 fn next_piece(
@@ -23,62 +47,61 @@ fn next_piece(
     begun: &mut [u8],
     text: &mut [u8],
     piece: &mut [u8],
-    place: Place,
+    turn: Turn,
 ) -> Turn
-    requires { ⌜ Ready (now till) (now begun) (now text) place 16384 ⌝ }
-    requires { ⌜ Lent (now rows) × (length (now piece) ≡ 16384) ⌝ }
-    ensures { λ r. ⌜ Turned (now (till .entry)) (now (begun .entry)) (now (text .entry)) place
-        (now (till .exit)) (now (begun .exit)) (now (text .exit)) (r .place) 16384 ⌝ }
-    ensures { λ _. ⌜ Lent (now (rows .exit)) × (length (now (piece .exit)) ≡ 16384) ⌝ }
+    requires { ⌜ Ready (now till) (now begun) (now text) (turn .place) (length (now piece)) ⌝ }
+    ensures { λ r. ⌜ Turned (now (till .entry)) (now (begun .entry)) (now (text .entry)) turn
+        (now (till .exit)) (now (begun .exit)) (now (text .exit)) (now (piece .exit)) r ⌝ }
 {
-    let got = libc::read(0, piece);
-    let n = io::count(got, piece);
-    if n == 0 {
-        return Turn {
-            place,
-            more: false,
-            written: true,
-        };
-    }
-    let next = stream::feed(till, rows, begun, text, place, &piece[..n]);
-    let end = next.text;
-    let more = io::write_all(1, &text[..end]);
+    let input = console::receive(turn.input, piece);
+    let n = console::got(input);
+    let next = stream::feed(till, rows, begun, text, turn.place, &piece[..n]);
+    let output = console::send(turn.output, text, next.text);
     Turn {
         place: Place {
             held: next.held,
             fresh: next.fresh,
             text: 0,
         },
-        more,
-        written: more,
+        input,
+        output,
     }
 }
 
-// Plays the input to its end. A proved loop has to end, and nothing says that the input does, so the loop counts its
-// turns down from a number that no run uses up. Where the answers cannot be written, the sheet that has begun is left.
-fn play(till: &mut Store, rows: &mut Rows, begun: &mut [u8], text: &mut [u8], piece: &mut [u8])
-    requires { ⌜ Opened (now till) (now begun) (now text) (now piece) × Lent (now rows) ⌝ }
+// Plays the input to its end. Where the answers cannot be written, the sheet that has begun is left.
+fn play(
+    till: &mut Store,
+    rows: &mut Rows,
+    begun: &mut Begun,
+    text: &mut Text,
+    piece: &mut Piece,
+) -> Run
+    requires { ⌜ StandsFor (now till) empty ⌝ }
+    ensures { λ r. ⌜ Played (r .input) (r .output) ⌝ }
 {
-    let mut place = Place {
-        held: 0,
-        fresh: true,
-        text: 0,
+    sized(*begun, *text, *piece);
+    let mut turn = Turn {
+        place: Place {
+            held: 0,
+            fresh: true,
+            text: 0,
+        },
+        input: console::reading(0),
+        output: console::writing(1),
     };
-    let mut more = true;
-    let mut written = true;
-    let mut turns = u64::MAX;
-    while turns > 0 && more {
-        let t = next_piece(till, rows, begun, text, piece, place);
-        place = t.place;
-        more = t.more;
-        written = t.written;
-        turns -= 1;
+    while console::goes_on(turn.input, turn.output) {
+        turn = next_piece(till, rows, begun, text, piece, turn);
     }
-    if !written {
-        return;
+    let input = turn.input;
+    let output = turn.output;
+    if console::failed(output) {
+        return Run { input, output };
     }
-    let end = stream::finish(till, rows, begun, text, place);
-    io::write_all(1, &text[..end]);
+    let end = stream::finish(till, rows, begun, text, turn.place);
+    Run {
+        input,
+        output: console::send(output, text, end),
+    }
 }
 
 fn main() {

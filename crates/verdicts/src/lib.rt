@@ -5,7 +5,7 @@ use steps::Row;
 use store::Store;
 ghost use mathlib.Core.Path.{_≡_};
 ghost use mathlib.Core.Bool.{not, _||_};
-ghost use Prim.Native.Nat.{_<_};
+ghost use Prim.Native.Nat.{ℕ, _<_};
 ghost use lib.ListN.{length};
 ghost use Rattle.logic.specs.Interval.{has, reversed};
 ghost use Rattle.logic.specs.Formula.{plain};
@@ -15,16 +15,16 @@ ghost use Rattle.ledger.specs.Ledger.{formula};
 ghost use Rattle.request.specs.Request.{lineIntervals};
 ghost use Rattle.ledger.specs.Checks.{any, missing, noRoom, usedUp};
 ghost use Rattle.store.specs.Store.{lineOf, ledgerOf, Canonical, Good};
-ghost use Rattle.verdicts.specs.Verdicts.{fails, unfair, unfairNumber};
+ghost use Rattle.verdicts.specs.Verdicts.{Tells, unfair, unfairNumber};
 
 pub enum Verdict {
     Passed,
     Failed,
 }
 
-// The verdict of a test: it fails where `bad`.
+// The verdict of a test, whatever its number: it fails where `bad`.
 pub fn tested(bad: bool) -> Verdict
-    ensures { λ r. ⌜ fails r ≡ bad ⌝ }
+    ensures { λ r. ⌜ ((n : ℕ) → Tells n r bad) ⌝ }
 {
     if bad {
         return Verdict::Failed;
@@ -34,7 +34,7 @@ pub fn tested(bad: bool) -> Verdict
 
 // 3: an interval is reversed.
 pub fn ordered(i: Interval) -> Verdict
-    ensures { λ r. ⌜ fails r ≡ reversed i ⌝ }
+    ensures { λ r. ⌜ Tells 3 r (reversed i) ⌝ }
 {
     tested(i.to < i.from)
 }
@@ -42,14 +42,14 @@ pub fn ordered(i: Interval) -> Verdict
 // 3: an interval of a formula line is reversed.
 pub fn line_ordered(row: Row) -> Verdict
     requires { ⌜ Canonical row ⌝ }
-    ensures { λ r. ⌜ fails r ≡ any reversed (lineIntervals (lineOf row)) ⌝ }
+    ensures { λ r. ⌜ Tells 3 r (any reversed (lineIntervals (lineOf row))) ⌝ }
 {
     tested(forms::formulas::reversed_row(row))
 }
 
 // 3: the goal's interval is reversed, or a step's is.
 pub fn lines_ordered(interval: Interval, turned: bool) -> Verdict
-    ensures { λ r. ⌜ fails r ≡ (reversed interval || turned) ⌝ }
+    ensures { λ r. ⌜ Tells 3 r (reversed interval || turned) ⌝ }
 {
     tested((interval.to < interval.from) | turned)
 }
@@ -57,7 +57,7 @@ pub fn lines_ordered(interval: Interval, turned: bool) -> Verdict
 // 10: a named formula is not there.
 pub fn present(till: &Store, n: u32) -> Verdict
     requires { ⌜ Good (now till) ⌝ }
-    ensures { λ r. ⌜ fails r ≡ missing (ledgerOf (now (till .entry))) n ⌝ }
+    ensures { λ r. ⌜ Tells 10 r (missing (ledgerOf (now (till .entry))) n) ⌝ }
 {
     tested(store::formula_count(till) <= n)
 }
@@ -65,7 +65,7 @@ pub fn present(till: &Store, n: u32) -> Verdict
 // 10: a formula that a line names is not there.
 pub fn names_present(till: &Store, row: Row) -> Verdict
     requires { ⌜ Canonical row ⌝ }
-    ensures { λ r. ⌜ fails r ≡ any (missing (ledgerOf (now (till .entry)))) (names (lineOf row)) ⌝ }
+    ensures { λ r. ⌜ Tells 10 r (any (missing (ledgerOf (now (till .entry)))) (names (lineOf row))) ⌝ }
 {
     tested(!facts::names_there(till, row))
 }
@@ -73,7 +73,7 @@ pub fn names_present(till: &Store, row: Row) -> Verdict
 // 20: the formula is not plain.
 pub fn plainly(till: &Store, n: u32) -> Verdict
     requires { ⌜ Good (now till) × (n < length (ledgerOf (now till) .lines)) ⌝ }
-    ensures { λ r. ⌜ fails r ≡ not (plain (formula (ledgerOf (now (till .entry))) n)) ⌝ }
+    ensures { λ r. ⌜ Tells 20 r (not (plain (formula (ledgerOf (now (till .entry))) n))) ⌝ }
 {
     tested(!store::plain_at(till, n))
 }
@@ -81,7 +81,7 @@ pub fn plainly(till: &Store, n: u32) -> Verdict
 // 21: the formula is not balanced.
 fn balancedly(till: &Store, n: u32) -> Verdict
     requires { ⌜ Good (now till) × (n < length (ledgerOf (now till) .lines)) ⌝ }
-    ensures { λ r. ⌜ fails r ≡ not (balanced (formula (ledgerOf (now (till .entry))) n)) ⌝ }
+    ensures { λ r. ⌜ Tells 21 r (not (balanced (formula (ledgerOf (now (till .entry))) n))) ⌝ }
 {
     tested(!store::balanced_at(till, n))
 }
@@ -89,7 +89,7 @@ fn balancedly(till: &Store, n: u32) -> Verdict
 // 20 or 21: the formula is not what an issue of this kind asks.
 pub fn fair(till: &Store, kind: Kind, n: u32) -> Verdict
     requires { ⌜ Good (now till) × (n < length (ledgerOf (now till) .lines)) ⌝ }
-    ensures { λ r. ⌜ fails r ≡ unfair kind (formula (ledgerOf (now (till .entry))) n) ⌝ }
+    ensures { λ r. ⌜ Tells (unfairNumber kind) r (unfair kind (formula (ledgerOf (now (till .entry))) n)) ⌝ }
 {
     match kind {
         Kind::Linear => plainly(till, n),
@@ -110,7 +110,7 @@ pub fn unfair_number(kind: Kind) -> u32
 // 22: live credentials, less the linear ones held, are 512 or more.
 pub fn room(till: &Store, held: u32) -> Verdict
     requires { ⌜ Good (now till) ⌝ }
-    ensures { λ r. ⌜ fails r ≡ noRoom (ledgerOf (now (till .entry))) held ⌝ }
+    ensures { λ r. ⌜ Tells 22 r (noRoom (ledgerOf (now (till .entry))) held) ⌝ }
 {
     let live = store::live_count(till);
     if live <= held {
@@ -122,14 +122,14 @@ pub fn room(till: &Store, held: u32) -> Verdict
 // 23: serial 999,999 was given.
 pub fn unused(till: &Store) -> Verdict
     requires { ⌜ Good (now till) ⌝ }
-    ensures { λ r. ⌜ fails r ≡ usedUp (ledgerOf (now (till .entry))) ⌝ }
+    ensures { λ r. ⌜ Tells 23 r (usedUp (ledgerOf (now (till .entry)))) ⌝ }
 {
     tested(999999 < store::next_serial(till))
 }
 
 // 30: `now` is not in the goal's interval.
 pub fn timely(interval: Interval, now: u32) -> Verdict
-    ensures { λ r. ⌜ fails r ≡ not (has interval now) ⌝ }
+    ensures { λ r. ⌜ Tells 30 r (not (has interval now)) ⌝ }
 {
     tested((now < interval.from) | (interval.to < now))
 }

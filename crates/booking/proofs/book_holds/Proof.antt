@@ -29,7 +29,7 @@ returns-2 c =
     let hold = held .before .before in
     let start = hold .before .before .before in
     book-twice _ _ _ _ (start .pre) (held-alive (rw (held .held .given .1) at (hold .hold-all .ensures)))
-    (sym (tested .before .twice .ensures) ∙ by-verdict (tested .tested .ensures) (c .enum-told3 .given .1))
+    (sym (tested .before .twice .ensures) ∙ by-verdict (tested .tested .ensures 31) (c .enum-told3 .given .1))
 
 book-steps-requires : tie.Need-book-steps-requires
 book-steps-requires c κs =
@@ -42,7 +42,7 @@ book-steps-requires c κs =
       before = start .pre;
       holds = rw (held .held .given .1) at (hold .hold-all .ensures);
       apart = sym (tested .before .twice .ensures)
-          ∙ by-verdict (tested .tested .ensures) (passed .enum-told2 .given .1);
+          ∙ by-verdict (tested .tested .ensures 31) (passed .enum-told2 .given .1);
     }
 
 pub book-holds-spec : {M : Type 1} → statement M

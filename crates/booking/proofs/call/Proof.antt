@@ -9,26 +9,24 @@ book-requires c κs =
     let told = c .before .before .before in
     let answer = told .before .before in
     let start = answer .before .before .before in
-    (opened (start .pre .0) (rw (told .reply2 .given .1) at (answer .answer .ensures)), start .pre .1)
+    opened (start .pre) (rw (told .reply2 .given .1) at (answer .answer .ensures))
 
 returns : tie.Need-returns
 returns c =
     let answer = c .before .before .before in
-    (rw (c .before .reply .given .1) at (answer .answer .ensures), answer .before .before .before .pre .1)
+    rw (c .before .reply .given .1) at (answer .answer .ensures)
 
 returns-2 : tie.Need-returns-2
 returns-2 c =
     let told = c .before .before .before .before in
-    let answer = told .before .before in (
-      called-after (rw (told .reply2 .given .1) at (answer .answer .ensures)) (c .book .ensures .0),
-      c .book .ensures .1,
-    )
+    let answer = told .before .before in
+    called-after (rw (told .reply2 .given .1) at (answer .answer .ensures)) (c .book .ensures)
 
 pub call-spec : {M : Type 1} → statement M
 call-spec =
     tie.close
     (tie.spec
-    (λ c κs. c .before .before .pre .0)
+    (λ c κs. c .before .before .pre)
     (λ c. search needs)
     (λ c. search needs)
     book-requires

@@ -27,7 +27,8 @@ read-holds-spec =
     (tie.spec
     Inv-loop
     μ-loop
-    (λ c. (search needs, (c .before .pre .long, lines-begin _ _ _)))
+    (λ c κs. search needs)
+    (λ c. (search needs, (c .serials-sized .ensures, lines-begin _ _ _)))
     (λ c κs. search needs)
     (λ c. search needs)
     (λ c. search needs)
@@ -48,7 +49,12 @@ read-holds-spec =
         l .before .loop .inv .1 .1 ∙ lines-turn _ _ _ _ (l .loop-test .taken)
             (told (holdOf _) (c .before .before .before .read-hold .ensures) (c .before .h .given .1)) _
             ∙ take-next (l .before .loop .serials) (l .before .loop .k) _ _
-            (omega (arith, l .before .loop .inv .1 .0, l .loop-test .taken, l .before .before .before .pre .few)),
+            (omega (
+              arith,
+              l .before .loop .inv .1 .0,
+              l .loop-test .taken,
+              l .before .before .before .before .before .pre .few,
+            )),
       ),
     ))
     (λ c. (

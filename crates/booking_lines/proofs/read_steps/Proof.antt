@@ -20,15 +20,14 @@ read-steps-spec =
     (tie.spec
     Inv-loop
     μ-loop
-    (λ c. first-reading _ _ _ (c .before .pre .long))
+    (λ c κs. search needs)
+    (λ c. first-reading _ _ _ (c .rows-sized .ensures))
     (λ c κs. search needs)
     (λ c. search needs)
     (λ c. search needs)
-    (λ c. let l = c .before .before .before in (
-      no-step (l .before .loop .inv) (l .loop-test .taken)
-          (told (stepLineOf _) (c .before .before .read-step .ensures) (c .enum-told .given .1)),
-      l .before .loop .inv .long,
-    ))
+    (λ c. let l = c .before .before .before in
+    no-step (l .before .loop .inv) (l .loop-test .taken)
+    (told (stepLineOf _) (c .before .before .read-step .ensures) (c .enum-told .given .1)))
     (λ c κs. search needs)
     (λ c. search needs)
     (λ c κs. search needs)
@@ -36,16 +35,11 @@ read-steps-spec =
     (λ c. search needs)
     (λ c. let d = c .before .before .before .before in
     let l = d .before .before .before in
-    next-reading (l .before .loop .inv) _ _ _ _ (l .loop-test .taken) (l .before .before .before .pre .few)
+    next-reading (l .before .loop .inv) _ _ _ _ (l .loop-test .taken)
+    (l .before .before .before .before .before .pre .few)
     (told (stepLineOf _) (d .before .before .read-step .ensures) (d .line .given .1)) (c .put-step .ensures)
     (c .before .before .turns .ensures .0) (c .before .before .turns .ensures .1)
     (search needs))
     (λ c. search needs)
-    (λ c. (
-      more-bytes (c .before .before .loop .inv) (c .before .loop-test .left) (c .if1 .taken),
-      c .before .before .loop .inv .long,
-    ))
-    (λ c. (
-      all-lines-read (c .before .before .loop .inv) (c .before .loop-test .left) (c .if1 .left),
-      c .before .before .loop .inv .long,
-    )))
+    (λ c. more-bytes (c .before .before .loop .inv) (c .before .loop-test .left) (c .if1 .taken))
+    (λ c. all-lines-read (c .before .before .loop .inv) (c .before .loop-test .left) (c .if1 .left)))

@@ -9,7 +9,7 @@ use Rattle.logic.specs.Formula.{plain}
 use Rattle.logic.specs.Counts.{all}
 use Rattle.ledger.specs.Table.{form}
 use Rattle.ledger.specs.Ledger.{formula}
-use Rattle.ledger.proofs.Tables.{There}
+use Rattle.ledger.specs.Bounds.{There}
 use Rattle.store.specs.Store.{lineOf, ledgerOf}
 use Rattle.parts.specs.Parts.{among, plains}
 use Rattle.facts.proofs.Named.{other-letter, parts-there, parts-plain}

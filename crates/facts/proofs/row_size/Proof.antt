@@ -5,7 +5,7 @@ use native.Mathlib.Omega.{arith}
 use borrow.Author.Needs.{needs}
 use denote.Ref.{now}
 use Rattle.logic.specs.Multiset.{sum}
-use Rattle.ledger.proofs.Tables.{There}
+use Rattle.ledger.specs.Bounds.{There}
 use Rattle.store.specs.Store.{ledgerOf}
 use Rattle.facts.proofs.Named.{parts-there, parts-size}
 use Rattle.facts.proofs.row_size.Statement.{statement}

@@ -11,7 +11,7 @@ returns : tie.Need-returns
 returns c =
     let said = c .before .before in
     let test = said .before .before .before .before in
-    (said-whole _ (test .if1 .taken) (said .answer .ensures .0), said .answer .ensures .1)
+    said-whole _ (test .if1 .taken) (said .answer .ensures)
 
 slice-aggregate-answer : tie.Need-slice-aggregate-answer
 slice-aggregate-answer c =
@@ -22,7 +22,7 @@ returns-2 : tie.Need-returns-2
 returns-2 c =
     let said = c .before .before in
     let kept = said .before .before .before .before .before .before .before in
-    (said-kept (kept .keep .ensures) (said .answer2 .ensures .0), said .answer2 .ensures .1)
+    said-kept (kept .keep .ensures) (said .answer2 .ensures)
 
 pub answer-ended-spec : {M : Type 1} → statement M
 answer-ended-spec =

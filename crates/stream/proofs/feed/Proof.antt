@@ -6,7 +6,6 @@ use denote.Ref.{now}
 use lib.ListN.{length, take}
 use lib.Seq.{length-take-le}
 use borrow.Author.Needs.{needs}
-use Rattle.judging.specs.Booking.{Lent}
 use Rattle.stream.specs.Stream.{Took}
 use Rattle.stream.proofs.Pieces.{ready-for, took-none, took-next, took-all, length-rest}
 use Rattle.stream.proofs.feed.Statement.{statement}
@@ -15,7 +14,7 @@ use Rattle.stream.proofs.feed.Tie as tie
 abbrev Inv-loop : tie.InvT-loop
 Inv-loop till₀ rows₀ begun₀ text₀ piece p₀ i₀ till rows begun text p i =
     (i ≤ length piece) × ((length begun ≡ length begun₀) × ((length text ≡ length text₀)
-    × (Took till₀ begun₀ text₀ p₀ (take i piece) till begun text p × Lent rows)))
+    × Took till₀ begun₀ text₀ p₀ (take i piece) till begun text p))
 
 abbrev μ-loop : tie.MeasureT-loop
 μ-loop till₀ rows₀ begun₀ text₀ piece p₀ i₀ till rows begun text p i = length piece - i
@@ -28,11 +27,8 @@ take-sheet-requires c κs =
     let x = now (start .args .piece) in
     let n = length-take-le (test .before .loop .i) x (inv .0) in
     let r = length-rest x (test .before .loop .i) in (
-      (
-        ready-for 0 _ (inv .1 .1 .1 .0 .ready)
-            (omega (arith, inv .1 .1 .0, inv .1 .1 .1 .0 .short, test .loop-test .taken, start .pre .0 .text)),
-        inv .1 .1 .1 .1,
-      ),
+      ready-for 0 _ (inv .1 .1 .1 .ready)
+          (omega (arith, inv .1 .1 .0, inv .1 .1 .1 .short, test .loop-test .taken, start .pre .text)),
       omega (arith, test .loop-test .taken),
     )
 
@@ -43,7 +39,7 @@ inside : (c : tie.After-take-sheet Inv-loop μ-loop) →
 inside c =
     let loop = c .before .before .before .before .before .before .before in
     let r = length-rest (now (loop .before .before .before .before .args .piece)) (loop .loop .i) in
-    omega (arith, c .take-sheet .ensures .0 .inside)
+    omega (arith, c .take-sheet .ensures .inside)
 
 add-i : tie.Need-add-i Inv-loop μ-loop
 add-i c =
@@ -57,7 +53,7 @@ loop-less : tie.Need-loop-less Inv-loop μ-loop
 loop-less c =
     let took = c .before .before .before .before .before .before in
     let test = took .before .before .before .before .before .before in
-    omega (arith, test .loop-test .taken, inside took, took .take-sheet .ensures .0 .some)
+    omega (arith, test .loop-test .taken, inside took, took .take-sheet .ensures .some)
 
 loop-again : tie.Need-loop-again Inv-loop μ-loop
 loop-again c =
@@ -69,7 +65,7 @@ loop-again c =
         took .take-sheet .kept .1 .1 .0 ∙ inv .1 .0,
         (
           took .take-sheet .kept .1 .1 .1 .0 ∙ inv .1 .1 .0,
-          (took-next _ _ (inv .1 .1 .1 .0) (took .take-sheet .ensures .0), took .take-sheet .ensures .1),
+          took-next _ _ (inv .1 .1 .1) (took .take-sheet .ensures),
         ),
       ),
     )
@@ -80,7 +76,7 @@ feed-spec =
     (tie.spec
     Inv-loop
     μ-loop
-    (λ c. let pre = c .before .before .before .pre in (omega arith, (refl, (refl, (took-none (pre .0), pre .1)))))
+    (λ c. (omega arith, (refl, (refl, took-none (c .before .before .before .pre)))))
     (λ c. search needs)
     (λ c. search needs)
     (λ c. search needs)
@@ -90,5 +86,4 @@ feed-spec =
     loop-again
     (λ c. c .before .loop .inv .1 .0)
     (λ c. c .before .loop .inv .1 .1 .0)
-    (λ c. let inv = c .before .loop .inv in
-    (took-all _ _ (c .loop-test .left) (inv .1 .1 .1 .0), inv .1 .1 .1 .1)))
+    (λ c. took-all _ _ (c .loop-test .left) (c .before .loop .inv .1 .1 .1)))

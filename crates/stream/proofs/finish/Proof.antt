@@ -12,19 +12,19 @@ slice-aggregate-answer : tie.Need-slice-aggregate-answer
 slice-aggregate-answer c =
     let start = c .before .before .before .before .before .before in
     sym (length-take-le (start .args .place .held) (now (start .args .begun))
-    (omega (arith, start .pre .0 .begun, start .pre .0 .held)))
+    (omega (arith, start .pre .begun, start .pre .held)))
 
 returns-2 : tie.Need-returns-2
 returns-2 c =
     let said = c .before .before in
     let test = said .before .before .before .before .before in
-    ended-one (test .before .before .before .pre .0) (test .if1 .left) (said .answer .ensures .0)
+    ended-one (test .before .before .before .pre) (test .if1 .left) (said .answer .ensures)
 
 pub finish-spec : {M : Type 1} → statement M
 finish-spec =
     tie.close
     (tie.spec
-    (λ c. ended-none (c .before .before .before .pre .0) (c .if1 .taken))
+    (λ c. ended-none (c .before .before .before .pre) (c .if1 .taken))
     slice-aggregate-answer
     (λ c κs. search needs)
     (λ c. search needs)

@@ -25,7 +25,7 @@ slice-aggregate-answer-ended c =
 answer-ended-requires : tie.Need-answer-ended-requires
 answer-ended-requires c κs =
     let start = c .before .before .before .before .before .before .before .before .before .before .before .before in
-    (ready-for _ 1 (start .pre .0 .0) (omega (arith, start .pre .0 .0 .text, start .pre .1)), start .pre .0 .1)
+    ready-for _ 1 (start .pre .0) (omega (arith, start .pre .0 .text, start .pre .1))
 
 add-bytes : tie.Need-add-t22
 add-bytes c =
@@ -37,20 +37,16 @@ returns c =
     let said = c .before .before .before .before in
     let end = said .before .before .before .before .before .before .before in
     let pre = end .before .before .before .before .before .before .pre in
-    let long = said .answer-ended .kept .1 .1 .0 ∙ pre .0 .0 .begun in (
-      took-ended _ (pre .0 .0) (pre .1) long (ends end) (said .answer-ended .ensures .0),
-      said .answer-ended .ensures .1,
-    )
+    let long = said .answer-ended .kept .1 .1 .0 ∙ pre .0 .begun in
+    took-ended _ (pre .0) (pre .1) long (ends end) (said .answer-ended .ensures)
 
 returns-2 : tie.Need-returns-2
 returns-2 c =
     let kept = c .before .before in
     let end = kept .before .before .before in
-    let pre = end .before .before .before .before .before .before .pre in (
-      took-open _ (pre .0 .0) (pre .1) (rw (end .end2 .given .1) at (end .before .before .sheet-end .ensures))
-          (kept .keep .ensures),
-      pre .0 .1,
-    )
+    let pre = end .before .before .before .before .before .before .pre in
+    took-open _ (pre .0) (pre .1) (rw (end .end2 .given .1) at (end .before .before .sheet-end .ensures))
+    (kept .keep .ensures)
 
 pub take-sheet-spec : {M : Type 1} → statement M
 take-sheet-spec =

@@ -1,38 +1,46 @@
 -- `next_piece` meets its contract.
-use mathlib.Core.Path.{sym, _∙_}
+use mathlib.Core.Path.{sym}
+use Prim.Native.Nat.{_≤_}
 use native.Mathlib.Omega.{arith}
+use lib.ListN.{length}
 use lib.Seq.{length-take-le}
 use borrow.Author.Needs.{needs}
 use Rattle.stream.proofs.Pieces.{ready-for}
-use Rattle.tillrun.proofs.Turns.{turned, turned-none}
+use Rattle.tillrun.proofs.Turns.{turned}
 use Rattle.tillrun.proofs.next_piece.Statement.{statement}
 use Rattle.tillrun.proofs.next_piece.Tie as tie
 
-returns : tie.Need-returns
-returns c =
-    let read = c .before .before .before .before .before in
-    let start = read .before .before .before .before .before in
-    (turned-none (start .pre .0), (start .pre .1 .0, read .read .kept .1 .0 ∙ start .pre .1 .1))
+-- the bytes that the read gave stand in the piece
+inside : (c : tie.After-got) → c .got .result ≤ length (c .before .before .before .receive .last .1 .0)
+inside c = omega (arith, c .got .ensures, c .before .before .before .receive .ensures .few)
+
+slice-aggregate-feed : tie.Need-slice-aggregate-feed
+slice-aggregate-feed c =
+    let got = c .before .before .before .before .before in
+    sym (length-take-le (got .got .result) (got .before .before .before .receive .last .1 .0) (inside got))
 
 feed-requires : tie.Need-feed-requires
 feed-requires c κs =
-    let read = c .before .before .before .before .before .before .before .before .before .before in
-    let start = read .before .before .before .before .before in
-    (ready-for 16384 _ (start .pre .0) (search needs), start .pre .1 .0)
+    let got = c .before .before .before .before .before in
+    let receive = got .before .before .before in
+    let start = receive .before .before .before .before .before in
+    ready-for _ _ (start .pre)
+    (omega (
+      arith,
+      start .pre .text,
+      inside got,
+      receive .receive .kept .1 .0,
+      length-take-le (got .got .result) (receive .receive .last .1 .0) (inside got),
+    ))
 
-slice-aggregate-write-all : tie.Need-slice-aggregate-write-all
-slice-aggregate-write-all c =
-    let fed = c .before .before .before .before .before .feed in
-    sym (length-take-le (fed .result .text) (fed .last .1 .1 .1 .0) (omega (arith, fed .ensures .0 .ready .text)))
-
-returns-2 : tie.Need-returns-2
-returns-2 c =
+returns : tie.Need-returns
+returns c =
     let fed = c .before .before .before .before .before .before in
-    let read = fed .before .before .before .before .before .before .before .before .before .before .before in
-    let start = read .before .before .before .before .before in (
-      turned _ 16384 (omega (arith, fed .feed .kept .1 .1 .1 .0, start .pre .0 .text)) (fed .feed .ensures .0),
-      (fed .feed .ensures .1, read .read .kept .1 .0 ∙ start .pre .1 .1),
-    )
+    let got = fed .before .before .before .before .before .before in
+    let receive = got .before .before .before in
+    let start = receive .before .before .before .before .before in
+    turned (omega (arith, fed .feed .kept .1 .1 .1 .0, receive .receive .kept .1 .0, start .pre .text))
+    (fed .feed .ensures) (got .got .ensures) (receive .receive .ensures) (c .send .ensures .0) (c .send .ensures .1)
 
 pub next-piece-spec : {M : Type 1} → statement M
 next-piece-spec =
@@ -41,14 +49,10 @@ next-piece-spec =
     (λ c κs. search needs)
     (λ c κs. search needs)
     (λ c. search needs)
-    returns
-    (λ c. search needs)
-    (λ c. search needs)
+    slice-aggregate-feed
     feed-requires
-    (λ c. search needs)
-    slice-aggregate-write-all
     (λ c κs. search needs)
     (λ c. search needs)
     (λ c. search needs)
     (λ c. search needs)
-    returns-2)
+    returns)

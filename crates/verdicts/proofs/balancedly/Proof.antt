@@ -1,6 +1,6 @@
 -- `balancedly` meets its contract.
-use mathlib.Core.Path.{_∙_}
 use borrow.Author.Needs.{needs}
+use Rattle.verdicts.proofs.Laws.{reworded}
 use Rattle.verdicts.proofs.balancedly.Statement.{statement}
 use Rattle.verdicts.proofs.balancedly.Tie as tie
 
@@ -10,4 +10,4 @@ balancedly-spec =
     (tie.spec
     (λ c κs. search needs)
     (λ c κs. search needs)
-    (λ c. c .tested .ensures ∙ simp (c .before .balanced-at .ensures)))
+    (λ c. reworded (c .tested .ensures 21) (simp (c .before .balanced-at .ensures))))

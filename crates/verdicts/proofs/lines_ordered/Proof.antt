@@ -6,7 +6,7 @@ use Rattle.verdicts.proofs.lines_ordered.Tie as tie
 
 returns : tie.Need-returns
 unfolding reversed
-returns c = c .tested .ensures
+returns c = c .tested .ensures 3
 
 pub lines-ordered-spec : {M : Type 1} → statement M
 lines-ordered-spec = tie.close (tie.spec (λ c κs. search needs) returns)

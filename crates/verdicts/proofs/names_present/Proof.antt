@@ -2,7 +2,7 @@
 use mathlib.Core.Path.{ap, _∙_}
 use mathlib.Core.Bool.{not}
 use borrow.Author.Needs.{needs}
-use Rattle.verdicts.proofs.Laws.{not-not}
+use Rattle.verdicts.proofs.Laws.{reworded, not-not}
 use Rattle.verdicts.proofs.names_present.Statement.{statement}
 use Rattle.verdicts.proofs.names_present.Tie as tie
 
@@ -12,4 +12,4 @@ names-present-spec =
     (tie.spec
     (λ c κs. search needs)
     (λ c κs. search needs)
-    (λ c. c .tested .ensures ∙ ap not (c .before .names-there .ensures) ∙ not-not _))
+    (λ c. reworded (c .tested .ensures 10) (ap not (c .before .names-there .ensures) ∙ not-not _)))

@@ -5,4 +5,4 @@ use Rattle.verdicts.proofs.ordered.Tie as tie
 
 pub ordered-spec : {M : Type 1} → statement M
 unfolding reversed
-ordered-spec = tie.close (tie.spec (λ c κs. tt) (λ c. c .tested .ensures))
+ordered-spec = tie.close (tie.spec (λ c κs. tt) (λ c. c .tested .ensures 3))

@@ -1,6 +1,6 @@
 -- `plainly` meets its contract.
-use mathlib.Core.Path.{_∙_}
 use borrow.Author.Needs.{needs}
+use Rattle.verdicts.proofs.Laws.{reworded}
 use Rattle.verdicts.proofs.plainly.Statement.{statement}
 use Rattle.verdicts.proofs.plainly.Tie as tie
 
@@ -10,4 +10,4 @@ plainly-spec =
     (tie.spec
     (λ c κs. search needs)
     (λ c κs. search needs)
-    (λ c. c .tested .ensures ∙ simp (c .before .plain-at .ensures)))
+    (λ c. reworded (c .tested .ensures 20) (simp (c .before .plain-at .ensures))))

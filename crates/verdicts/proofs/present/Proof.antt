@@ -1,6 +1,6 @@
 -- `present` meets its contract.
-use mathlib.Core.Path.{_∙_}
 use borrow.Author.Needs.{needs}
+use Rattle.verdicts.proofs.Laws.{reworded}
 use Rattle.verdicts.proofs.present.Statement.{statement}
 use Rattle.verdicts.proofs.present.Tie as tie
 
@@ -10,4 +10,4 @@ present-spec =
     (tie.spec
     (λ c κs. search needs)
     (λ c κs. search needs)
-    (λ c. c .tested .ensures ∙ simp (c .before .formula-count .ensures)))
+    (λ c. reworded (c .tested .ensures 10) (simp (c .before .formula-count .ensures))))

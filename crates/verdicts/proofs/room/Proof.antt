@@ -1,6 +1,5 @@
 -- `room` meets its contract.
-use mathlib.Core.Path.{_∙_}
-use Rattle.verdicts.proofs.Laws.{room-free}
+use Rattle.verdicts.proofs.Laws.{reworded, room-free}
 use borrow.Author.Needs.{needs}
 use Rattle.verdicts.proofs.room.Statement.{statement}
 use Rattle.verdicts.proofs.room.Tie as tie
@@ -13,4 +12,4 @@ room-spec =
     (λ c. room-free (c .before .live-count .ensures) (c .if1 .taken))
     (λ c. search needs)
     (λ c κs. search needs)
-    (λ c. c .tested .ensures ∙ simp (c .before .before .live-count .ensures)))
+    (λ c. reworded (c .tested .ensures 22) (simp (c .before .before .live-count .ensures))))

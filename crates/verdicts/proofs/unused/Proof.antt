@@ -1,6 +1,6 @@
 -- `unused` meets its contract.
-use mathlib.Core.Path.{_∙_}
 use borrow.Author.Needs.{needs}
+use Rattle.verdicts.proofs.Laws.{reworded}
 use Rattle.verdicts.proofs.unused.Statement.{statement}
 use Rattle.verdicts.proofs.unused.Tie as tie
 
@@ -10,4 +10,4 @@ unused-spec =
     (tie.spec
     (λ c κs. search needs)
     (λ c κs. search needs)
-    (λ c. c .tested .ensures ∙ simp (c .before .next-serial .ensures)))
+    (λ c. reworded (c .tested .ensures 23) (simp (c .before .next-serial .ensures))))

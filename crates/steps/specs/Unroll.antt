@@ -1,0 +1,60 @@
+-- The formula that a number stands for, by the rows of a table; hypotheses, goals and sequents by their formulas.
+use mathlib.Core.Path.{_≡_}
+use Prim.Native.Nat.{ℕ}
+use Prim.Native.Char.{code}
+use lib.Dec.{eqb}
+use Rattle.logic.specs.Choice.{pick}
+use Rattle.logic.specs.Interval.{span}
+use Rattle.logic.specs.Formula.{Formula, atom, one, tensor, with, plus, lolli, implies, bang, at, says, superset}
+use Rattle.logic.specs.Derives.{Hyp, _⟦_⟧, Judgment, holds, affirms}
+use Rattle.steps.specs.declared.Row.{Row}
+use Rattle.steps.specs.declared.Hypothesis.{Hypothesis}
+use Rattle.steps.specs.declared.Goal.{Goal}
+use Rattle.steps.specs.declared.Goal.the-variants.{Holds, Affirms}
+use Rattle.steps.specs.declared.Sequent.{Sequent}
+use Rattle.steps.specs.Spells.{Labelled}
+
+-- the letter of a formula's line
+abbrev pub letter : Formula → ℕ
+letter (atom p s) = code "a"
+letter one = code "o"
+letter (tensor a b) = code "t"
+letter (with a b) = code "w"
+letter (plus a b) = code "p"
+letter (lolli a b) = code "l"
+letter (implies a b) = code "u"
+letter (bang a) = code "b"
+letter (at a i) = code "h"
+letter (says k a) = code "s"
+letter (superset i j) = code "g"
+
+-- the formula of a row with the letter c, from those of its parts; 1 where it is no other
+abbrev pub made : (ℕ → Formula) → ℕ → Row → Formula
+made f c x =
+    pick (eqb c (code "a")) (atom (x .a) (x .b))
+    (pick (eqb c (code "t")) (tensor (f (x .a)) (f (x .b)))
+    (pick (eqb c (code "w")) (with (f (x .a)) (f (x .b)))
+    (pick (eqb c (code "p")) (plus (f (x .a)) (f (x .b)))
+    (pick (eqb c (code "l")) (lolli (f (x .a)) (f (x .b)))
+    (pick (eqb c (code "u")) (implies (f (x .a)) (f (x .b)))
+    (pick (eqb c (code "b")) (bang (f (x .a)))
+    (pick (eqb c (code "h")) (at (f (x .a)) (span (x .b) (x .c)))
+    (pick (eqb c (code "s")) (says (x .a) (f (x .b)))
+    (pick (eqb c (code "g")) (superset (span (x .a) (x .b)) (span (x .c) (x .d)))
+    one)))))))))
+
+-- f unrolls the rows: every number's letter and parts are its row's
+pub record Unrolls (row : ℕ → Row) (f : ℕ → Formula) : Type 0 where
+  pub letters : (i : ℕ) → letter (f i) ≡ row i .letter
+  pub formed : (i : ℕ) → f i ≡ made f (row i .letter) (row i)
+
+module _ {row : ℕ → Row} {f : ℕ → Formula} (u : Unrolls row f) where
+  abbrev pub hypOf : Hypothesis → Hyp
+  hypOf h = f (h .formula) ⟦ h .interval ⟧
+
+  abbrev pub goalOf : Goal → Judgment
+  goalOf (Holds n i) = holds (f n) i
+  goalOf (Affirms n i k) = affirms k (f n) i
+
+  abbrev pub sequentOf : Sequent → Labelled
+  sequentOf q = record { unrestricted = q .unrestricted; linear = q .linear; goal = goalOf (q .goal) }
