@@ -8,7 +8,8 @@ A slip is a file crates/NAME/slips/LABEL.edit:
     old: text that stands in the file just once, in one line
     new: what takes its place
 
-The functions are named as a check prints them, without the crate: `book_steps`, `formulas::interval`.
+The functions are named as a check prints them, without the crate: `book_steps`, `formulas::interval`. A slip of a
+definition that only laws for other crates rest on names such a law: `Rows.stays-credential`, of proofs/Rows.antt.
 """
 import glob
 import os
@@ -34,10 +35,10 @@ def crates():
 
 
 class Function:
-    """A function of a crate: its name, its file, and the lines where it starts, where its body does, and where it ends."""
+    """A function of a crate: its name, its file, the lines where its body begins and ends, and the body's text."""
 
-    def __init__(self, name, file, start, body, end, text):
-        self.name, self.file, self.start, self.body, self.end, self.text = name, file, start, body, end, text
+    def __init__(self, name, file, body, end, text):
+        self.name, self.file, self.body, self.end, self.text = name, file, body, end, text
 
 
 class Crate:
@@ -68,13 +69,14 @@ class Crate:
                 end = body if lines[body].endswith("{}") else lines.index("}", body)
                 text = re.sub(r"//.*", "", "\n".join(lines[body + 1 : end + 1]))
                 name = module + found[1]
-                self.functions[name] = Function(name, file, i, body, end, text)
+                self.functions[name] = Function(name, file, body, end, text)
                 i = end
             i += 1
 
     def reach(self):
         """For each function those of the crate that it calls, itself or through others."""
-        others = set(crates()) - {self.name}
+        modules = {part for name in self.functions for part in name.split("::")[:-1]}
+        others = set(crates()) - {self.name} - modules
         last = {}
         for name in self.functions:
             last.setdefault(name.split("::")[-1], set()).add(name)
@@ -91,12 +93,20 @@ class Crate:
                     reached[name], grown = more, True
         return reached
 
+    def has(self, name):
+        """Whether it has this function, or this law, FILE.LAW of its proofs."""
+        file, law = name.partition(".")[::2]
+        path = f"{self.folder}/proofs/{file}.antt"
+        if law and os.path.isfile(path):
+            return re.search(rf"^ *(?:pub )?(?:abbrev )?{re.escape(law)} :", read(path), re.M) is not None
+        return name in self.functions
+
     def slips(self):
         return [Slip(self, path) for path in sorted(glob.glob(f"{self.folder}/slips/*.edit"))]
 
 
 def replaced(text, pairs):
-    """The texts of files after the pairs, one after another, each old text standing just once; `text` gives a file's text."""
+    """The texts of files after the pairs, one after another, each old text standing just once; text(FILE): before."""
     after = {}
     for file, old, new in pairs:
         before = after[file] if file in after else text(file)
@@ -111,7 +121,7 @@ class Slip:
         self.crate, self.label = crate, os.path.basename(path)[: -len(".edit")]
         self.says, self.refused, self.pairs, self.body = "", [], [], []
         file = old = ""
-        for i, line in enumerate(read(path).splitlines()):
+        for line in read(path).splitlines():
             if line.startswith("# refused:"):
                 self.refused = line[len("# refused:") :].split()
             elif line.startswith("#"):
@@ -132,7 +142,7 @@ class Slip:
         return Bad(f"crates/{self.crate.name}/slips/{self.label}.edit: {why}")
 
     def look(self):
-        """The lines that it changes, the functions whose bodies they are in, and whether it has to be tried by itself."""
+        """The lines that it changes, the functions whose bodies they are in, whether it has to be tried by itself."""
         if not self.says or not self.pairs:
             raise self.fault("its first line says what is wrong, and a pair 'old:' and 'new:' follows")
         if self.label.startswith("together_"):
@@ -154,8 +164,8 @@ class Slip:
         return changes, touched, alone
 
     def check_refused(self):
-        """Its '# refused:' line names functions of the crate; for a slip of bodies alone, those whose bodies it changes."""
-        unknown = [name for name in self.refused if name not in self.crate.functions]
+        """Its '# refused:' line names functions, or laws, of the crate; for a slip of bodies those that it changes."""
+        unknown = [name for name in self.refused if not self.crate.has(name)]
         if unknown or not self.refused:
             raise self.fault("'# refused:' names no function of the crate: " + " ".join(unknown))
         if not self.alone and set(self.refused) != self.touched:
@@ -241,6 +251,9 @@ class Log:
 
     def definition_fault(self, function):
         """Why the slip of a definition is not refused by a proof, with this function not proved; None where it is."""
+        if "." in function:
+            own = [said for file, law, said in self.errors if f"{file}.{law}" == function]
+            return None if any(not self.FOLLOWS.match(said) for said in own) else f"{function}: no error of its own"
         state, _ = self.states.get(function, ("not in the log", ""))
         if state not in ("not proved", "no proof"):
             return f"{function} is {state}"
