@@ -14,7 +14,8 @@ ghost use Rattle.request.specs.Read.{holdLine, stepLine};
 ghost use Rattle.logic.specs.Choice.{pick};
 ghost use Rattle.tables.specs.Held.{maxHolds};
 ghost use Rattle.tables.specs.Lines.{maxSteps, stepCells};
-ghost use Rattle.booking_lines.specs.Booking.{LinesAsked, readLines, holdsOf, turned, allLines, StepsIs, BookingLines};
+ghost use Rattle.booking_lines.specs.Booking.{LinesAsked, readLines, holdsOf, turned, allLines, StepsIs};
+ghost use Rattle.booking_lines.specs.Booking.{BookingLines};
 
 // The hold lines of a booking were read, and the position after them.
 pub enum HoldsRead {

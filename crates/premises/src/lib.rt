@@ -17,7 +17,8 @@ pub enum Begun {
     Begins(Sequent, u32),
 }
 
-// The goal is made anew, case by case: copied whole, its bytes would be read back in other parts than they were written.
+// The goal is made anew, case by case: copied whole, its bytes would be read back in other parts than they were
+// written.
 fn sequent(r: u64, d: u64, g: Goal) -> Sequent
     ensures { λ q. ⌜ q ≡ sequentOf r d g ⌝ }
 {

@@ -50,7 +50,12 @@ read-holds-spec =
         l .before .loop .inv .1 .1 ∙ lines-turn _ _ _ _ (l .loop-test .taken)
             (told (holdOf _) (c .before .before .before .read-hold .ensures) (c .before .h .given .1)) _
             ∙ take-next (l .before .loop .serials) (l .before .loop .k) _ _
-            (omega (arith, l .before .loop .inv .1 .0, l .loop-test .taken, l .before .before .before .before .before .pre .few)),
+            (omega (
+              arith,
+              l .before .loop .inv .1 .0,
+              l .loop-test .taken,
+              l .before .before .before .before .before .pre .few,
+            )),
       ),
     ))
     (λ c. (
