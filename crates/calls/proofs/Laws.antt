@@ -45,7 +45,8 @@ refused l r g f =
 
 -- no check fails, and the ledger is the accepted request's
 pub accepted : (l l′ : List ℕ) (r : Request) (a : Answer) → Pass (readChecks (ledgerOf l) (some r))
-    → a ≡ accept (ledgerOf l) r .answer → IsAccepted (told a) → StandsFor l′ (accept (ledgerOf l) r .ledger) → Handled l r a l′
+    → a ≡ accept (ledgerOf l) r .answer → IsAccepted (told a) → StandsFor l′ (accept (ledgerOf l) r .ledger)
+    → Handled l r a l′
 accepted l l′ r a p q d s =
     let e = handle-passes (ledgerOf l) r p in
     record {

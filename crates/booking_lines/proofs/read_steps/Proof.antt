@@ -35,7 +35,8 @@ read-steps-spec =
     (λ c. search needs)
     (λ c. let d = c .before .before .before .before in
     let l = d .before .before .before in
-    next-reading (l .before .loop .inv) _ _ _ _ (l .loop-test .taken) (l .before .before .before .before .before .pre .few)
+    next-reading (l .before .loop .inv) _ _ _ _ (l .loop-test .taken)
+    (l .before .before .before .before .before .pre .few)
     (told (stepLineOf _) (d .before .before .read-step .ensures) (d .line .given .1)) (c .put-step .ensures)
     (c .before .before .turns .ensures .0) (c .before .before .turns .ensures .1)
     (search needs))
