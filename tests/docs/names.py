@@ -1,16 +1,16 @@
 #!/usr/bin/env python3
-"""Every file of a crate and every must-fail edit that the documents name is there. Run from the repository's root.
+"""Every file of a crate and every slip that the documents name is there. Run from the repository's root.
 
-A path is in back quotes and begins with a crate: `ledger/specs/Checks`, `calls/src/lib.rt`. Edits stand in back quotes
-before their crate: `keeps_holds`, `one_serial` (settling).
+A path is in back quotes and begins with a crate: `ledger/specs/Checks`, `calls/src/lib.rt`. Slips stand in back quotes
+before their crate, or crates: `keeps_holds`, `one_serial` (settling), `tally_invented` (calls, tally).
 """
 import glob
 import os
 import re
 import sys
 
-PATH = re.compile(r"`((?:crates/)?[a-z_]+/(?:specs|proofs|src|must-fail)(?:/[A-Za-z0-9_+./]+)?)`")
-EDITS = re.compile(r"((?:`[a-z0-9_]+`(?:, | and )?)+) \(([a-z_]+)\)")
+PATH = re.compile(r"`((?:crates/)?[a-z_]+/(?:specs|proofs|src|slips|must-fail)(?:/[A-Za-z0-9_+./]+)?)`")
+SLIPS = re.compile(r"((?:`[a-z0-9_]+`(?:, | and )?)+) \(([a-z_]+(?:, [a-z_]+)*)\)")
 
 
 def missing_paths(text, crates):
@@ -18,15 +18,16 @@ def missing_paths(text, crates):
         path = path.removeprefix("crates/")
         if path.split("/")[0] in crates and not any(os.path.exists(f"crates/{path}{end}") for end in ("", ".antt")):
             yield f"no file {path}"
-        elif path.split("/")[0] not in crates | {"target"}:
+        elif path.split("/")[0] not in crates | {"target", "tests"}:
             yield f"no crate for {path}"
 
 
-def missing_edits(text, crates):
-    for labels, crate in EDITS.findall(text):
-        for label in re.findall(r"`([a-z0-9_]+)`", labels) if crate in crates else []:
-            if not os.path.exists(f"crates/{crate}/must-fail/{label}.edit"):
-                yield f"no edit {label} in {crate}"
+def missing_slips(text, crates):
+    for labels, named in SLIPS.findall(text):
+        for crate in named.split(", ") if crates.issuperset(named.split(", ")) else []:
+            for label in re.findall(r"`([a-z0-9_]+)`", labels):
+                if not os.path.exists(f"crates/{crate}/slips/{label}.edit"):
+                    yield f"no slip {label} in {crate}"
 
 
 def main():
@@ -35,8 +36,8 @@ def main():
     for name in sorted(glob.glob("docs/*.md")) + ["README.md"]:
         with open(name, encoding="utf-8") as document:
             text = document.read()
-        seen += len(PATH.findall(text)) + len(EDITS.findall(text))
-        for fault in [*missing_paths(text, crates), *missing_edits(text, crates)]:
+        seen += len(PATH.findall(text)) + len(SLIPS.findall(text))
+        for fault in [*missing_paths(text, crates), *missing_slips(text, crates)]:
             print(f"{name}: {fault}")
             bad += 1
     sys.exit(1 if bad or seen == 0 else 0)

@@ -8,6 +8,8 @@ use holds::Held;
 use ledger::Answer;
 use reader::Head;
 use store::Store;
+use tables::Serials;
+use tables::StepRows;
 use till::Reply;
 use till::answer;
 use verdicts::Verdict;
@@ -17,12 +19,12 @@ ghost use Rattle.till.specs.Replied.{Called};
 ghost use Rattle.judging.specs.Booking.{bookingAt, ReadLines, Bookable, Opened};
 
 // 24 for all holds, then 31.
-fn book_holds(till: &mut Store, head: Head, serials: &[u32; 32], rows: &[u32; 1536]) -> Answer
+fn book_holds(till: &mut Store, head: Head, serials: &Serials, rows: &StepRows) -> Answer
     requires { ⌜ Bookable (now till) head (now serials) (now rows) ⌝ }
     ensures { λ r. ⌜ Handled (now (till .entry)) (bookingAt head (now (serials .entry)) (now (rows .entry))) r
         (now (till .exit)) ⌝ }
 {
-    let mut table = [0u32; 192];
+    let mut table = [0u32; tables::LABEL_CELLS];
     let held = holds::hold_all(till, serials, head.holds, &mut table);
     let Held::Live(sides) = held else {
         return Answer::Refused(24, 0);
@@ -35,7 +37,7 @@ fn book_holds(till: &mut Store, head: Head, serials: &[u32; 32], rows: &[u32; 15
 }
 
 // 10, 20, 30.
-fn book_read(till: &mut Store, head: Head, serials: &[u32; 32], rows: &[u32; 1536]) -> Answer
+fn book_read(till: &mut Store, head: Head, serials: &Serials, rows: &StepRows) -> Answer
     requires { ⌜ ReadLines (now till) head (now serials) (now rows) ⌝ }
     ensures { λ r. ⌜ Handled (now (till .entry)) (bookingAt head (now (serials .entry)) (now (rows .entry))) r
         (now (till .exit)) ⌝ }
@@ -56,11 +58,11 @@ fn book_read(till: &mut Store, head: Head, serials: &[u32; 32], rows: &[u32; 153
 }
 
 // A booking whose head has been read: the rest of 2, 3, then as above. The rows are lent for its step lines.
-fn book(till: &mut Store, sheet: &[u8], rows: &mut [u32; 1536], head: Head) -> Answer
+fn book(till: &mut Store, sheet: &[u8], rows: &mut StepRows, head: Head) -> Answer
     requires { ⌜ Opened (now till) (now sheet) head ⌝ }
     ensures { λ r. ⌜ Called (now (till .entry)) (now (sheet .entry)) r (now (till .exit)) ⌝ }
 {
-    let mut serials = [0u32; 32];
+    let mut serials = [0u32; tables::SERIALS];
     let held = read_holds(sheet, head.next, head.holds, &mut serials);
     let HoldsRead::Read(end) = held else {
         return Answer::Refused(2, 0);
@@ -82,7 +84,7 @@ fn book(till: &mut Store, sheet: &[u8], rows: &mut [u32; 1536], head: Head) -> A
 }
 
 // The one call: any bytes, of any length. The rows are lent for a booking's step lines; what they hold says nothing.
-pub fn call(till: &mut Store, sheet: &[u8], rows: &mut [u32; 1536]) -> Answer
+pub fn call(till: &mut Store, sheet: &[u8], rows: &mut StepRows) -> Answer
     requires { ⌜ Good (now till) ⌝ }
     ensures { λ r. ⌜ Called (now (till .entry)) (now (sheet .entry)) r (now (till .exit)) ⌝ }
 {

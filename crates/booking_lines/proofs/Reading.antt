@@ -12,7 +12,7 @@ use Rattle.request.specs.Request.{stepsIntervals}
 use Rattle.request.specs.Read.{stepLine}
 use Rattle.ledger.specs.Checks.{any}
 use Rattle.tables.specs.declared.StepRow.{StepRow}
-use Rattle.tables.specs.Lines.{stepOf, putStepRow, stepsFrom}
+use Rattle.tables.specs.Lines.{maxSteps, stepCells, stepOf, putStepRow, stepsFrom}
 use Rattle.tables.proofs.StepRows.{length-put, steps-next}
 use Rattle.logic.specs.Choice.{pick}
 use Rattle.forms.specs.Line.{readLine}
@@ -26,11 +26,11 @@ pub record Reading (s : List ℕ) (count : ℕ) (t : List ℕ) (at k n : ℕ) : 
   pub among : k ≤ count
   pub small : n ≤ k
   pub place : at < 4294967296
-  pub long : length t ≡ 1536
+  pub long : length t ≡ stepCells
   pub turns : any reversed (stepsIntervals (stepsFrom t 0 k)) ≡ ltb 0 n
   pub lines : readLines count stepLine s ≡ prefixed (stepsFrom t 0 k) (readLines (count - k) stepLine (drop at s))
 
-pub first-reading : (s : List ℕ) (count : ℕ) (t : List ℕ) → length t ≡ 1536 → Reading s count t 0 0 0
+pub first-reading : (s : List ℕ) (count : ℕ) (t : List ℕ) → length t ≡ stepCells → Reading s count t 0 0 0
 unfolding stepsFrom stepsIntervals any
 first-reading s count t h = record {
   among = omega arith;
@@ -48,7 +48,7 @@ module _ {s : List ℕ} {count : ℕ} {t : List ℕ} {at k n : ℕ} (h : Reading
   no-step l e = then-no _ (h .lines ∙ lines-broken stepLine count k (drop at s) l e (stepsFrom t 0 k))
 
   -- one more
-  pub next-reading : (r : StepRow) (i m : ℕ) (u : List ℕ) → k < count → count ≤ 256
+  pub next-reading : (r : StepRow) (i m : ℕ) (u : List ℕ) → k < count → count ≤ maxSteps
       → readLine stepLine (drop at s) ≡ some (stepOf r, drop i s) → u ≡ putStepRow t k r
       → m ≡ pick (turned r) 1 0 → m ≤ 1 → i < 4294967296 → Reading s count u i (k + 1) (n + m)
   next-reading r i m u l f e p q b w =

@@ -1,15 +1,19 @@
-// The lines after a booking's head: hold lines, and step lines in rows of six numbers.
+// The lines after a booking's head: hold lines, and step lines in rows.
 use step_lines::HoldLine;
 use step_lines::StepLine;
 use step_lines::hold_lines::read_hold;
 use step_lines::rows::read_step;
+use tables::Serials;
 use tables::StepRow;
+use tables::StepRows;
 use tables::lines::put_step;
 ghost use mathlib.Core.Path.{_≡_};
 ghost use Prim.Native.Nat.{_≤_};
 ghost use lib.ListN.{length, drop};
 ghost use Rattle.request.specs.Read.{holdLine, stepLine};
 ghost use Rattle.logic.specs.Choice.{pick};
+ghost use Rattle.tables.specs.Held.{maxHolds};
+ghost use Rattle.tables.specs.Lines.{maxSteps, stepCells};
 ghost use Rattle.booking_lines.specs.Booking.{LinesAsked, readLines, holdsOf, turned, allLines, StepsIs};
 ghost use Rattle.booking_lines.specs.Booking.{BookingLines};
 
@@ -27,20 +31,20 @@ pub enum StepsRead {
 
 // An array has the length of its type. A proof is told so of an array by value, not of one behind a reference; nothing
 // reads the copy, so that none is made.
-fn serials_sized(serials: [u32; 32])
-    ensures { λ _. ⌜ length serials ≡ 32 ⌝ }
+fn serials_sized(serials: Serials)
+    ensures { λ _. ⌜ length serials ≡ maxHolds ⌝ }
 {}
 
-fn rows_sized(rows: [u32; 1536])
-    ensures { λ _. ⌜ length rows ≡ 1536 ⌝ }
+fn rows_sized(rows: StepRows)
+    ensures { λ _. ⌜ length rows ≡ stepCells ⌝ }
 {}
 
 // `count` hold lines from `at` on, and their serials in order.
-pub fn read_holds(s: &[u8], at: u32, count: u32, serials: &mut [u32; 32]) -> HoldsRead
-    requires { ⌜ LinesAsked (now s) count 32 ⌝ }
+pub fn read_holds(s: &[u8], at: u32, count: u32, serials: &mut Serials) -> HoldsRead
+    requires { ⌜ LinesAsked (now s) count maxHolds ⌝ }
     ensures { λ r. ⌜ holdsOf (now (s .entry)) count (now (serials .exit)) r
         ≡ readLines count holdLine (drop at (now (s .entry))) ⌝ }
-    ensures { λ _. ⌜ length (now (serials .exit)) ≡ 32 ⌝ }
+    ensures { λ _. ⌜ length (now (serials .exit)) ≡ maxHolds ⌝ }
 {
     serials_sized(*serials);
     let mut i = at;
@@ -72,8 +76,8 @@ fn turns(r: StepRow) -> u32
 
 // `count` step lines, to the end of the bytes, which are the part of a request from its first step line on; each in
 // its row.
-pub fn read_steps(s: &[u8], count: u32, rows: &mut [u32; 1536]) -> StepsRead
-    requires { ⌜ LinesAsked (now s) count 256 ⌝ }
+pub fn read_steps(s: &[u8], count: u32, rows: &mut StepRows) -> StepsRead
+    requires { ⌜ LinesAsked (now s) count maxSteps ⌝ }
     ensures { λ r. ⌜ StepsIs (allLines count stepLine (now (s .entry))) count (now (rows .exit)) r ⌝ }
 {
     rows_sized(*rows);

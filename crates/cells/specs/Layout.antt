@@ -2,20 +2,20 @@
 -- so nothing is copied and nothing is allocated. Formula rows and credential rows each have one width, so that one law
 -- is enough for both.
 --
---   0           the count of formula lines
---   1           the count of live credentials
---   2           the next serial
---   3           the count of credential rows in use
---   4 ..        200 rows of 8: a formula line's (document 01: a wording's) letter, a, b, c, d; then its formula's
---               size, whether it is plain and whether it is balanced (1 or 0), kept so that no later request goes
---               through the formula's parts again
---   1604 ..     1,024 rows of 5: a credential's (a coupon's) serial, kind (0 linear: single-use, 1 unrestricted:
---               standing, 2 for one that has left: a gap), formula number (wording), and its interval (window), from
---               and to. Rows stand in the order of their serials, and a row that leaves is only marked, so that no
---               other one moves; there are twice as many rows as may live, and when all are in use the live ones are
---               moved together
---   6724 ..     1,024 hints: at serial mod 1,024 the row where the credential of that serial may stand. A hint is only
---               a guess that the search tests first: nothing is asked of its value
+--   0                  the count of formula lines
+--   1                  the count of live credentials
+--   2                  the next serial
+--   3                  the count of credential rows in use
+--   lineBase ..        200 rows of 8: a formula line's (document 01: a wording's) letter, a, b, c, d; then its
+--                      formula's size, whether it is plain and whether it is balanced (1 or 0), kept so that no
+--                      later request goes through the formula's parts again
+--   credentialBase ..  1,024 rows of 5: a credential's (a coupon's) serial, kind (0 linear: single-use, 1
+--                      unrestricted: standing, 2 for one that has left: a gap), formula number (wording), and its
+--                      interval (window), from and to. Rows stand in the order of their serials, and a row that
+--                      leaves is only marked, so that no other one moves; there are twice as many rows as may live,
+--                      and when all are in use the live ones are moved together
+--   hintBase ..        1,024 hints: at serial mod 1,024 the row where the credential of that serial may stand. A hint
+--                      is only a guess that the search tests first: nothing is asked of its value
 use mathlib.Core.List.{List, [], _∷_}
 use mathlib.Core.Bool.{Bool}
 use mathlib.Core.Option.{Option, none, some}
@@ -31,15 +31,37 @@ use Rattle.request.specs.Request.{Line}
 use Rattle.steps.specs.declared.Row.{Row}
 use Rattle.ledger.specs.declared.Credential.{Credential}
 use Rattle.ledger.specs.Table.{rowOf}
-use Rattle.ledger.specs.Checks.{maxFormulas}
+use Rattle.ledger.specs.Checks.{maxFormulas, maxLive}
 use Rattle.logic.specs.Choice.{pick}
 
-abbrev pub cells : ℕ
-cells = 7748
+-- Where each table starts, and how wide its rows are
 
--- how many credential rows there are
+abbrev pub lineBase : ℕ
+lineBase = 4
+
+abbrev pub lineWidth : ℕ
+lineWidth = 8
+
+abbrev pub credentialBase : ℕ
+credentialBase = lineBase + maxFormulas * lineWidth
+
+abbrev pub credentialWidth : ℕ
+credentialWidth = 5
+
+-- how many credential rows there are: twice as many as may live
 abbrev pub maxRows : ℕ
-maxRows = 1024
+maxRows = 2 * maxLive
+
+abbrev pub hintBase : ℕ
+hintBase = credentialBase + maxRows * credentialWidth
+
+-- how many numbers there are
+abbrev pub cells : ℕ
+cells = hintBase + maxRows
+
+-- the kind of a credential that has left
+abbrev pub gapKind : ℕ
+gapKind = 2
 
 -- A table starts at b and its rows are w numbers wide: cell f of row i, and a row put in its place.
 unfoldable pub cell : List ℕ → ℕ → ℕ → ℕ → ℕ → ℕ
@@ -77,7 +99,7 @@ putRowCount l n = set l 3 n
 -- Formula rows
 
 unfoldable pub lineCell : List ℕ → ℕ → ℕ → ℕ
-lineCell l i f = cell l 4 8 i f
+lineCell l i f = cell l lineBase lineWidth i f
 
 abbrev pub rowFrom : (ℕ → ℕ) → Row
 rowFrom g = record { letter = g 0; a = g 1; b = g 2; c = g 3; d = g 4 }
@@ -101,7 +123,7 @@ lineCells r size plain balanced =
     r .letter ∷ r .a ∷ r .b ∷ r .c ∷ r .d ∷ size ∷ bit plain ∷ bit balanced ∷ []
 
 unfoldable pub putLine : List ℕ → ℕ → Row → ℕ → Bool → Bool → List ℕ
-putLine l i r size plain balanced = putRow l 4 8 i (lineCells r size plain balanced)
+putLine l i r size plain balanced = putRow l lineBase lineWidth i (lineCells r size plain balanced)
 
 -- Credential rows
 
@@ -115,12 +137,19 @@ kindNumber Unrestricted = 1
 abbrev pub credentialFrom : (ℕ → ℕ) → Credential
 credentialFrom g = record { serial = g 0; kind = kindFrom (g 1); formula = g 2; interval = span (g 3) (g 4) }
 
+-- cell f of row i, and its place in the list
+abbrev pub credentialCell : List ℕ → ℕ → ℕ → ℕ
+credentialCell l i = cell l credentialBase credentialWidth i
+
+abbrev pub credentialPlace : ℕ → ℕ → ℕ
+credentialPlace i f = credentialBase + i * credentialWidth + f
+
 unfoldable pub credentialAt : List ℕ → ℕ → Credential
-credentialAt l i = credentialFrom (cell l 1604 5 i)
+credentialAt l i = credentialFrom (credentialCell l i)
 
 -- whether the credential of row i has left
 unfoldable pub gapAt : List ℕ → ℕ → Bool
-gapAt l i = eqb (cell l 1604 5 i 1) 2
+gapAt l i = eqb (credentialCell l i 1) gapKind
 
 -- the credential that stands in row i, if it has not left
 unfoldable pub entryAt : List ℕ → ℕ → Option Credential
@@ -131,17 +160,17 @@ credentialCells c =
     c .serial ∷ kindNumber (c .kind) ∷ c .formula ∷ c .interval .from ∷ c .interval .to ∷ []
 
 unfoldable pub putCredential : List ℕ → ℕ → Credential → List ℕ
-putCredential l i c = putRow l 1604 5 i (credentialCells c)
+putCredential l i c = putRow l credentialBase credentialWidth i (credentialCells c)
 
 -- the credential of row i leaves
 unfoldable pub putGap : List ℕ → ℕ → List ℕ
-putGap l i = set l (1604 + i * 5 + 1) 2
+putGap l i = set l (credentialPlace i 1) gapKind
 
 -- Hints
 
 -- the row where the credential of serial s may stand: a guess, of which nothing is known
 unfoldable pub hintAt : List ℕ → ℕ → ℕ
-hintAt l s = getD l (6724 + s % 1024) 0
+hintAt l s = getD l (hintBase + s % maxRows) 0
 
 unfoldable pub putHint : List ℕ → ℕ → ℕ → List ℕ
-putHint l s i = set l (6724 + s % 1024) i
+putHint l s i = set l (hintBase + s % maxRows) i

@@ -5,14 +5,30 @@ use steps::Row;
 ghost use mathlib.Core.Path.{_≡_};
 ghost use Prim.Native.Nat.{_<_};
 ghost use Rattle.logic.specs.Formula.{bit};
+ghost use Rattle.ledger.specs.Checks.{maxFormulas};
 ghost use Rattle.cells.specs.Layout.{lineCount, liveCount, nextSerial, rowCount};
 ghost use Rattle.cells.specs.Layout.{putLineCount, putLiveCount, putNext, putRowCount};
 ghost use Rattle.cells.specs.Layout.{rowFrom, lineCell, sizeAt, plainAt, balancedAt, putLine};
 
-pub type Store = [u32; 7748];
-
-// where the formula rows start
+// where the formula rows start, and how wide they are
 const LINES: usize = 4;
+
+const LINE_WIDTH: usize = 8;
+
+// where the credential rows start, how wide they are and how many there are: twice as many as may live
+pub const CREDENTIALS: usize = LINES + ledger::MAX_FORMULAS as usize * LINE_WIDTH;
+
+pub const CREDENTIAL_WIDTH: usize = 5;
+
+pub const ROWS: u32 = 2 * ledger::MAX_LIVE;
+
+// where the hints start
+pub const HINTS: usize = CREDENTIALS + ROWS as usize * CREDENTIAL_WIDTH;
+
+// how many numbers there are
+pub const CELLS: usize = HINTS + ROWS as usize;
+
+pub type Store = [u32; CELLS];
 
 pub fn line_count(store: &Store) -> u32
     ensures { λ r. ⌜ r ≡ lineCount (now (store .entry)) ⌝ }
@@ -63,10 +79,10 @@ pub fn put_row_count(store: &mut Store, n: u32)
 }
 
 pub fn line_row(store: &Store, i: u32) -> Row
-    requires { ⌜ i < 200 ⌝ }
+    requires { ⌜ i < maxFormulas ⌝ }
     ensures { λ r. ⌜ r ≡ rowFrom (lineCell (now (store .entry)) i) ⌝ }
 {
-    let at = LINES + (i as usize) * 8;
+    let at = LINES + (i as usize) * LINE_WIDTH;
     Row {
         letter: store[at],
         a: store[at + 1],
@@ -77,24 +93,24 @@ pub fn line_row(store: &Store, i: u32) -> Row
 }
 
 pub fn size(store: &Store, i: u32) -> u32
-    requires { ⌜ i < 200 ⌝ }
+    requires { ⌜ i < maxFormulas ⌝ }
     ensures { λ r. ⌜ r ≡ sizeAt (now (store .entry)) i ⌝ }
 {
-    store[LINES + (i as usize) * 8 + 5]
+    store[LINES + (i as usize) * LINE_WIDTH + 5]
 }
 
 pub fn plain(store: &Store, i: u32) -> u32
-    requires { ⌜ i < 200 ⌝ }
+    requires { ⌜ i < maxFormulas ⌝ }
     ensures { λ r. ⌜ r ≡ plainAt (now (store .entry)) i ⌝ }
 {
-    store[LINES + (i as usize) * 8 + 6]
+    store[LINES + (i as usize) * LINE_WIDTH + 6]
 }
 
 pub fn balanced(store: &Store, i: u32) -> u32
-    requires { ⌜ i < 200 ⌝ }
+    requires { ⌜ i < maxFormulas ⌝ }
     ensures { λ r. ⌜ r ≡ balancedAt (now (store .entry)) i ⌝ }
 {
-    store[LINES + (i as usize) * 8 + 7]
+    store[LINES + (i as usize) * LINE_WIDTH + 7]
 }
 
 fn bit_of(b: bool) -> u32
@@ -104,12 +120,12 @@ fn bit_of(b: bool) -> u32
 }
 
 pub fn put_line(store: &mut Store, i: u32, row: Row, size: u32, plain: bool, balanced: bool)
-    requires { ⌜ i < 200 ⌝ }
+    requires { ⌜ i < maxFormulas ⌝ }
     ensures { λ _. ⌜ now (store .exit) ≡ putLine (now (store .entry)) i row size plain balanced ⌝ }
 {
     let p = bit_of(plain);
     let b = bit_of(balanced);
-    let at = LINES + (i as usize) * 8;
+    let at = LINES + (i as usize) * LINE_WIDTH;
     store[at] = row.letter;
     store[at + 1] = row.a;
     store[at + 2] = row.b;

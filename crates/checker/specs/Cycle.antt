@@ -13,7 +13,7 @@ use Rattle.ledger.specs.declared.Answer.the-variants.{Refused}
 use Rattle.ledger.specs.Checks.{Check, verdict}
 use Rattle.cells.specs.Layout.{rowAt}
 use Rattle.tables.specs.Held.{heldAt, putHeld}
-use Rattle.tables.specs.Lines.{stepsFrom}
+use Rattle.tables.specs.Lines.{maxSteps, stepsFrom}
 use Rattle.checker.specs.declared.Outcome.{Outcome}
 use Rattle.checker.specs.declared.Outcome.the-variants.{Done, Stopped}
 use Rattle.checker.specs.declared.Checked.{Checked}
@@ -57,7 +57,7 @@ pub record StepChecked (e : Setting) (left next : ℕ) (t : List ℕ) (R : ℕ) 
 -- how many step lines there are, and are left
 pub record Fits (total left : ℕ) : Type 0 where
   pub among : left ≤ total
-  pub few : total ≤ 256
+  pub few : total ≤ maxSteps
 
 -- What `check` answers, as document 01's check of the steps: it passes, or gives its refusal, 40 to 42, with its step.
 abbrev pub refusalOf : Checked → Check

@@ -4,12 +4,14 @@ use premises::Begun;
 use steps::Plan;
 use steps::Sequent;
 use store::Store;
+use tables::LabelRows;
+use tables::StepRows;
 use tables::lines;
 ghost use Prim.Native.Nat.{_≤_};
 ghost use Rattle.steps.specs.Check.{checkOf};
 ghost use Rattle.cells.specs.Layout.{rowAt};
 ghost use Rattle.tables.specs.Held.{heldAt, putHeld};
-ghost use Rattle.tables.specs.Lines.{stepsFrom};
+ghost use Rattle.tables.specs.Lines.{maxSteps, stepsFrom};
 ghost use Rattle.checker.specs.Cycle.{Fits, PremiseChecked, StepChecked, Answers};
 
 // Done: the sequent closes; step lines left, next label. Stopped: the refusal's number and its step.
@@ -27,8 +29,8 @@ pub enum Checked {
 // Judges a sequent by the first of the `left` step lines that are not read yet, of `total`.
 fn check_premise(
     store: &Store,
-    steps: &[u32; 1536],
-    table: &mut [u32; 192],
+    steps: &StepRows,
+    table: &mut LabelRows,
     total: u32,
     left: u32,
     next: u32,
@@ -58,8 +60,8 @@ fn check_premise(
 // Follows the plan of a step with `left` lines after it, at a sequent with the unrestricted labels r.
 fn check_step(
     store: &Store,
-    steps: &[u32; 1536],
-    table: &mut [u32; 192],
+    steps: &StepRows,
+    table: &mut LabelRows,
     total: u32,
     left: u32,
     next: u32,
@@ -99,13 +101,13 @@ fn check_step(
 // All step lines of a booking, from the sequent q and the next label: no line may follow the close.
 pub fn check(
     store: &Store,
-    steps: &[u32; 1536],
-    table: &mut [u32; 192],
+    steps: &StepRows,
+    table: &mut LabelRows,
     total: u32,
     q: Sequent,
     next: u32,
 ) -> Checked
-    requires { ⌜ total ≤ 256 ⌝ }
+    requires { ⌜ total ≤ maxSteps ⌝ }
     ensures { λ r. ⌜ Answers (checkOf (rowAt (now (store .entry))) heldAt putHeld total
         (stepsFrom (now (steps .entry)) 0 total) (now (table .entry)) next q) r (now (table .exit)) ⌝ }
 {

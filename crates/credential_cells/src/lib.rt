@@ -1,17 +1,17 @@
 // The credentials (document 01: the coupons) in the array of the ledger's state: their rows and the hints, read and
 // put. `cells/specs/Layout.antt` has the layout and its reason.
+use cells::CREDENTIAL_WIDTH;
+use cells::CREDENTIALS;
+use cells::HINTS;
+use cells::ROWS;
 use cells::Store;
 use ledger::Credential;
 use logic::Interval;
 use request::Kind;
 ghost use mathlib.Core.Path.{_≡_};
 ghost use Prim.Native.Nat.{_<_};
+ghost use Rattle.cells.specs.Layout.{maxRows};
 ghost use Rattle.cells.specs.Layout.{kindFrom, kindNumber, credentialAt, gapAt, putCredential, putGap, hintAt, putHint};
-
-// where the credential rows and the hints start
-const CREDENTIALS: usize = 1604;
-
-const HINTS: usize = 6724;
 
 // the kind of a credential that has left
 const GAP: u32 = 2;
@@ -36,17 +36,17 @@ fn kind_number(k: Kind) -> u32
 }
 
 pub fn serial(store: &Store, i: u32) -> u32
-    requires { ⌜ i < 1024 ⌝ }
+    requires { ⌜ i < maxRows ⌝ }
     ensures { λ r. ⌜ r ≡ credentialAt (now (store .entry)) i .serial ⌝ }
 {
-    store[CREDENTIALS + (i as usize) * 5]
+    store[CREDENTIALS + (i as usize) * CREDENTIAL_WIDTH]
 }
 
 pub fn credential(store: &Store, i: u32) -> Credential
-    requires { ⌜ i < 1024 ⌝ }
+    requires { ⌜ i < maxRows ⌝ }
     ensures { λ r. ⌜ r ≡ credentialAt (now (store .entry)) i ⌝ }
 {
-    let at = CREDENTIALS + (i as usize) * 5;
+    let at = CREDENTIALS + (i as usize) * CREDENTIAL_WIDTH;
     let kind = kind_from(store[at + 1]);
     Credential {
         serial: store[at],
@@ -60,27 +60,27 @@ pub fn credential(store: &Store, i: u32) -> Credential
 }
 
 pub fn gap(store: &Store, i: u32) -> bool
-    requires { ⌜ i < 1024 ⌝ }
+    requires { ⌜ i < maxRows ⌝ }
     ensures { λ r. ⌜ r ≡ gapAt (now (store .entry)) i ⌝ }
 {
-    store[CREDENTIALS + (i as usize) * 5 + 1] == GAP
+    store[CREDENTIALS + (i as usize) * CREDENTIAL_WIDTH + 1] == GAP
 }
 
 pub fn put_gap(store: &mut Store, i: u32)
-    requires { ⌜ i < 1024 ⌝ }
+    requires { ⌜ i < maxRows ⌝ }
     ensures { λ _. ⌜ now (store .exit) ≡ putGap (now (store .entry)) i ⌝ }
 {
-    store[CREDENTIALS + (i as usize) * 5 + 1] = GAP;
+    store[CREDENTIALS + (i as usize) * CREDENTIAL_WIDTH + 1] = GAP;
 }
 
 pub fn put_credential(store: &mut Store, i: u32, c: Credential)
-    requires { ⌜ i < 1024 ⌝ }
+    requires { ⌜ i < maxRows ⌝ }
     ensures { λ _. ⌜ now (store .exit) ≡ putCredential (now (store .entry)) i c ⌝ }
 {
     let kind = c.kind;
     let k = kind_number(kind);
     let w = c.interval;
-    let at = CREDENTIALS + (i as usize) * 5;
+    let at = CREDENTIALS + (i as usize) * CREDENTIAL_WIDTH;
     store[at] = c.serial;
     store[at + 1] = k;
     store[at + 2] = c.formula;
@@ -92,11 +92,11 @@ pub fn put_credential(store: &mut Store, i: u32, c: Credential)
 pub fn hint(store: &Store, serial: u32) -> u32
     ensures { λ r. ⌜ r ≡ hintAt (now (store .entry)) serial ⌝ }
 {
-    store[HINTS + (serial % 1024) as usize]
+    store[HINTS + (serial % ROWS) as usize]
 }
 
 pub fn put_hint(store: &mut Store, serial: u32, i: u32)
     ensures { λ _. ⌜ now (store .exit) ≡ putHint (now (store .entry)) serial i ⌝ }
 {
-    store[HINTS + (serial % 1024) as usize] = i;
+    store[HINTS + (serial % ROWS) as usize] = i;
 }

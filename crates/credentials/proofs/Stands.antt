@@ -9,6 +9,7 @@ use Rattle.request.specs.Request.{Line}
 use Rattle.ledger.specs.declared.Credential.{Credential}
 use Rattle.ledger.specs.Table.{nth, formulas}
 use Rattle.ledger.specs.Ledger.{Ledger, formula}
+use Rattle.ledger.specs.Checks.{maxFormulas}
 use Rattle.ledger.specs.Bounds.{Bounded}
 use Rattle.store.specs.Tab.{tab, present}
 use Rattle.cells.specs.Layout.{lineCount, nextSerial, rowCount, entryAt, putHint}
@@ -30,7 +31,7 @@ module _ (l m : List ℕ) (g : Good l) (s : SameLines l m) where
   good-live : Ordered m → Bounded (ledgerOf m) → Good m
   good-live c b =
       let below : (i : ℕ) → i < lineCount m → i < lineCount l = λ i h. rw (s .count) at h in
-      let small : (i : ℕ) → i < lineCount l → i < 200 = λ i h. omega (arith, g .lines) in
+      let small : (i : ℕ) → i < lineCount l → i < maxFormulas = λ i h. omega (arith, g .lines) in
       record {
         long = s .long;
         lines = rw (s .count) (g .lines);

@@ -7,7 +7,7 @@ ghost use Prim.Native.Nat.{_<_};
 ghost use lib.ListN.{length};
 ghost use Rattle.ledger.specs.Ledger.{withoutSerial};
 ghost use Rattle.ledger.specs.Calls.{withLive, withCredential};
-ghost use Rattle.cells.specs.Layout.{rowCount, credentialAt};
+ghost use Rattle.cells.specs.Layout.{maxRows, rowCount, credentialAt};
 ghost use Rattle.store.specs.Store.{ledgerOf, Good, StandsFor, Givable, Occupied, Compacted};
 
 // The credential of a row leaves: the row becomes a gap.
@@ -44,18 +44,18 @@ fn compact(store: &mut Store)
 
 // A row is free: where all are in use, the live credentials move together first.
 fn make_room(store: &mut Store)
-    requires { ⌜ Good (now store) × (length (ledgerOf (now store) .live) < 1024) ⌝ }
+    requires { ⌜ Good (now store) × (length (ledgerOf (now store) .live) < maxRows) ⌝ }
     ensures { λ _. ⌜ StandsFor (now (store .exit)) (ledgerOf (now (store .entry)))
-        × (rowCount (now (store .exit)) < 1024) ⌝ }
+        × (rowCount (now (store .exit)) < maxRows) ⌝ }
 {
-    if cells::row_count(store) == 1024 {
+    if cells::row_count(store) == cells::ROWS {
         compact(store);
     }
 }
 
 // One credential more, in the next row.
 fn append(store: &mut Store, kind: Kind, formula: u32, interval: Interval)
-    requires { ⌜ Givable (now store) formula × (rowCount (now store) < 1024) ⌝ }
+    requires { ⌜ Givable (now store) formula × (rowCount (now store) < maxRows) ⌝ }
     ensures { λ _. ⌜ StandsFor (now (store .exit))
         (withCredential (ledgerOf (now (store .entry))) kind formula interval) ⌝ }
 {

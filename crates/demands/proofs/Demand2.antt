@@ -14,6 +14,7 @@ use Rattle.logic.proofs.Intervals.{ordered-decides}
 use Rattle.logic.proofs.Multisets.{every-left, every-right, every-map}
 use Rattle.logic.specs.Derives.{holds, letters, taken}
 use Rattle.request.specs.Request.{Step, Booking, book, stepIntervals, stepsIntervals, intervals}
+use Rattle.request.specs.Range.{holds as heldRange}
 use Rattle.request.specs.InRange.{StepInRange, BookingInRange}
 use Rattle.steps.specs.declared.Goal.the-variants.{Holds}
 use Rattle.steps.specs.Check.{maxLabels, Outcome, done, stopped, puts, finished, checkOf}
@@ -106,7 +107,7 @@ module _ (t : Ledger) (tb : Tabled t) (cs : List Credential) (few : length cs �
 
 -- What an accepted booking's bytes give: few holds, and steps in range with no interval reversed.
 
-pub few-held : (t : Ledger) (ns : List ℕ) → length ns ≤ 32 → length (held (t .live) ns) ≤ maxLabels
+pub few-held : (t : Ledger) (ns : List ℕ) → length ns ≤ heldRange .last → length (held (t .live) ns) ≤ maxLabels
 unfolding maxLabels
 few-held t ns le = omega (arith, held-length (t .live) ns)
 

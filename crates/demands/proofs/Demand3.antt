@@ -18,7 +18,7 @@ use Rattle.logic.proofs.Balance.{plain-decides, plain-counts}
 use Rattle.logic.proofs.Conservation.{conserved, EvenHyp, BalancedHyp}
 use Rattle.request.specs.declared.Kind.{Kind}
 use Rattle.request.specs.declared.Kind.the-variants.{Linear, Unrestricted}
-use Rattle.request.specs.Range.{maxBytes}
+use Rattle.request.specs.Range.{maxBytes, holds as heldRange}
 use Rattle.request.specs.Request.{Booking, word, issue, withdraw, book, tally, intervals}
 use Rattle.request.specs.Read.{requestOf}
 use Rattle.request.specs.Write.{write}
@@ -91,8 +91,8 @@ booked s {a = a} d w p =
     let c = plain-counts s a (plain-decides a .0 p) in
     omega (arith, conserved s d (w .balanced) (w .even) (c .evens), c .ups, c .downs, w .taken, w .added)
 
-book-keeps : (t : Ledger) (h : History) (b : Booking) → Agrees t h → PassedBook t b → length (b .holds) ≤ 32
-    → Every Writable (b .steps)
+book-keeps : (t : Ledger) (h : History) (b : Booking) → Agrees t h → PassedBook t b
+    → length (b .holds) ≤ heldRange .last → Every Writable (b .steps)
     → Agrees
     (withCredential (withLive t (spend (t .live) (held (t .live) (b .holds)))) Linear (b .formula) (b .interval))
     (event (book b) (t .next) ∷ h)

@@ -2,6 +2,7 @@
 // with a length, and the caller lends 1,536 numbers to work on and four for the answer.
 use ledger::Answer;
 use store::Store;
+use tables::StepRows;
 ghost use Rattle.ledger.specs.Ledger.{empty};
 ghost use Rattle.store.specs.Store.{Good, StandsFor};
 ghost use Rattle.entry.specs.Entered.{Entered};
@@ -20,7 +21,7 @@ pub extern "C" fn till_start(till: &mut Store)
 pub extern "C" fn till_call(
     till: &mut Store,
     sheet: &[u8],
-    scratch: &mut [u32; 1536],
+    scratch: &mut StepRows,
     answer: &mut [u32; 4],
 )
     requires { ⌜ Good (now till) ⌝ }

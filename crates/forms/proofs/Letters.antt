@@ -5,6 +5,7 @@ use mathlib.Core.Option.{Option, none, some}
 use mathlib.Core.Bool.{Bool, true, false, _||_, or-false}
 use mathlib.Core.Logic.{inl, inr}
 use Prim.Native.Nat.{ℕ, _+_, _≤_, _<_}
+use Prim.Native.Char.{code}
 use native.Mathlib.Omega.{arith}
 use lib.Dec.{eqb, ltb}
 use borrow.Author.Tests.{ne-eqb, lt-ltb, le-ltb}
@@ -55,13 +56,13 @@ module _ (letter : ℕ) where
   unfolding twoFields
   numbers-row m n make h b = two-row (number-shape (0 ‥ m)) (number-shape (0 ‥ n)) make h b
 
-  pub at-row : letter ≡ 104 → (b : List ℕ)
+  pub at-row : letter ≡ code "h" → (b : List ℕ)
       → rowed (readLine (number formulaNumber >>= (λ i. interval >>= (λ w. return (Line.at i w)))) b)
       ≡ atFields letter b
   unfolding atFields
   at-row h b = rw h (two-row (number-shape formulaNumber) interval-shape Line.at (λ i w. refl) b)
 
-  pub superset-row : letter ≡ 103 → (b : List ℕ)
+  pub superset-row : letter ≡ code "g" → (b : List ℕ)
       → rowed (readLine (interval >>= (λ v. interval >>= (λ w. return (Line.superset v w)))) b)
       ≡ supersetFields letter b
   unfolding supersetFields
@@ -74,7 +75,9 @@ row-told b e = ap (λ z. some (z, b)) e
 
 -- those of formula lines
 abbrev pub letters : List ℕ
-letters = 111 ∷ 119 ∷ 117 ∷ 116 ∷ 112 ∷ 108 ∷ 115 ∷ 104 ∷ 103 ∷ 98 ∷ 97 ∷ []
+letters =
+    code "o" ∷ code "w" ∷ code "u" ∷ code "t" ∷ code "p" ∷ code "l" ∷ code "s" ∷ code "h" ∷ code "g" ∷ code "b" ∷
+    code "a" ∷ []
 
 module _ (s : List ℕ) (i : ℕ) where
   pub letter-short : length s ≤ i + 1 → readLine formulaLine (drop i s) ≡ none
@@ -95,24 +98,24 @@ module _ (s : List ℕ) (i : ℕ) where
         ∙ ap (λ y. readLine (λ ts. formulaLine ((y ∷ []) ∷ ts)) (drop (i + 2) s)) q
 
     -- `o`, which has no field
-    pub letter-one : getD s i 0 ≡ 111 → getD s (i + 1) 0 ≡ 10
+    pub letter-one : getD s i 0 ≡ code "o" → getD s (i + 1) 0 ≡ 10
         → readLine formulaLine (drop i s) ≡ some (Line.one, drop (i + 2) s)
     unfolding formulaLine choose named sameBytes bytes
     letter-one q k = letter-line h ∙ rw q (onward-end Line.one (drop (i + 2) s) k)
 
-    pub letter-one-bare : getD s i 0 ≡ 111 → (getD s (i + 1) 0 ≡ 10 → ⊥) → readLine formulaLine (drop i s) ≡ none
+    pub letter-one-bare : getD s i 0 ≡ code "o" → (getD s (i + 1) 0 ≡ 10 → ⊥) → readLine formulaLine (drop i s) ≡ none
     unfolding formulaLine choose named sameBytes bytes
     letter-one-bare q k = letter-line h ∙ rw q (onward-on Line.one (drop (i + 2) s) k)
 
     -- a letter of a line with fields, and no comma
-    pub letter-bare : (getD s i 0 ≡ 111 → ⊥) → (getD s (i + 1) 0 ≡ 44 → ⊥) → readLine formulaLine (drop i s) ≡ none
+    pub letter-bare : (getD s i 0 ≡ code "o" → ⊥) → (getD s (i + 1) 0 ≡ 44 → ⊥) → readLine formulaLine (drop i s) ≡ none
     unfolding formulaLine bytes number interval part parts next _>>=_ andThen
     letter-bare n k =
         letter-line h ∙ onward-bare _ (drop (i + 2) s) k
         (no-field (getD s i 0 ∷ []) _ (
           inr refl,
           (
-            inl (one-other (getD s i 0) 111 n),
+            inl (one-other (getD s i 0) (code "o") n),
             (
               inr refl,
               (
@@ -148,8 +151,8 @@ module _ (s : List ℕ) (i : ℕ) where
 -- Reversed intervals, by the row
 
 abbrev turned : Row → Bool
-turned x = pick (eqb (x .letter) 104) (ltb (x .c) (x .b))
-    (pick (eqb (x .letter) 103) (ltb (x .b) (x .a) || ltb (x .d) (x .c)) false)
+turned x = pick (eqb (x .letter) (code "h")) (ltb (x .c) (x .b))
+    (pick (eqb (x .letter) (code "g")) (ltb (x .b) (x .a) || ltb (x .d) (x .c)) false)
 
 line-turned : (l : Line) → turned (rowOf l) ≡ any reversed (lineIntervals l)
 unfolding any reversed
@@ -173,14 +176,14 @@ row-turned : (x : Row) {r : Bool} → r ≡ turned x → Told x r
 row-turned x e l q = e ∙ rw (← q) (line-turned l)
 
 module _ (x : Row) where
-  pub told-at : x .letter ≡ 104 → Told x (ltb (x .c) (x .b))
+  pub told-at : x .letter ≡ code "h" → Told x (ltb (x .c) (x .b))
   told-at h = row-turned x (rw h)
 
-  pub told-none : (x .letter ≡ 104 → ⊥) → (x .letter ≡ 103 → ⊥) → Told x false
-  told-none n m = row-turned x (rw (ne-eqb (x .letter) 104 n, ne-eqb (x .letter) 103 m))
+  pub told-none : (x .letter ≡ code "h" → ⊥) → (x .letter ≡ code "g" → ⊥) → Told x false
+  told-none n m = row-turned x (rw (ne-eqb (x .letter) (code "h") n, ne-eqb (x .letter) (code "g") m))
 
-  pub told-first : x .letter ≡ 103 → x .b < x .a → Told x true
+  pub told-first : x .letter ≡ code "g" → x .b < x .a → Told x true
   told-first h l = row-turned x (rw (h, lt-ltb (x .b) (x .a) l))
 
-  pub told-second : x .letter ≡ 103 → x .a ≤ x .b → Told x (ltb (x .d) (x .c))
+  pub told-second : x .letter ≡ code "g" → x .a ≤ x .b → Told x (ltb (x .d) (x .c))
   told-second h l = row-turned x (rw (h, le-ltb (x .b) (x .a) l))

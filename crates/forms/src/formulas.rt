@@ -4,7 +4,9 @@ use crate::Span;
 use logic::Interval;
 use numbers::Decimal;
 use numbers::number;
+use request::ranges;
 use steps::Row;
+use steps::letters;
 ghost use mathlib.Core.Path.{_≡_};
 ghost use Prim.Native.Nat.{_≤_};
 ghost use lib.ListN.{length, drop};
@@ -23,11 +25,11 @@ pub fn interval(s: &[u8], at: u32, stop: u8) -> Span
     requires { ⌜ (length (now s) ≤ maxBytes) × Stop stop ⌝ }
     ensures { λ r. ⌜ spanOf (now (s .entry)) r ≡ intervalTo stop (drop at (now (s .entry))) ⌝ }
 {
-    let f = number(s, at, 0, 9999999, 44);
+    let f = number(s, at, 0, ranges::MINUTE_LAST, 44);
     let Decimal::Number(from, i) = f else {
         return Span::Broken;
     };
-    let g = number(s, i, 0, 9999999, stop);
+    let g = number(s, i, 0, ranges::MINUTE_LAST, stop);
     let Decimal::Number(to, j) = g else {
         return Span::Broken;
     };
@@ -38,7 +40,7 @@ fn one_field(s: &[u8], at: u32, letter: u32) -> FormulaLine
     requires { ⌜ length (now s) ≤ maxBytes ⌝ }
     ensures { λ r. ⌜ formulaOf (now (s .entry)) r ≡ oneField letter (drop at (now (s .entry))) ⌝ }
 {
-    let f = number(s, at, 0, 999, 10);
+    let f = number(s, at, 0, ranges::FORMULA_LAST, 10);
     let Decimal::Number(a, i) = f else {
         return FormulaLine::Broken;
     };
@@ -82,7 +84,7 @@ fn at_fields(s: &[u8], at: u32, letter: u32) -> FormulaLine
     requires { ⌜ length (now s) ≤ maxBytes ⌝ }
     ensures { λ r. ⌜ formulaOf (now (s .entry)) r ≡ atFields letter (drop at (now (s .entry))) ⌝ }
 {
-    let f = number(s, at, 0, 999, 44);
+    let f = number(s, at, 0, ranges::FORMULA_LAST, 44);
     let Decimal::Number(a, i) = f else {
         return FormulaLine::Broken;
     };
@@ -152,26 +154,26 @@ pub fn formula_line(s: &[u8], at: u32) -> FormulaLine
     let stop = s[i + 1];
     let x = letter as u32;
     let j = at + 2;
-    if letter == 111 {
+    if x == letters::ONE {
         if stop == 10 {
-            return FormulaLine::Formula(bare(111), j);
+            return FormulaLine::Formula(bare(letters::ONE), j);
         }
         return FormulaLine::Broken;
     }
     if stop != 44 {
         return FormulaLine::Broken;
     }
-    match letter {
-        97 => two_fields(s, j, x, 255, 255),
-        98 => one_field(s, j, x),
-        103 => superset_fields(s, j, x),
-        104 => at_fields(s, j, x),
-        115 => two_fields(s, j, x, 255, 999),
-        108 => two_fields(s, j, x, 999, 999),
-        112 => two_fields(s, j, x, 999, 999),
-        116 => two_fields(s, j, x, 999, 999),
-        117 => two_fields(s, j, x, 999, 999),
-        119 => two_fields(s, j, x, 999, 999),
+    match x {
+        letters::ATOM => two_fields(s, j, x, ranges::PREDICATE_LAST, ranges::SESSION_LAST),
+        letters::BANG => one_field(s, j, x),
+        letters::SUPERSET => superset_fields(s, j, x),
+        letters::AT => at_fields(s, j, x),
+        letters::SAYS => two_fields(s, j, x, ranges::PRINCIPAL_LAST, ranges::FORMULA_LAST),
+        letters::LOLLI => two_fields(s, j, x, ranges::FORMULA_LAST, ranges::FORMULA_LAST),
+        letters::PLUS => two_fields(s, j, x, ranges::FORMULA_LAST, ranges::FORMULA_LAST),
+        letters::TENSOR => two_fields(s, j, x, ranges::FORMULA_LAST, ranges::FORMULA_LAST),
+        letters::IMPLIES => two_fields(s, j, x, ranges::FORMULA_LAST, ranges::FORMULA_LAST),
+        letters::WITH => two_fields(s, j, x, ranges::FORMULA_LAST, ranges::FORMULA_LAST),
         _ => FormulaLine::Broken,
     }
 }
@@ -180,10 +182,10 @@ pub fn formula_line(s: &[u8], at: u32) -> FormulaLine
 pub fn reversed_row(x: Row) -> bool
     ensures { λ r. ⌜ ((l : Line) → rowOf l ≡ x → r ≡ any reversed (lineIntervals l)) ⌝ }
 {
-    if x.letter == 104 {
+    if x.letter == letters::AT {
         return x.c < x.b;
     }
-    if x.letter != 103 {
+    if x.letter != letters::SUPERSET {
         return false;
     }
     if x.b < x.a {

@@ -13,6 +13,7 @@ use Rattle.logic.specs.Counts.{balanced}
 use Rattle.steps.specs.declared.Row.{Row}
 use Rattle.ledger.specs.Table.{form}
 use Rattle.ledger.specs.Ledger.{Ledger, formula}
+use Rattle.ledger.specs.Checks.{maxFormulas}
 use Rattle.ledger.specs.Calls.{withLine}
 use Rattle.ledger.proofs.Tables.{formula-snoc, formula-stays}
 use Rattle.ledger.specs.Bounds.{Bounded}
@@ -47,7 +48,7 @@ module _ (l : List ℕ) (r : Row) (s : ℕ) (p b : Bool) (a : Wordable l r s p b
   abbrev t : Ledger
   t = ledgerOf l
 
-  room : n < 200
+  room : n < maxFormulas
   room = omega (arith, lines-length l, a .room)
 
   rowed-live : SameLive l rowed

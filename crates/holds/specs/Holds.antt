@@ -12,7 +12,7 @@ use Rattle.ledger.specs.declared.Credential.{Credential}
 use Rattle.ledger.specs.Ledger.{Ledger, isKind, held, linearCount, spend}
 use Rattle.ledger.specs.Checks.{any, dead, twice, hypothesis, labelsOf}
 use Rattle.store.specs.Store.{ledgerOf, Good}
-use Rattle.tables.specs.Held.{putHeld}
+use Rattle.tables.specs.Held.{maxHolds, putHeld}
 use Rattle.holds.specs.declared.Sides.{Sides}
 use Rattle.holds.specs.declared.Held.{Held}
 use Rattle.holds.specs.declared.Held.the-variants.{Dead, Live}
@@ -39,8 +39,8 @@ HeldIs t ns table (Live s) table′ = AllHeld t ns table s table′
 
 -- `count` serials in the array lent
 pub record Serials (serials : List ℕ) (count : ℕ) : Type 0 where
-  pub few : count ≤ 32
-  pub long : length serials ≡ 32
+  pub few : count ≤ maxHolds
+  pub long : length serials ≡ maxHolds
 
 -- what the checks 24 and 31 have found before the holds are spent
 pub record Spendable (l serials : List ℕ) (count : ℕ) : Type 0 where

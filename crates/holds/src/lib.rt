@@ -4,11 +4,14 @@ use lookup::Found;
 use request::Kind;
 use steps::Hypothesis;
 use store::Store;
+use tables::LabelRows;
+use tables::Serials;
 use tables::held::put_held;
 ghost use mathlib.Core.Path.{_≡_};
 ghost use Prim.Native.Nat.{_≤_, _<_};
 ghost use lib.Dec.{eqb};
 ghost use lib.ListN.{take, drop};
+ghost use Rattle.request.specs.Range.{labelCount};
 ghost use Rattle.ledger.specs.Ledger.{byKind, held, spend as spendOf};
 ghost use Rattle.ledger.specs.Checks.{any, twice as twiceOf, hypothesis as hypothesisOf};
 ghost use Rattle.ledger.specs.Calls.{withLive};
@@ -32,7 +35,7 @@ pub enum Held {
 
 // The labels of the linear holds, and of the unrestricted ones, with label k for a hold of a kind.
 fn linear_with(d: u64, k: u32, kind: Kind) -> u64
-    requires { ⌜ k < 64 ⌝ }
+    requires { ⌜ k < labelCount ⌝ }
     ensures { λ r. ⌜ r ≡ joined Linear k kind d ⌝ }
 {
     match kind {
@@ -42,7 +45,7 @@ fn linear_with(d: u64, k: u32, kind: Kind) -> u64
 }
 
 fn unrestricted_with(d: u64, k: u32, kind: Kind) -> u64
-    requires { ⌜ k < 64 ⌝ }
+    requires { ⌜ k < labelCount ⌝ }
     ensures { λ r. ⌜ r ≡ joined Unrestricted k kind d ⌝ }
 {
     match kind {
@@ -73,7 +76,7 @@ fn hypothesis(c: Credential) -> Hypothesis
 }
 
 // 24 for all holds: their credentials take labels 0, 1, .. in order.
-pub fn hold_all(till: &Store, serials: &[u32; 32], count: u32, table: &mut [u32; 192]) -> Held
+pub fn hold_all(till: &Store, serials: &Serials, count: u32, table: &mut LabelRows) -> Held
     requires { ⌜ Good (now till) × Serials (now serials) count ⌝ }
     ensures { λ r. ⌜ HeldIs (ledgerOf (now (till .entry))) (take count (now (serials .entry))) (now (table .entry)) r
         (now (table .exit)) ⌝ }
@@ -102,7 +105,7 @@ pub fn hold_all(till: &Store, serials: &[u32; 32], count: u32, table: &mut [u32;
 }
 
 // Whether n is among the serials from a place on.
-fn again(serials: &[u32; 32], count: u32, from: u32, n: u32) -> bool
+fn again(serials: &Serials, count: u32, from: u32, n: u32) -> bool
     requires { ⌜ Serials (now serials) count ⌝ }
     ensures { λ r. ⌜ r ≡ any (eqb n) (drop from (take count (now (serials .entry)))) ⌝ }
 {
@@ -117,7 +120,7 @@ fn again(serials: &[u32; 32], count: u32, from: u32, n: u32) -> bool
 }
 
 // 31: a serial is held twice.
-pub fn twice(serials: &[u32; 32], count: u32) -> bool
+pub fn twice(serials: &Serials, count: u32) -> bool
     requires { ⌜ Serials (now serials) count ⌝ }
     ensures { λ r. ⌜ r ≡ twiceOf (take count (now (serials .entry))) ⌝ }
 {
@@ -149,7 +152,7 @@ fn spend_one(till: &mut Store, serial: u32)
 }
 
 // "removes the single-use holds"
-pub fn spend(till: &mut Store, serials: &[u32; 32], count: u32)
+pub fn spend(till: &mut Store, serials: &Serials, count: u32)
     requires { ⌜ Spendable (now till) (now serials) count ⌝ }
     ensures { λ _. ⌜ StandsFor (now (till .exit)) (withLive (ledgerOf (now (till .entry)))
         (spendOf (ledgerOf (now (till .entry)) .live)

@@ -22,7 +22,7 @@ use Rattle.ledger.specs.Checks.{verdict, steps}
 use Rattle.cells.specs.Layout.{rowAt}
 use Rattle.store.specs.Store.{ledgerOf, Good}
 use Rattle.store.proofs.Views.{rows-are}
-use Rattle.tables.specs.Held.{heldAt, putHeld}
+use Rattle.tables.specs.Held.{labelCells, labelPlace, heldAt, putHeld}
 use Rattle.tables.specs.Lines.{stepsFrom}
 use Rattle.tables.proofs.LabelTable.{heldTable, held-good}
 use Rattle.checker.specs.declared.Checked.{Checked}
@@ -56,16 +56,16 @@ shown = record {
 
 -- an array of zeros shows the empty table
 abbrev zeros : List ℕ
-zeros = replicate 192 0
+zeros = replicate labelCells 0
 
 zero-at : (k : ℕ) → getD zeros k 0 ≡ 0
-zero-at k = replicate-is 0 192 k
+zero-at k = replicate-is 0 labelCells k
 
 no-labels : heldAt zeros ≡ noLabels
 unfolding heldAt
 no-labels i k = record {
-  formula = zero-at (k * 3) i;
-  interval = record { from = zero-at (k * 3 + 1) i; to = zero-at (k * 3 + 2) i };
+  formula = zero-at (labelPlace k) i;
+  interval = record { from = zero-at (labelPlace k + 1) i; to = zero-at (labelPlace k + 2) i };
 }
 
 verdict-told : (o : Outcome (List ℕ)) → verdict (shownOutcome heldAt o) ≡ verdict o
@@ -74,7 +74,7 @@ verdict-told (done ss t n) = refl
 verdict-told (stopped c n) = refl
 
 zeros-good : heldTable .Good zeros
-zeros-good = held-good zeros (length-replicate {A = ℕ} 192 0)
+zeros-good = held-good zeros (length-replicate {A = ℕ} labelCells 0)
 
 module _ (l : List ℕ) (cs : List Credential) (n : ℕ) (i : Interval) (ss : List Step) where
   pub steps-judged : {total next : ℕ} {table table′ : List ℕ} {q : Sequent} {r : Checked} → Good l

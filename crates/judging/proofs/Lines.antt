@@ -16,7 +16,8 @@ use Rattle.ledger.specs.declared.Answer.the-variants.{Refused}
 use Rattle.ledger.specs.Checks.{any}
 use Rattle.ledger.proofs.Firsts.{if-true, hit}
 use Rattle.forms.specs.Line.{split, readLine}
-use Rattle.tables.specs.Lines.{stepsFrom}
+use Rattle.tables.specs.Held.{maxHolds}
+use Rattle.tables.specs.Lines.{maxSteps, stepsFrom}
 use Rattle.reader.specs.declared.Head.{Head}
 use Rattle.booking_lines.specs.Booking.{readLines, allLines, StepsAre, LinesAsked}
 use Rattle.booking_lines.proofs.Several.{no-holds, no-steps, booking-read}
@@ -42,10 +43,10 @@ none-of (suc n) h = refl
 
 module _ {l b : List ℕ} {h : Head} (o : Opened l b h) where
   -- what the readers of the lines ask
-  pub holds-asked : LinesAsked b (h .holds) 32
+  pub holds-asked : LinesAsked b (h .holds) maxHolds
   holds-asked = record { short = o .short; few = o .head .range .holds .most }
 
-  pub steps-asked : (at : ℕ) → LinesAsked (from b at) (h .steps) 256
+  pub steps-asked : (at : ℕ) → LinesAsked (from b at) (h .steps) maxSteps
   steps-asked at = record {
     short = rw (from-is b at) (omega (arith, o .short, length-drop at b));
     few = o .head .range .steps .most;

@@ -13,7 +13,8 @@ use Rattle.request.specs.Read.{requestOf}
 use Rattle.ledger.specs.Ledger.{formula}
 use Rattle.ledger.specs.Checks.{any, missing, twice}
 use Rattle.store.specs.Store.{ledgerOf, Good}
-use Rattle.tables.specs.Lines.{stepsFrom}
+use Rattle.tables.specs.Held.{labelCells}
+use Rattle.tables.specs.Lines.{maxSteps, stepsFrom}
 use Rattle.reader.specs.declared.Head.{Head}
 use Rattle.reader.specs.First.{BookIs}
 use Rattle.booking_lines.specs.Booking.{booked}
@@ -34,7 +35,7 @@ pub record Opened (l b : List ℕ) (h : Head) : Type 0 where
 pub record ReadLines (l : List ℕ) (h : Head) (serials rows : List ℕ) : Type 0 where
   pub good : Good l
   pub held : Serials serials (h .holds)
-  pub steps : h .steps ≤ 256
+  pub steps : h .steps ≤ maxSteps
   pub straight : any reversed (intervals (bookingAt h serials rows)) ≡ false
 
 -- 10, 20 and 30 have passed
@@ -47,5 +48,5 @@ pub record Bookable (l : List ℕ) (h : Head) (serials rows : List ℕ) : Type 0
 -- 24 and 31 have passed: the holds have their labels in a table that was empty
 pub record Steppable (l : List ℕ) (h : Head) (serials rows table : List ℕ) (s : Sides) : Type 0 where
   pub before : Bookable l h serials rows
-  pub holds : AllHeld (ledgerOf l) (take (h .holds) serials) (replicate 192 0) s table
+  pub holds : AllHeld (ledgerOf l) (take (h .holds) serials) (replicate labelCells 0) s table
   pub apart : twice (take (h .holds) serials) ≡ false

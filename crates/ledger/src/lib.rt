@@ -9,6 +9,13 @@ ghost use Rattle.ledger.specs.Cases.{CasesPlay};
 ghost use Rattle.ledger.specs.StepCases.{StepCasesPlay};
 ghost use Rattle.ledger.specs.LastSerials.{IdleGiven, LastSerialsPlay};
 
+// "Size: .. at most 64"; "holds at most 200"; "At most 512 are live": as specs/Checks.antt has them.
+pub const MAX_SIZE: u32 = 64;
+
+pub const MAX_FORMULAS: u32 = 200;
+
+pub const MAX_LIVE: u32 = 512;
+
 // A credential (document 01: a coupon): its serial, its kind, its formula's number (wording) and its interval (window).
 pub struct Credential {
     pub serial: u32,

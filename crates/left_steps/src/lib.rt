@@ -6,6 +6,8 @@ use steps::Goal;
 use steps::Plan;
 use steps::Row;
 use steps::Sequent;
+use steps::letters;
+use tables::LabelRows;
 use tables::held;
 ghost use mathlib.Core.Path.{_≡_};
 ghost use mathlib.Core.Bool.{_&&_};
@@ -16,7 +18,7 @@ ghost use Rattle.steps.specs.Plans.{when, is, premise, _at_};
 ghost use Rattle.tables.specs.Held.{heldAt};
 
 // "L in R; a new single label of the same wording and window."
-pub fn cp(table: &[u32; 192], q: Sequent, k: u32) -> Plan
+pub fn cp(table: &LabelRows, q: Sequent, k: u32) -> Plan
     ensures { λ r. ⌜ r ≡ when (member (q .unrestricted) k)
         (Plan.One (premise (q .linear) (q .goal) (Fresh.Linear (heldAt (now (table .entry)) k)))) ⌝ }
 {
@@ -32,7 +34,7 @@ pub fn ol(d: u64, g: Goal, x: Row) -> Plan
     ensures { λ r. ⌜ r ≡ when (is x "o") (Plan.One (premise d g Fresh.Nothing)) ⌝ }
 {
     plans::when(
-        x.letter == plans::ONE,
+        x.letter == letters::ONE,
         Plan::One(plans::premise(d, g, Fresh::Nothing)),
     )
 }
@@ -42,7 +44,7 @@ pub fn w1(d: u64, g: Goal, x: Row, i: Interval) -> Plan
     ensures { λ r. ⌜ r ≡ when (is x "w") (Plan.One (premise d g (Fresh.Linear ((x .a) at i)))) ⌝ }
 {
     plans::when(
-        x.letter == plans::WITH,
+        x.letter == letters::WITH,
         Plan::One(plans::premise(d, g, Fresh::Linear(plans::held(x.a, i)))),
     )
 }
@@ -51,7 +53,7 @@ pub fn w2(d: u64, g: Goal, x: Row, i: Interval) -> Plan
     ensures { λ r. ⌜ r ≡ when (is x "w") (Plan.One (premise d g (Fresh.Linear ((x .b) at i)))) ⌝ }
 {
     plans::when(
-        x.letter == plans::WITH,
+        x.letter == letters::WITH,
         Plan::One(plans::premise(d, g, Fresh::Linear(plans::held(x.b, i)))),
     )
 }
@@ -61,7 +63,7 @@ pub fn bl(d: u64, g: Goal, x: Row, i: Interval) -> Plan
     ensures { λ r. ⌜ r ≡ when (is x "b") (Plan.One (premise d g (Fresh.Unrestricted ((x .a) at i)))) ⌝ }
 {
     plans::when(
-        x.letter == plans::BANG,
+        x.letter == letters::BANG,
         Plan::One(plans::premise(d, g, Fresh::Unrestricted(plans::held(x.a, i)))),
     )
 }
@@ -73,7 +75,7 @@ pub fn hl(d: u64, g: Goal, x: Row) -> Plan
 {
     let j = Interval { from: x.b, to: x.c };
     plans::when(
-        x.letter == plans::AT,
+        x.letter == letters::AT,
         Plan::One(plans::premise(d, g, Fresh::Linear(plans::held(x.a, j)))),
     )
 }
@@ -85,7 +87,7 @@ pub fn sl(d: u64, g: Goal, x: Row, i: Interval, k: u32, j: Interval) -> Plan
 {
     let p = plans::premise(d, g, Fresh::Linear(plans::held(x.b, i)));
     plans::when(
-        (x.letter == plans::SAYS) & ((x.a == k) & plans::contains(i, j)),
+        (x.letter == letters::SAYS) & ((x.a == k) & plans::contains(i, j)),
         Plan::One(p),
     )
 }
@@ -95,7 +97,7 @@ pub fn tl(d: u64, g: Goal, x: Row, i: Interval) -> Plan
     ensures { λ r. ⌜ r ≡ when (is x "t") (Plan.One (premise d g (Fresh.Both ((x .a) at i) ((x .b) at i)))) ⌝ }
 {
     let p = plans::premise(d, g, Fresh::Both(plans::held(x.a, i), plans::held(x.b, i)));
-    plans::when(x.letter == plans::TENSOR, Plan::One(p))
+    plans::when(x.letter == letters::TENSOR, Plan::One(p))
 }
 
 // "a premise for each arm"
@@ -105,7 +107,7 @@ pub fn pl(d: u64, g: Goal, x: Row, i: Interval) -> Plan
 {
     let p = plans::premise(d, g, Fresh::Linear(plans::held(x.a, i)));
     let p2 = plans::premise(d, g, Fresh::Linear(plans::held(x.b, i)));
-    plans::when(x.letter == plans::PLUS, Plan::Two(p, p2))
+    plans::when(x.letter == letters::PLUS, Plan::Two(p, p2))
 }
 
 // "A ⊸ B; L's window ⊇ J = from..to; A at J from the share, which must not have L; then the goal from the rest with
@@ -122,7 +124,7 @@ pub fn ll(d: u64, g: Goal, x: Row, i: Interval, share: u64, j: Interval) -> Plan
         Fresh::Linear(plans::held(x.b, j)),
     );
     plans::when(
-        (x.letter == plans::LOLLI) & (plans::contains(i, j) & labels::subset(share, d)),
+        (x.letter == letters::LOLLI) & (plans::contains(i, j) & labels::subset(share, d)),
         Plan::Two(p, p2),
     )
 }
@@ -136,7 +138,7 @@ pub fn ul(d: u64, g: Goal, x: Row, i: Interval, j: Interval) -> Plan
     let p = plans::premise(0, Goal::Holds(x.a, j), Fresh::Nothing);
     let p2 = plans::premise(d, g, Fresh::Linear(plans::held(x.b, j)));
     plans::when(
-        (x.letter == plans::IMPLIES) & plans::contains(i, j),
+        (x.letter == letters::IMPLIES) & plans::contains(i, j),
         Plan::Two(p, p2),
     )
 }

@@ -3,6 +3,7 @@ use ledger::Credential;
 use store::Store;
 ghost use mathlib.Core.Path.{_≡_};
 ghost use Prim.Native.Nat.{_<_};
+ghost use Rattle.cells.specs.Layout.{maxRows};
 ghost use Rattle.store.specs.Store.{Good};
 ghost use Rattle.lookup.specs.Lookup.{foundAt, Finds};
 
@@ -14,7 +15,7 @@ pub enum Found {
 
 // What is found in a row: nothing in a gap.
 fn found_at(store: &Store, i: u32) -> Found
-    requires { ⌜ i < 1024 ⌝ }
+    requires { ⌜ i < maxRows ⌝ }
     ensures { λ r. ⌜ r ≡ foundAt (now (store .entry)) i ⌝ }
 {
     if credential_cells::gap(store, i) {

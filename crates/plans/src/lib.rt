@@ -1,5 +1,6 @@
-// Plans and premises, as the definitions write them, and the letters and tests that steps share.
+// Plans and premises, as the definitions write them, and the tests that steps share.
 use logic::Interval;
+use request::ranges;
 use steps::Fresh;
 use steps::Goal;
 use steps::Hypothesis;
@@ -10,29 +11,6 @@ ghost use Rattle.logic.specs.Interval.{contains as containsOf};
 ghost use Rattle.labels.specs.Labels.{member};
 ghost use Rattle.steps.specs.Plans.{when as whenOf, premise as premiseOf, _at_};
 
-// The letters of formula lines (document 01: wordings).
-pub const ATOM: u32 = b'a' as u32;
-
-pub const ONE: u32 = b'o' as u32;
-
-pub const TENSOR: u32 = b't' as u32;
-
-pub const WITH: u32 = b'w' as u32;
-
-pub const PLUS: u32 = b'p' as u32;
-
-pub const LOLLI: u32 = b'l' as u32;
-
-pub const IMPLIES: u32 = b'u' as u32;
-
-pub const BANG: u32 = b'b' as u32;
-
-pub const AT: u32 = b'h' as u32;
-
-pub const SAYS: u32 = b's' as u32;
-
-pub const CONTAINS: u32 = b'g' as u32;
-
 // The plan where the test holds.
 pub fn when(b: bool, p: Plan) -> Plan
     ensures { λ r. ⌜ r ≡ whenOf b p ⌝ }
@@ -40,11 +18,11 @@ pub fn when(b: bool, p: Plan) -> Plan
     if b { p } else { Plan::Refused }
 }
 
-// Label k is in d; no number from 64 on is.
+// Label k is in d; no number past the last label is.
 pub fn has(d: u64, k: u32) -> bool
     ensures { λ r. ⌜ r ≡ member d k ⌝ }
 {
-    if 64 <= k {
+    if ranges::LABELS <= k {
         return false;
     }
     labels::member(d, k)

@@ -1,8 +1,10 @@
 // A premise begins: it takes its new labels.
+use request::ranges;
 use steps::Fresh;
 use steps::Goal;
 use steps::Premise;
 use steps::Sequent;
+use tables::LabelRows;
 use tables::held;
 ghost use mathlib.Core.Path.{_≡_};
 ghost use Rattle.steps.specs.Check.{begin as beginOf};
@@ -35,7 +37,7 @@ fn sequent(r: u64, d: u64, g: Goal) -> Sequent
 }
 
 // New labels go from `next` on; r are the unrestricted labels of the step's sequent.
-pub fn begin(table: &mut [u32; 192], next: u32, r: u64, p: Premise) -> Begun
+pub fn begin(table: &mut LabelRows, next: u32, r: u64, p: Premise) -> Begun
     ensures { λ o. ⌜ toldBegun o (now (table .exit)) ≡ beginOf putHeld (now (table .entry)) next r p ⌝ }
 {
     let fresh = p.fresh;
@@ -43,20 +45,20 @@ pub fn begin(table: &mut [u32; 192], next: u32, r: u64, p: Premise) -> Begun
     let g = p.goal;
     match fresh {
         Fresh::Nothing => {
-            if 64 < next {
+            if ranges::LABELS < next {
                 return Begun::Full;
             }
             Begun::Begins(sequent(r, d, g), next)
         }
         Fresh::Linear(h) => {
-            if 64 <= next {
+            if ranges::LABELS <= next {
                 return Begun::Full;
             }
             held::put_held(table, next, h);
             Begun::Begins(sequent(r, labels::insert(d, next), g), next + 1)
         }
         Fresh::Both(h, k) => {
-            if 63 <= next {
+            if ranges::LABEL_LAST <= next {
                 return Begun::Full;
             }
             held::put_held(table, next, h);
@@ -65,7 +67,7 @@ pub fn begin(table: &mut [u32; 192], next: u32, r: u64, p: Premise) -> Begun
             Begun::Begins(sequent(r, d2, g), next + 2)
         }
         Fresh::Unrestricted(h) => {
-            if 64 <= next {
+            if ranges::LABELS <= next {
                 return Begun::Full;
             }
             held::put_held(table, next, h);

@@ -7,6 +7,9 @@ ghost use Rattle.request.specs.Write.{digits};
 ghost use Rattle.ledger.specs.Calls.{told};
 ghost use Rattle.print.specs.Printed.{line, longest, Room, Wrote};
 
+// No answer's line is longer.
+pub const LONGEST: usize = 36;
+
 fn put_byte(text: &mut [u8], at: usize, x: u8) -> usize
     requires { ⌜ Room (now text) at 1 ⌝ }
     ensures { λ r. ⌜ Wrote (now (text .entry)) at (x ∷ []) (now (text .exit)) r ⌝ }

@@ -11,6 +11,7 @@ use numbers::Prefix;
 use numbers::number;
 use numbers::past;
 use request::Kind;
+use request::ranges;
 ghost use Prim.Native.Nat.{_≤_};
 ghost use lib.ListN.{length, drop};
 ghost use Rattle.request.specs.Range.{maxBytes};
@@ -38,7 +39,7 @@ fn issued(s: &[u8], at: u32, k: Kind) -> FirstRead
     requires { ⌜ length (now s) ≤ maxBytes ⌝ }
     ensures { λ r. ⌜ FirstIs (requestFrom (readLine (issueFields k) (drop at (now (s .entry))))) (now (s .entry)) r ⌝ }
 {
-    let f = number(s, at, 0, 999, 44);
+    let f = number(s, at, 0, ranges::FORMULA_LAST, 44);
     let Decimal::Number(n, i) = f else {
         return FirstRead::Broken;
     };
@@ -73,7 +74,7 @@ fn withdraw(s: &[u8], at: u32) -> FirstRead
     requires { ⌜ length (now s) ≤ maxBytes ⌝ }
     ensures { λ r. ⌜ FirstAfter "withdraw" (now (s .entry)) at r ⌝ }
 {
-    let f = number(s, at, 1, 999999, 10);
+    let f = number(s, at, ranges::SERIAL_FIRST, ranges::SERIAL_LAST, 10);
     let Decimal::Number(n, i) = f else {
         return FirstRead::Broken;
     };
@@ -88,11 +89,11 @@ fn tally(s: &[u8], at: u32) -> FirstRead
     requires { ⌜ length (now s) ≤ maxBytes ⌝ }
     ensures { λ r. ⌜ FirstAfter "tally" (now (s .entry)) at r ⌝ }
 {
-    let f = number(s, at, 0, 255, 44);
+    let f = number(s, at, 0, ranges::SESSION_LAST, 44);
     let Decimal::Number(a, i) = f else {
         return FirstRead::Broken;
     };
-    let g = number(s, i, 0, 9999999, 10);
+    let g = number(s, i, 0, ranges::MINUTE_LAST, 10);
     let Decimal::Number(m, j) = g else {
         return FirstRead::Broken;
     };
@@ -107,11 +108,11 @@ fn book(s: &[u8], at: u32) -> FirstRead
     requires { ⌜ length (now s) ≤ maxBytes ⌝ }
     ensures { λ r. ⌜ FirstAfter "book" (now (s .entry)) at r ⌝ }
 {
-    let a = number(s, at, 0, 9999999, 44);
+    let a = number(s, at, 0, ranges::MINUTE_LAST, 44);
     let Decimal::Number(now, i) = a else {
         return FirstRead::Broken;
     };
-    let b = number(s, i, 0, 999, 44);
+    let b = number(s, i, 0, ranges::FORMULA_LAST, 44);
     let Decimal::Number(formula, j) = b else {
         return FirstRead::Broken;
     };
@@ -119,11 +120,11 @@ fn book(s: &[u8], at: u32) -> FirstRead
     let Span::Minutes(interval, k) = c else {
         return FirstRead::Broken;
     };
-    let d = number(s, k, 0, 32, 44);
+    let d = number(s, k, 0, ranges::HOLDS_LAST, 44);
     let Decimal::Number(holds, l) = d else {
         return FirstRead::Broken;
     };
-    let e = number(s, l, 1, 256, 10);
+    let e = number(s, l, ranges::STEPS_FIRST, ranges::STEPS_LAST, 10);
     let Decimal::Number(steps, next) = e else {
         return FirstRead::Broken;
     };

@@ -1,6 +1,6 @@
 -- "Ranges: predicate, session, principal 0 to 255; minute 0 to 9,999,999; wording 0 to 999; serial 1 to 999,999;
 -- label 0 to 63; holds 0 to 32; steps 1 to 256. A sheet has at most 16,384 bytes."
-use Prim.Native.Nat.{ℕ}
+use Prim.Native.Nat.{ℕ, _+_}
 
 pub record Range : Type 0 where
   pub first : ℕ
@@ -31,6 +31,10 @@ serial = 1 ‥ 999999
 
 abbrev pub label : Range
 label = 0 ‥ 63
+
+-- how many labels there are
+abbrev pub labelCount : ℕ
+labelCount = label .last + 1
 
 abbrev pub holds : Range
 holds = 0 ‥ 32

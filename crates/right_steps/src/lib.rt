@@ -5,11 +5,13 @@ use steps::Goal;
 use steps::Hypothesis;
 use steps::Plan;
 use steps::Row;
+use steps::letters;
 ghost use mathlib.Core.Path.{_≡_};
 ghost use mathlib.Core.Bool.{_&&_};
 ghost use Prim.Native.Nat.{_<_};
 ghost use lib.Dec.{eqb};
 ghost use Rattle.logic.specs.Interval.{span, contains};
+ghost use Rattle.request.specs.Range.{labelCount};
 ghost use Rattle.labels.specs.Labels.{isEmpty, isJust, subset, without};
 ghost use Rattle.steps.specs.Plans.{when, is, premise};
 
@@ -17,7 +19,10 @@ ghost use Rattle.steps.specs.Plans.{when, is, premise};
 pub fn or(d: u64, x: Row) -> Plan
     ensures { λ r. ⌜ r ≡ when (is x "o") (when (isEmpty d) Plan.Closed) ⌝ }
 {
-    plans::when((x.letter == plans::ONE) & labels::is_empty(d), Plan::Closed)
+    plans::when(
+        (x.letter == letters::ONE) & labels::is_empty(d),
+        Plan::Closed,
+    )
 }
 
 // "⊇ that holds, D empty; closes."
@@ -28,7 +33,7 @@ pub fn gr(d: u64, x: Row) -> Plan
     let i = Interval { from: x.a, to: x.b };
     let j = Interval { from: x.c, to: x.d };
     plans::when(
-        (x.letter == plans::CONTAINS) & (labels::is_empty(d) & plans::contains(i, j)),
+        (x.letter == letters::SUPERSET) & (labels::is_empty(d) & plans::contains(i, j)),
         Plan::Closed,
     )
 }
@@ -38,7 +43,7 @@ pub fn p1(d: u64, x: Row, i: Interval) -> Plan
     ensures { λ r. ⌜ r ≡ when (is x "p") (Plan.One (premise d (Goal.Holds (x .a) i) Fresh.Nothing)) ⌝ }
 {
     plans::when(
-        x.letter == plans::PLUS,
+        x.letter == letters::PLUS,
         Plan::One(plans::premise(d, Goal::Holds(x.a, i), Fresh::Nothing)),
     )
 }
@@ -47,7 +52,7 @@ pub fn p2(d: u64, x: Row, i: Interval) -> Plan
     ensures { λ r. ⌜ r ≡ when (is x "p") (Plan.One (premise d (Goal.Holds (x .b) i) Fresh.Nothing)) ⌝ }
 {
     plans::when(
-        x.letter == plans::PLUS,
+        x.letter == letters::PLUS,
         Plan::One(plans::premise(d, Goal::Holds(x.b, i), Fresh::Nothing)),
     )
 }
@@ -59,7 +64,7 @@ pub fn br(d: u64, x: Row, i: Interval) -> Plan
 {
     let p = plans::premise(d, Goal::Holds(x.a, i), Fresh::Nothing);
     plans::when(
-        (x.letter == plans::BANG) & labels::is_empty(d),
+        (x.letter == letters::BANG) & labels::is_empty(d),
         Plan::One(p),
     )
 }
@@ -71,7 +76,7 @@ pub fn hr(d: u64, x: Row) -> Plan
 {
     let j = Interval { from: x.b, to: x.c };
     plans::when(
-        x.letter == plans::AT,
+        x.letter == letters::AT,
         Plan::One(plans::premise(d, Goal::Holds(x.a, j), Fresh::Nothing)),
     )
 }
@@ -81,7 +86,7 @@ pub fn sr(d: u64, x: Row, i: Interval) -> Plan
     ensures { λ r. ⌜ r ≡ when (is x "s") (Plan.One (premise d (Goal.Affirms (x .b) i (x .a)) Fresh.Nothing)) ⌝ }
 {
     plans::when(
-        x.letter == plans::SAYS,
+        x.letter == letters::SAYS,
         Plan::One(plans::premise(d, Goal::Affirms(x.b, i, x.a), Fresh::Nothing)),
     )
 }
@@ -93,7 +98,7 @@ pub fn wr(d: u64, x: Row, i: Interval) -> Plan
 {
     let p = plans::premise(d, Goal::Holds(x.a, i), Fresh::Nothing);
     let p2 = plans::premise(d, Goal::Holds(x.b, i), Fresh::Nothing);
-    plans::when(x.letter == plans::WITH, Plan::Two(p, p2))
+    plans::when(x.letter == letters::WITH, Plan::Two(p, p2))
 }
 
 // "⊗; left from the share, right from the rest of D."
@@ -109,21 +114,21 @@ pub fn tr(d: u64, x: Row, i: Interval, share: u64) -> Plan
         Fresh::Nothing,
     );
     plans::when(
-        (x.letter == plans::TENSOR) & labels::subset(share, d),
+        (x.letter == letters::TENSOR) & labels::subset(share, d),
         Plan::Two(p, p2),
     )
 }
 
 // "D holds just L, an atom equal to the goal; L's window ⊇ goal's. Closes." Label k stands for h, whose row is y.
 pub fn ax(d: u64, x: Row, i: Interval, k: u32, h: Hypothesis, y: Row) -> Plan
-    requires { ⌜ k < 64 ⌝ }
+    requires { ⌜ k < labelCount ⌝ }
     ensures { λ r. ⌜ r ≡ when (is x "a") (when (isJust d k
         && ((is y "a" && (eqb (y .a) (x .a) && eqb (y .b) (x .b))) && contains (h .interval) i)) Plan.Closed) ⌝ }
 {
     let j = h.interval;
-    let same = (y.letter == plans::ATOM) & ((y.a == x.a) & (y.b == x.b));
+    let same = (y.letter == letters::ATOM) & ((y.a == x.a) & (y.b == x.b));
     plans::when(
-        (x.letter == plans::ATOM) & (labels::is_just(d, k) & (same & plans::contains(j, i))),
+        (x.letter == letters::ATOM) & (labels::is_just(d, k) & (same & plans::contains(j, i))),
         Plan::Closed,
     )
 }

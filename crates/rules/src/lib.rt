@@ -1,10 +1,12 @@
 // The rules: what a step does at a sequent, as a plan. Nothing here calls itself.
 use logic::Interval;
+use request::ranges;
 use steps::Fresh;
 use steps::Goal;
 use steps::Plan;
 use steps::Sequent;
 use store::Store;
+use tables::LabelRows;
 use tables::StepRow;
 use tables::held;
 use tables::lines;
@@ -16,7 +18,7 @@ ghost use Rattle.tables.specs.Held.{heldAt};
 ghost use Rattle.tables.specs.Lines.{stepOf};
 
 // The right steps and `ax`, at the goal of formula n at i.
-fn at_right(store: &Store, table: &[u32; 192], q: Sequent, n: u32, i: Interval, s: StepRow) -> Plan
+fn at_right(store: &Store, table: &LabelRows, q: Sequent, n: u32, i: Interval, s: StepRow) -> Plan
     requires { ⌜ (1 ≤ s .op) × (s .op ≤ 10) ⌝ }
     ensures { λ r. ⌜ r ≡ planOf (rowAt (now (store .entry))) (heldAt (now (table .entry))) (q .unrestricted)
         (q .linear) (Goal.Holds n i) (stepOf s) ⌝ }
@@ -36,7 +38,7 @@ fn at_right(store: &Store, table: &[u32; 192], q: Sequent, n: u32, i: Interval, 
         9 => right_steps::tr(d, x, i, lines::share(s)),
         // `ax`, 10: the last of them
         _ => {
-            if 64 <= s.label {
+            if ranges::LABELS <= s.label {
                 return Plan::Refused;
             }
             let h = held::held_at(table, s.label);
@@ -46,7 +48,7 @@ fn at_right(store: &Store, table: &[u32; 192], q: Sequent, n: u32, i: Interval, 
 }
 
 // The left steps: the label is in D.
-fn at_left(store: &Store, table: &[u32; 192], q: Sequent, s: StepRow) -> Plan
+fn at_left(store: &Store, table: &LabelRows, q: Sequent, s: StepRow) -> Plan
     requires { ⌜ 12 ≤ s .op ⌝ }
     ensures { λ r. ⌜ r ≡ planOf (rowAt (now (store .entry))) (heldAt (now (table .entry))) (q .unrestricted)
         (q .linear) (q .goal) (stepOf s) ⌝ }
@@ -83,7 +85,7 @@ fn at_left(store: &Store, table: &[u32; 192], q: Sequent, s: StepRow) -> Plan
 }
 
 // What a step does at a sequent (document 01: the table of steps).
-pub fn rule(store: &Store, table: &[u32; 192], q: Sequent, s: StepRow) -> Plan
+pub fn rule(store: &Store, table: &LabelRows, q: Sequent, s: StepRow) -> Plan
     ensures { λ r. ⌜ r ≡ planOf (rowAt (now (store .entry))) (heldAt (now (table .entry))) (q .unrestricted)
         (q .linear) (q .goal) (stepOf s) ⌝ }
 {

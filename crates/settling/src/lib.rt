@@ -8,6 +8,9 @@ use request::Kind;
 use steps::Goal;
 use steps::Sequent;
 use store::Store;
+use tables::LabelRows;
+use tables::Serials;
+use tables::StepRows;
 use verdicts::Verdict;
 ghost use mathlib.Core.Path.{_≡_};
 ghost use Rattle.premises.specs.Begin.{sequent};
@@ -43,9 +46,9 @@ fn refusal(c: Checked) -> Answer
 pub fn book_steps(
     till: &mut Store,
     head: Head,
-    serials: &[u32; 32],
-    rows: &[u32; 1536],
-    table: &mut [u32; 192],
+    serials: &Serials,
+    rows: &StepRows,
+    table: &mut LabelRows,
     sides: Sides,
 ) -> Answer
     requires { ⌜ Steppable (now till) head (now serials) (now rows) (now table) sides ⌝ }

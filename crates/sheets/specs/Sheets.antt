@@ -1,8 +1,9 @@
 -- The sheets of a stream of bytes: "A second program, `tillrun`, reads standard input, sheets parted by an empty line".
 use mathlib.Core.List.{List, [], _∷_, _++_}
 use mathlib.Core.Bool.{Bool, true, false, _&&_, _||_}
-use Prim.Native.Nat.{ℕ}
+use Prim.Native.Nat.{ℕ, _+_}
 use lib.Dec.{eqb}
+use Rattle.request.specs.Range.{maxBytes}
 
 -- What has come of a stream: the sheets that an empty line has ended, the bytes after the last of these lines, and
 -- whether a line begins here, where a byte 10 is an empty line.
@@ -49,4 +50,4 @@ lineBegins fresh (x ∷ xs) = lineBegins (eqb x 10) xs
 -- One byte more than a sheet may have: of an overlong sheet the rest is skipped, and what is kept is refused with 1
 -- just as the whole.
 abbrev pub most : ℕ
-most = 16385
+most = maxBytes + 1

@@ -1,5 +1,5 @@
 // The bytes of a stream (specs/Sheets.antt): the search for the end of a sheet, and the bytes of a sheet that has
-// begun, kept up to 16,385.
+// begun, kept up to one more than a sheet may have.
 ghost use mathlib.Core.Path.{_≡_};
 ghost use mathlib.Core.Bool.{false};
 ghost use Prim.Native.Nat.{_+_, _≤_, _<_};
@@ -8,6 +8,9 @@ ghost use Rattle.sheets.specs.Sheets.{emptyLine, most};
 ghost use Rattle.sheets.specs.Ends.{BothTen, Skipped, EndIs};
 ghost use Rattle.sheets.specs.Keeping.{Kept};
 ghost use Rattle.sheets.specs.Statements.{ReadBack, AllParts, InPieces, RestSkipped};
+
+// How many bytes of a sheet are kept: one more than a sheet may have.
+pub const MOST: usize = request::ranges::MAX_BYTES + 1;
 
 // Where the first empty line stands; or that there is none, and whether a line begins after the bytes.
 pub enum End {
@@ -85,12 +88,12 @@ fn copy(begun: &mut [u8], held: usize, bytes: &[u8]) -> usize
     held + i
 }
 
-// The bytes after those held; past 16,385 they are dropped.
+// The bytes after those held; past `MOST` they are dropped.
 pub fn keep(begun: &mut [u8], held: usize, bytes: &[u8]) -> usize
     requires { ⌜ (length (now begun) ≡ most) × (held ≤ most) ⌝ }
     ensures { λ r. ⌜ Kept (now (begun .entry)) held (now (bytes .entry)) (now (begun .exit)) r ⌝ }
 {
-    let room = 16385 - held;
+    let room = MOST - held;
     if bytes.len() <= room {
         return copy(begun, held, bytes);
     }
@@ -98,7 +101,7 @@ pub fn keep(begun: &mut [u8], held: usize, bytes: &[u8]) -> usize
 }
 
 // Does nothing: that it is proved says that sheets with an empty line after each are read as just these, that every
-// stream is of that form, in whatever pieces it comes, and that 16,385 bytes of a sheet get the answer of the whole.
+// stream is of that form, in whatever pieces it comes, and that `MOST` bytes of a sheet get the answer of the whole.
 pub fn sheets_of_streams()
     ensures read_back { λ _. ⌜ ReadBack ⌝ }
     ensures all_parts { λ _. ⌜ AllParts ⌝ }

@@ -3,6 +3,7 @@ use mathlib.Core.Path.{_≡_, refl, sym, ap, _∙_}
 use mathlib.Core.List.{List, [], _∷_, map}
 use mathlib.Core.Option.{Option, none, some}
 use Prim.Native.Nat.{ℕ, _+_, _*_, _/_, _%_, _≤_, _<_}
+use Prim.Native.Char.{Char, code}
 use Prim.Native.String.{String}
 use native.Mathlib.Omega.{arith}
 use lib.Dec.{eqb, ltb}
@@ -15,7 +16,7 @@ use Rattle.request.specs.Reader.{Reader, return, _>>=_, next, named, choose, wh
 use Rattle.request.specs.Request.{Step}
 use Rattle.request.specs.Read.{number, labelSet, interval, labelled, stepLine, holdLine}
 use Rattle.tables.specs.declared.StepRow.{StepRow}
-use Rattle.tables.specs.Lines.{stepRow, stepOf}
+use Rattle.tables.specs.Lines.{half, stepRow, stepOf}
 use Rattle.numbers.specs.Field.{fieldTo, strip}
 use Rattle.forms.specs.Line.{readLine, lookup, intervalTo}
 use Rattle.step_lines.specs.Step.{ops, opOf, labelReader, stepReader}
@@ -51,19 +52,28 @@ hold-none b e = no-word _ b refl ((e, refl), tt)
 
 -- The number of a step
 
-pub op-at : (a b n : ℕ) → b < 256 → a * 256 + b ≡ n → opOf (n / 256 ∷ n % 256 ∷ []) ≡ opOf (a ∷ b ∷ [])
+-- each letter of a word is below it
+abbrev base : ℕ
+base = 256
+
+pub op-at : (a b n : ℕ) → b < base → a * base + b ≡ n → opOf (n / base ∷ n % base ∷ []) ≡ opOf (a ∷ b ∷ [])
 op-at a b n h e =
-    let p : n / 256 ≡ a = omega arith in
-    let q : n % 256 ≡ b = omega arith in
+    let p : n / base ≡ a = omega arith in
+    let q : n % base ≡ b = omega arith in
     rw (p, q)
 
--- the words' numbers
+-- a word's two letters as one number
+abbrev word : Char → Char → ℕ
+word a b = code a * base + code b
+
 abbrev keys : List ℕ
 keys =
-    30060 ∷ 27756 ∷ 28780 ∷ 29804 ∷ 29548 ∷ 26732 ∷ 25196 ∷ 30514 ∷ 30513 ∷ 28524 ∷ 25456 ∷ 24952 ∷ 29810 ∷ 30578 ∷
-    29554 ∷ 26738 ∷ 25202 ∷ 28722 ∷ 28721 ∷ 26482 ∷ 28530 ∷ 24934 ∷ []
+    word "u" "l" ∷ word "l" "l" ∷ word "p" "l" ∷ word "t" "l" ∷ word "s" "l" ∷ word "h" "l" ∷
+    word "b" "l" ∷ word "w" "2" ∷ word "w" "1" ∷ word "o" "l" ∷ word "c" "p" ∷ word "a" "x" ∷
+    word "t" "r" ∷ word "w" "r" ∷ word "s" "r" ∷ word "h" "r" ∷ word "b" "r" ∷ word "p" "2" ∷
+    word "p" "1" ∷ word "g" "r" ∷ word "o" "r" ∷ word "a" "f" ∷ []
 
-pub op-none : (a b : ℕ) → Others (a * 256 + b) keys → opOf (a ∷ b ∷ []) ≡ 22
+pub op-none : (a b : ℕ) → Others (a * base + b) keys → opOf (a ∷ b ∷ []) ≡ 22
 unfolding opOf ops bytes
 op-none a b n = no-key (a ∷ b ∷ []) keys n 22 ops refl
 
@@ -118,16 +128,16 @@ module _ (b : List ℕ) where
   implies-line = both-last (number-shape label) interval-shape Step.ul b
 
 -- a set of labels from its halves
-halves : (v : ℕ) → v / 4294967296 * 4294967296 + v % 4294967296 ≡ v
+halves : (v : ℕ) → v / half * half + v % half ≡ v
 halves v = omega arith
 
 pub set-halves : (v : ℕ) (b : List ℕ)
-    → _≡_ {A = Option (Step × List ℕ)} (some (Step.tr (v / 4294967296 * 4294967296 + v % 4294967296), b))
+    → _≡_ {A = Option (Step × List ℕ)} (some (Step.tr (v / half * half + v % half), b))
     (some (Step.tr v, b))
 set-halves v b = ap (λ x. some (Step.tr x, b)) (halves v)
 
 pub lolli-halves : (l v : ℕ) (j : Interval) (b : List ℕ)
-    → _≡_ {A = Option (Step × List ℕ)} (some (Step.ll l (v / 4294967296 * 4294967296 + v % 4294967296) j, b))
+    → _≡_ {A = Option (Step × List ℕ)} (some (Step.ll l (v / half * half + v % half) j, b))
     (some (Step.ll l v j, b))
 lolli-halves l v j b = ap (λ x. some (Step.ll l x j, b)) (halves v)
 

@@ -4,6 +4,7 @@ use numbers::Decimal;
 use numbers::Prefix;
 use numbers::number;
 use numbers::past;
+use request::ranges;
 ghost use mathlib.Core.Path.{_≡_};
 ghost use Prim.Native.Nat.{_≤_};
 ghost use lib.ListN.{length, drop};
@@ -21,7 +22,7 @@ pub fn read_hold(s: &[u8], at: u32) -> HoldLine
     let Prefix::Past(i) = p else {
         return HoldLine::Broken;
     };
-    let f = number(s, i, 1, 999999, 10);
+    let f = number(s, i, ranges::SERIAL_FIRST, ranges::SERIAL_LAST, 10);
     let Decimal::Number(n, j) = f else {
         return HoldLine::Broken;
     };

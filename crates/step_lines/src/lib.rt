@@ -1,6 +1,7 @@
 // Hold lines and step lines of a booking, read by positions. This file has the types of the answers.
 pub mod hold_lines;
 pub mod rows;
+mod words;
 
 use tables::StepRow;
 

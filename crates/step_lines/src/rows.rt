@@ -1,12 +1,15 @@
 // Step lines as rows.
 use crate::StepLine;
+use crate::words;
 use forms::Span;
 use forms::formulas::interval;
 use numbers::Decimal;
 use numbers::Labels;
 use numbers::label_set;
 use numbers::number;
+use request::ranges;
 use tables::StepRow;
+use tables::lines::HALF;
 ghost use mathlib.Core.Path.{_≡_};
 ghost use mathlib.Core.List.{[], _∷_};
 ghost use Prim.Native.Nat.{_≤_};
@@ -21,30 +24,30 @@ ghost use Rattle.step_lines.specs.Step.{opOf, stepReader, labelReader, s
 fn op_of(a: u8, b: u8) -> u32
     ensures { λ r. ⌜ r ≡ opOf (a ∷ b ∷ []) ⌝ }
 {
-    let n = (a as u32) * 256 + (b as u32);
+    let n = (a as u32) * words::BASE + (b as u32);
     match n {
-        24934 => 0,
-        28530 => 1,
-        26482 => 2,
-        28721 => 3,
-        28722 => 4,
-        25202 => 5,
-        26738 => 6,
-        29554 => 7,
-        30578 => 8,
-        29810 => 9,
-        24952 => 10,
-        25456 => 11,
-        28524 => 12,
-        30513 => 13,
-        30514 => 14,
-        25196 => 15,
-        26732 => 16,
-        29548 => 17,
-        29804 => 18,
-        28780 => 19,
-        27756 => 20,
-        30060 => 21,
+        words::AF => 0,
+        words::OR => 1,
+        words::GR => 2,
+        words::P1 => 3,
+        words::P2 => 4,
+        words::BR => 5,
+        words::HR => 6,
+        words::SR => 7,
+        words::WR => 8,
+        words::TR => 9,
+        words::AX => 10,
+        words::CP => 11,
+        words::OL => 12,
+        words::W1 => 13,
+        words::W2 => 14,
+        words::BL => 15,
+        words::HL => 16,
+        words::SL => 17,
+        words::TL => 18,
+        words::PL => 19,
+        words::LL => 20,
+        words::UL => 21,
         _ => 22,
     }
 }
@@ -58,8 +61,8 @@ fn set_fields(s: &[u8], at: u32) -> StepLine
     let Labels::Set(v, i) = f else {
         return StepLine::Broken;
     };
-    let high = (v / 4294967296) as u32;
-    let low = (v % 4294967296) as u32;
+    let high = (v / HALF) as u32;
+    let low = (v % HALF) as u32;
     StepLine::Step(
         StepRow {
             op: 9,
@@ -78,7 +81,7 @@ fn label_fields(s: &[u8], at: u32, op: u32) -> StepLine
     requires { ⌜ length (now s) ≤ maxBytes ⌝ }
     ensures { λ r. ⌜ stepLineOf (now (s .entry)) r ≡ readLine (labelReader op) (drop at (now (s .entry))) ⌝ }
 {
-    let f = number(s, at, 0, 63, 10);
+    let f = number(s, at, 0, ranges::LABEL_LAST, 10);
     let Decimal::Number(label, i) = f else {
         return StepLine::Broken;
     };
@@ -100,7 +103,7 @@ fn lolli_fields(s: &[u8], at: u32) -> StepLine
     requires { ⌜ length (now s) ≤ maxBytes ⌝ }
     ensures { λ r. ⌜ stepLineOf (now (s .entry)) r ≡ readLine (stepReader 20) (drop at (now (s .entry))) ⌝ }
 {
-    let f = number(s, at, 0, 63, 44);
+    let f = number(s, at, 0, ranges::LABEL_LAST, 44);
     let Decimal::Number(label, i) = f else {
         return StepLine::Broken;
     };
@@ -112,8 +115,8 @@ fn lolli_fields(s: &[u8], at: u32) -> StepLine
     let Span::Minutes(w, k) = h else {
         return StepLine::Broken;
     };
-    let high = (v / 4294967296) as u32;
-    let low = (v % 4294967296) as u32;
+    let high = (v / HALF) as u32;
+    let low = (v % HALF) as u32;
     StepLine::Step(
         StepRow {
             op: 20,
@@ -132,7 +135,7 @@ fn implies_fields(s: &[u8], at: u32) -> StepLine
     requires { ⌜ length (now s) ≤ maxBytes ⌝ }
     ensures { λ r. ⌜ stepLineOf (now (s .entry)) r ≡ readLine (stepReader 21) (drop at (now (s .entry))) ⌝ }
 {
-    let f = number(s, at, 0, 63, 44);
+    let f = number(s, at, 0, ranges::LABEL_LAST, 44);
     let Decimal::Number(label, i) = f else {
         return StepLine::Broken;
     };

@@ -4,7 +4,7 @@ use mathlib.Core.Bool.{true, false}
 use Prim.Native.Nat.{ℕ, zero, suc, _+_, _-_}
 use lib.Dec.{leb}
 use lib.ListN.{length}
-use Rattle.request.specs.Range.{label}
+use Rattle.request.specs.Range.{labelCount}
 use Rattle.request.specs.Request.{Step}
 use Rattle.labels.specs.Labels.{insert}
 use Rattle.steps.specs.declared.Row.{Row}
@@ -19,7 +19,7 @@ use Rattle.steps.specs.Plans.{planOf}
 
 -- labels 0 to 63
 unfoldable pub maxLabels : ℕ
-maxLabels = label .last + 1
+maxLabels = labelCount
 
 -- what takes new labels, on the linear side and on the unrestricted
 abbrev pub linears : Fresh → List Hypothesis

@@ -1,5 +1,6 @@
 // Steps: what a step line asks of a sequent and what it leaves. This file has the types that definitions and code
-// share; specs/ has the definitions.
+// share, src/letters.rt the letters of formula lines; specs/ has the definitions.
+pub mod letters;
 
 // A formula's line as a row of numbers: the letter's byte and its fields, 0 where it has none.
 pub struct Row {

@@ -3,6 +3,7 @@
 // is, and what holds of every store. Here the array is started and read; `formula_rows` and `credentials` change it.
 use ledger::Credential;
 use steps::Row;
+use steps::letters;
 ghost use mathlib.Core.Path.{_≡_};
 ghost use Prim.Native.Nat.{_<_};
 ghost use lib.ListN.{length};
@@ -14,14 +15,11 @@ ghost use Rattle.store.specs.Store.{ledgerOf, Good, StandsFor};
 
 pub type Store = cells::Store;
 
-// the letter of 1
-const ONE: u32 = b'o' as u32;
-
 // The empty ledger.
 pub fn start(store: &mut Store)
     ensures { λ _. ⌜ StandsFor (now (store .exit)) empty ⌝ }
 {
-    *store = [0u32; 7748];
+    *store = [0u32; cells::CELLS];
     cells::put_next(store, 1);
 }
 
@@ -49,13 +47,13 @@ pub fn next_serial(store: &Store) -> u32
 pub fn row_at(store: &Store, n: u32) -> Row
     ensures { λ r. ⌜ r ≡ rowAt (now (store .entry)) n ⌝ }
 {
-    if n < 200 {
+    if n < ledger::MAX_FORMULAS {
         if n < cells::line_count(store) {
             return cells::line_row(store, n);
         }
     }
     Row {
-        letter: ONE,
+        letter: letters::ONE,
         a: 0,
         b: 0,
         c: 0,

@@ -2,15 +2,13 @@
 // (sheets/specs/Sheets.antt).
 use sheets::End;
 use store::Store;
+use tables::StepRows;
 ghost use mathlib.Core.List.{_++_};
 ghost use Prim.Native.Nat.{_<_};
 ghost use lib.ListN.{length, take};
 ghost use Rattle.store.specs.Store.{Good};
 ghost use Rattle.print.specs.Printed.{longest, Room};
 ghost use Rattle.stream.specs.Stream.{Said, Ready, Took, TookSome, Ended};
-
-// Lent to each call for a booking's step lines.
-pub type Rows = [u32; 1536];
 
 // How many bytes of the sheet are held, whether a line begins, and how many bytes of text wait to be written.
 pub struct Place {
@@ -26,7 +24,7 @@ struct Taken {
 }
 
 // Answers a sheet and puts the answer's line into the text.
-fn answer(till: &mut Store, rows: &mut Rows, sheet: &[u8], text: &mut [u8], at: usize) -> usize
+fn answer(till: &mut Store, rows: &mut StepRows, sheet: &[u8], text: &mut [u8], at: usize) -> usize
     requires { ⌜ Good (now till) × Room (now text) at longest ⌝ }
     ensures { λ r. ⌜ Said (now (till .entry)) (now (sheet .entry)) (now (text .entry)) at
         (now (till .exit)) (now (text .exit)) r ⌝ }
@@ -39,7 +37,7 @@ fn answer(till: &mut Store, rows: &mut Rows, sheet: &[u8], text: &mut [u8], at: 
 // it lies.
 fn answer_ended(
     till: &mut Store,
-    rows: &mut Rows,
+    rows: &mut StepRows,
     begun: &mut [u8],
     text: &mut [u8],
     place: Place,
@@ -59,7 +57,7 @@ fn answer_ended(
 // Takes the bytes of a piece up to its first empty line, or all.
 fn take_sheet(
     till: &mut Store,
-    rows: &mut Rows,
+    rows: &mut StepRows,
     begun: &mut [u8],
     text: &mut [u8],
     place: Place,
@@ -100,7 +98,7 @@ fn take_sheet(
 // Takes a piece of the input.
 pub fn feed(
     till: &mut Store,
-    rows: &mut Rows,
+    rows: &mut StepRows,
     begun: &mut [u8],
     text: &mut [u8],
     place: Place,
@@ -123,7 +121,7 @@ pub fn feed(
 // The input has ended: bytes that no empty line has ended are one more sheet.
 pub fn finish(
     till: &mut Store,
-    rows: &mut Rows,
+    rows: &mut StepRows,
     begun: &[u8],
     text: &mut [u8],
     place: Place,

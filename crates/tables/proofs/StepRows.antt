@@ -10,7 +10,7 @@ use lib.ListN.{length, getD}
 use lib.Seq.{sets, length-sets}
 use Rattle.request.specs.Request.{Step}
 use Rattle.tables.specs.declared.StepRow.{StepRow}
-use Rattle.tables.specs.Lines.{stepRowAt, putStepRow, stepOf, stepAt, stepsFrom}
+use Rattle.tables.specs.Lines.{stepWidth, stepPlace, stepRowAt, putStepRow, stepOf, stepAt, stepsFrom}
 use Rattle.logic.proofs.Stores.{sets-outside, sets-in}
 
 abbrev cells : StepRow → List ℕ
@@ -18,16 +18,16 @@ cells r = r .op ∷ r .label ∷ r .high ∷ r .low ∷ r .from ∷ r .to ∷ []
 
 pub length-put : (l : List ℕ) (k : ℕ) (r : StepRow) → length (putStepRow l k r) ≡ length l
 unfolding putStepRow
-length-put l k r = length-sets l (k * 6) (cells r)
+length-put l k r = length-sets l (stepPlace k) (cells r)
 
-row-put : (l : List ℕ) (k : ℕ) (r : StepRow) → k * 6 + 6 ≤ length l → stepRowAt (putStepRow l k r) k ≡ r
+row-put : (l : List ℕ) (k : ℕ) (r : StepRow) → stepPlace k + stepWidth ≤ length l → stepRowAt (putStepRow l k r) k ≡ r
 unfolding stepRowAt putStepRow
 row-put l k r h =
-    let at : (f : ℕ) → f < 6 → getD (sets l (k * 6) (cells r)) (k * 6 + f) 0 ≡ getD (cells r) f 0 =
-    λ f m. sets-in 0 (cells r) l (k * 6) f h m in
-    let first : k * 6 ≡ k * 6 + 0 = omega arith in
+    let at : (f : ℕ) → f < stepWidth → getD (sets l (stepPlace k) (cells r)) (stepPlace k + f) 0 ≡ getD (cells r) f 0 =
+    λ f m. sets-in 0 (cells r) l (stepPlace k) f h m in
+    let first : stepPlace k ≡ stepPlace k + 0 = omega arith in
     λ i. record {
-      op = (ap (λ (n : ℕ). getD (sets l (k * 6) (cells r)) n 0) first ∙ at 0 (omega arith)) i;
+      op = (ap (λ (n : ℕ). getD (sets l (stepPlace k) (cells r)) n 0) first ∙ at 0 (omega arith)) i;
       label = at 1 (omega arith) i;
       high = at 2 (omega arith) i;
       low = at 3 (omega arith) i;
@@ -38,9 +38,10 @@ row-put l k r h =
 row-kept : (l : List ℕ) (k j : ℕ) (r : StepRow) → (j ≡ k → ⊥) → stepRowAt (putStepRow l k r) j ≡ stepRowAt l j
 unfolding stepRowAt putStepRow
 row-kept l k j r d =
-    let kept : (f : ℕ) → f < 6 → getD (sets l (k * 6) (cells r)) (j * 6 + f) 0 ≡ getD l (j * 6 + f) 0 =
-    λ f m. sets-outside 0 (cells r) l (k * 6) (j * 6 + f) (apart f m (decLt j k)) in
-    let first : j * 6 + 0 ≡ j * 6 = omega arith in
+    let kept : (f : ℕ) → f < stepWidth
+    → getD (sets l (stepPlace k) (cells r)) (stepPlace j + f) 0 ≡ getD l (stepPlace j + f) 0 =
+    λ f m. sets-outside 0 (cells r) l (stepPlace k) (stepPlace j + f) (apart f m (decLt j k)) in
+    let first : stepPlace j + 0 ≡ stepPlace j = omega arith in
     λ i. record {
       op = (rw first at (kept 0 (omega arith))) i;
       label = kept 1 (omega arith) i;
@@ -50,7 +51,8 @@ row-kept l k j r d =
       to = kept 5 (omega arith) i;
     }
   where
-    apart : (f : ℕ) → f < 6 → Dec (j < k) → (j * 6 + f < k * 6) ⊎ (k * 6 + 6 ≤ j * 6 + f)
+    apart : (f : ℕ) → f < stepWidth → Dec (j < k)
+        → (stepPlace j + f < stepPlace k) ⊎ (stepPlace k + stepWidth ≤ stepPlace j + f)
     apart f m (yes y) = inl (omega arith)
     apart f m (no y) = inr (omega (arith, y, d))
 
@@ -76,7 +78,7 @@ from-more l j (suc n) =
     let e : suc j + n ≡ j + suc n = omega arith in
     ap (stepAt l j ∷_) (from-more l (suc j) n ∙ ap (λ (k : ℕ). stepsFrom l (suc j) n ++ (stepAt l k ∷ [])) e)
 
-pub steps-next : (l : List ℕ) (k : ℕ) (r : StepRow) → k * 6 + 6 ≤ length l
+pub steps-next : (l : List ℕ) (k : ℕ) (r : StepRow) → stepPlace k + stepWidth ≤ length l
     → stepsFrom l 0 k ++ (stepOf r ∷ []) ≡ stepsFrom (putStepRow l k r) 0 (k + 1)
 steps-next l k r h =
     let z : 0 + k ≡ k = omega arith in

@@ -1,20 +1,39 @@
--- Step lines as rows: step k's number, label, the high and low 32 bits of its share, from and to stand from 6 k on.
+-- Step lines as rows: step k's number, label, the high and low 32 bits of its share, from and to.
 use mathlib.Core.List.{List, [], _∷_}
 use Prim.Native.Nat.{ℕ, zero, suc, _+_, _*_}
 use lib.ListN.{getD}
 use lib.Seq.{sets}
 use Rattle.logic.specs.Interval.{span}
+use Rattle.request.specs.Range.{steps}
 use Rattle.request.specs.Request.{Step}
 use Rattle.tables.specs.declared.StepRow.{StepRow}
+
+-- how wide a step's row is, how many rows there are, and how long the list
+abbrev pub stepWidth : ℕ
+stepWidth = 6
+
+abbrev pub maxSteps : ℕ
+maxSteps = steps .last
+
+abbrev pub stepCells : ℕ
+stepCells = maxSteps * stepWidth
+
+-- where the row of a step starts
+abbrev pub stepPlace : ℕ → ℕ
+stepPlace k = k * stepWidth
 
 abbrev pub stepRow : ℕ → ℕ → ℕ → ℕ → ℕ → ℕ → StepRow
 stepRow op l h w i j = record { op = op; label = l; high = h; low = w; from = i; to = j }
 
 -- The step of a row
 
+-- a set of labels is kept as two numbers, high and low, each below 2 to the 32
+abbrev pub half : ℕ
+half = 4294967296
+
 -- the set of labels of a row
 abbrev pub share : StepRow → ℕ
-share r = r .high * 4294967296 + r .low
+share r = r .high * half + r .low
 
 abbrev pub implies : StepRow → Step
 implies r = Step.ul (r .label) (span (r .from) (r .to))
@@ -38,11 +57,11 @@ stepOf r = getD makers (r .op) implies r
 
 unfoldable pub stepRowAt : List ℕ → ℕ → StepRow
 stepRowAt l k =
-    stepRow (getD l (k * 6) 0) (getD l (k * 6 + 1) 0) (getD l (k * 6 + 2) 0) (getD l (k * 6 + 3) 0)
-    (getD l (k * 6 + 4) 0) (getD l (k * 6 + 5) 0)
+    stepRow (getD l (stepPlace k) 0) (getD l (stepPlace k + 1) 0) (getD l (stepPlace k + 2) 0)
+    (getD l (stepPlace k + 3) 0) (getD l (stepPlace k + 4) 0) (getD l (stepPlace k + 5) 0)
 
 unfoldable pub putStepRow : List ℕ → ℕ → StepRow → List ℕ
-putStepRow l k r = sets l (k * 6) (r .op ∷ r .label ∷ r .high ∷ r .low ∷ r .from ∷ r .to ∷ [])
+putStepRow l k r = sets l (stepPlace k) (r .op ∷ r .label ∷ r .high ∷ r .low ∷ r .from ∷ r .to ∷ [])
 
 abbrev pub stepAt : List ℕ → ℕ → Step
 stepAt l k = stepOf (stepRowAt l k)

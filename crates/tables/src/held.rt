@@ -1,15 +1,18 @@
-// The table of labels: what each label stands for, three numbers a label.
+// The table of labels.
+use crate::LABEL_WIDTH;
+use crate::LabelRows;
 use logic::Interval;
 use steps::Hypothesis;
 ghost use mathlib.Core.Path.{_≡_};
 ghost use Prim.Native.Nat.{_<_};
+ghost use Rattle.request.specs.Range.{labelCount};
 ghost use Rattle.tables.specs.Held.{heldAt, putHeld};
 
-pub fn held_at(table: &[u32; 192], k: u32) -> Hypothesis
-    requires { ⌜ k < 64 ⌝ }
+pub fn held_at(table: &LabelRows, k: u32) -> Hypothesis
+    requires { ⌜ k < labelCount ⌝ }
     ensures { λ r. ⌜ r ≡ heldAt (now (table .entry)) k ⌝ }
 {
-    let at = (k as usize) * 3;
+    let at = (k as usize) * LABEL_WIDTH;
     Hypothesis {
         formula: table[at],
         interval: Interval {
@@ -19,11 +22,11 @@ pub fn held_at(table: &[u32; 192], k: u32) -> Hypothesis
     }
 }
 
-pub fn put_held(table: &mut [u32; 192], k: u32, h: Hypothesis)
-    requires { ⌜ k < 64 ⌝ }
+pub fn put_held(table: &mut LabelRows, k: u32, h: Hypothesis)
+    requires { ⌜ k < labelCount ⌝ }
     ensures { λ _. ⌜ now (table .exit) ≡ putHeld (now (table .entry)) k h ⌝ }
 {
-    let at = (k as usize) * 3;
+    let at = (k as usize) * LABEL_WIDTH;
     let i = h.interval;
     table[at] = h.formula;
     table[at + 1] = i.from;

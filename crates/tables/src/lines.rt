@@ -1,22 +1,27 @@
-// Step lines as rows, six numbers a step.
+// Step lines as rows.
+use crate::STEP_WIDTH;
 use crate::StepRow;
+use crate::StepRows;
 ghost use mathlib.Core.Path.{_≡_};
 ghost use Prim.Native.Nat.{_<_};
-ghost use Rattle.tables.specs.Lines.{share as shareOf, stepRowAt, putStepRow};
+ghost use Rattle.tables.specs.Lines.{maxSteps, share as shareOf, stepRowAt, putStepRow};
+
+// A set of labels is kept as two numbers, high and low, each below this.
+pub const HALF: u64 = 4_294_967_296;
 
 // The set of labels of a row.
 pub fn share(r: StepRow) -> u64
     ensures { λ d. ⌜ d ≡ shareOf r ⌝ }
 {
-    (r.high as u64) * 4294967296 + r.low as u64
+    (r.high as u64) * HALF + r.low as u64
 }
 
 // The row of step k, from 0.
-pub fn step_at(steps: &[u32; 1536], k: u32) -> StepRow
-    requires { ⌜ k < 256 ⌝ }
+pub fn step_at(steps: &StepRows, k: u32) -> StepRow
+    requires { ⌜ k < maxSteps ⌝ }
     ensures { λ r. ⌜ r ≡ stepRowAt (now (steps .entry)) k ⌝ }
 {
-    let at = (k as usize) * 6;
+    let at = (k as usize) * STEP_WIDTH;
     StepRow {
         op: steps[at],
         label: steps[at + 1],
@@ -27,11 +32,11 @@ pub fn step_at(steps: &[u32; 1536], k: u32) -> StepRow
     }
 }
 
-pub fn put_step(steps: &mut [u32; 1536], k: u32, r: StepRow)
-    requires { ⌜ k < 256 ⌝ }
+pub fn put_step(steps: &mut StepRows, k: u32, r: StepRow)
+    requires { ⌜ k < maxSteps ⌝ }
     ensures { λ _. ⌜ now (steps .exit) ≡ putStepRow (now (steps .entry)) k r ⌝ }
 {
-    let at = (k as usize) * 6;
+    let at = (k as usize) * STEP_WIDTH;
     steps[at] = r.op;
     steps[at + 1] = r.label;
     steps[at + 2] = r.high;

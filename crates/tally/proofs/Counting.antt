@@ -16,25 +16,25 @@ use Rattle.logic.proofs.Multisets.{every-map}
 use Rattle.logic.proofs.Stores.{replicate-is}
 use Rattle.request.specs.Request.{Line}
 use Rattle.ledger.specs.Table.{form, names, rowOf}
-use Rattle.ledger.specs.Checks.{maxSize, maxFormulas}
+use Rattle.ledger.specs.Checks.{maxFormulas}
 use Rattle.ledger.specs.Bounds.{lineAt}
 use Rattle.cells.specs.Layout.{rowAt}
 use Rattle.store.specs.Store.{ledgerOf, Good}
 use Rattle.store.proofs.Views.{row-is}
 use Rattle.parts.specs.Parts.{partsOf}
 use Rattle.parts.proofs.Rows.{parts-row}
-use Rattle.tally.specs.Column.{entry, early, Countable}
+use Rattle.tally.specs.Column.{entry, early, placeUnit, entryMost, Countable}
 use Rattle.tally.specs.Tally.{both, atomBoth, bothRow, atomOf, Blank, Counted}
 use Rattle.tally.proofs.Limits.{both-le}
 use Rattle.tally.proofs.Columns.{column-start, column-next, early-small}
 
 -- an atom's seats and places
 atom-both : (s p t : ℕ)
-    → bit (eqb p seat && eqb t s) + 131072 * bit (eqb p place && eqb t s) ≡ atomBoth s p t
+    → bit (eqb p seat && eqb t s) + placeUnit * bit (eqb p place && eqb t s) ≡ atomBoth s p t
 atom-both s p t = go (eqb t s) (eqb p seat) (eqb p place) refl refl
   where
     go : (a b c : Bool) → eqb p seat ≡ b → eqb p place ≡ c
-        → bit (b && a) + 131072 * bit (c && a) ≡ pick a (pick b 1 (pick c 131072 0)) 0
+        → bit (b && a) + placeUnit * bit (c && a) ≡ pick a (pick b 1 (pick c placeUnit 0)) 0
     go true true true e f = absurd (omega (arith, eqb-true p seat e, eqb-true p place f))
     go true true false e f = omega arith
     go true false true e f = omega arith
@@ -80,7 +80,7 @@ module _ (l : List ℕ) (s : ℕ) where
 
   module _ (g : Good l) where
     pub counted-small : (i : ℕ) (xs : List ℕ) → i ≤ length (ledgerOf l .lines) → Counted l s i xs
-        → (k : ℕ) → entry xs k ≤ 131073 * maxSize
+        → (k : ℕ) → entry xs k ≤ entryMost
     counted-small i xs h c k =
         omega (
           arith,

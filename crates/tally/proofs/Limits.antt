@@ -1,11 +1,12 @@
 -- No formula has more seats or places than its size.
 use mathlib.Core.Bool.{_&&_}
-use Prim.Native.Nat.{ℕ, _*_, _≤_}
+use Prim.Native.Nat.{ℕ, _+_, _*_, _≤_}
 use native.Mathlib.Omega.{arith}
 use lib.Dec.{eqb}
 use Rattle.logic.specs.Formula.{Formula, atom, one, tensor, with, plus, lolli, implies, bang, at, says, superset}
 use Rattle.logic.specs.Formula.{size, count, seat, place}
 use Rattle.logic.proofs.Tests.{bit-le}
+use Rattle.tally.specs.Column.{placeUnit}
 use Rattle.tally.specs.Tally.{both}
 
 pub count-le : (q s : ℕ) (a : Formula) → count q s a ≤ size a
@@ -22,6 +23,6 @@ count-le q s (at a i) = omega (arith, count-le q s a)
 count-le q s (says k a) = omega (arith, count-le q s a)
 count-le q s (superset i j) = omega arith
 
-pub both-le : (s : ℕ) (a : Formula) → both s a ≤ 131073 * size a
+pub both-le : (s : ℕ) (a : Formula) → both s a ≤ (1 + placeUnit) * size a
 unfolding both
 both-le s a = omega (arith, count-le seat s a, count-le place s a)

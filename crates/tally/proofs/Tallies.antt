@@ -22,7 +22,7 @@ use Rattle.store.specs.Tab.{tab}
 use Rattle.store.specs.Store.{ledgerOf, Good}
 use Rattle.store.proofs.Tabs.{length-tab, tab-snoc}
 use Rattle.store.proofs.Live.{live-sum}
-use Rattle.tally.specs.Column.{entry}
+use Rattle.tally.specs.Column.{entry, seatsMost, placeUnit, entryMost}
 use Rattle.tally.specs.Tally.{both, Counted, Shares}
 use Rattle.tally.specs.declared.Share.{Share}
 use Rattle.ledger.proofs.Credentials.{only-sum}
@@ -43,13 +43,13 @@ module _ {A : Type 0} where
   sum-plus h f g e (c ∷ cs) = omega (arith, e c, sum-plus h f g e cs)
 
   -- two sums in one number
-  sum-both : (h f g : A → ℕ) → ((a : A) → h a ≡ f a + 131072 * g a) → (cs : List A)
-      → sum h cs ≡ sum f cs + 131072 * sum g cs
+  sum-both : (h f g : A → ℕ) → ((a : A) → h a ≡ f a + placeUnit * g a) → (cs : List A)
+      → sum h cs ≡ sum f cs + placeUnit * sum g cs
   unfolding sum
   sum-both h f g e [] = refl
   sum-both h f g e (c ∷ cs) = omega (arith, e c, sum-both h f g e cs)
 
-  sum-le : (f : A → ℕ) (n : ℕ) → ((a : A) → f a ≤ 64) → (cs : List A) → length cs ≡ n → sum f cs ≤ 64 * n
+  sum-le : (f : A → ℕ) (n : ℕ) → ((a : A) → f a ≤ maxSize) → (cs : List A) → length cs ≡ n → sum f cs ≤ maxSize * n
   unfolding sum
   sum-le f n b [] e = omega arith
   sum-le f n b (c ∷ cs) e = omega (arith, b c, sum-le f (length cs) b cs refl, e)
@@ -79,25 +79,25 @@ only-zero : (b : Bool) → only b 0 ≡ 0
 only-zero true = refl
 only-zero false = refl
 
-only-both : (b : Bool) (x y z : ℕ) → x ≡ y + 131072 * z → only b x ≡ only b y + 131072 * only b z
+only-both : (b : Bool) (x y z : ℕ) → x ≡ y + placeUnit * z → only b x ≡ only b y + placeUnit * only b z
 only-both true x y z e = e
 only-both false x y z e = omega arith
 
 module _ (t : Ledger) (s : ℕ) where
-  both-of : (c : Credential) → bothOf t s c ≡ seatsOf t s c + 131072 * placesOf t s c
+  both-of : (c : Credential) → bothOf t s c ≡ seatsOf t s c + placeUnit * placesOf t s c
   unfolding both
   both-of c = go (c .kind)
     where
       go : (k : Kind) → byKind k (both s (formula t (c .formula))) 0
           ≡ byKind k (count seat s (formula t (c .formula))) 0
-          + 131072 * byKind k (count place s (formula t (c .formula))) 0
+          + placeUnit * byKind k (count place s (formula t (c .formula))) 0
       go Linear = refl
       go Unrestricted = refl
 
-  seats-le : ((n : ℕ) → size (formula t n) ≤ maxSize) → (c : Credential) → seatsOf t s c ≤ 64
+  seats-le : ((n : ℕ) → size (formula t n) ≤ maxSize) → (c : Credential) → seatsOf t s c ≤ maxSize
   seats-le h c = go (c .kind)
     where
-      go : (k : Kind) → byKind k (count seat s (formula t (c .formula))) 0 ≤ 64
+      go : (k : Kind) → byKind k (count seat s (formula t (c .formula))) 0 ≤ maxSize
       go Linear = omega (arith, count-le seat s (formula t (c .formula)), h (c .formula))
       go Unrestricted = omega arith
 
@@ -118,14 +118,14 @@ shares-some m n {v = v} {w = w} e p q =
 pub record Tallying (l : List ℕ) (s m i a b : ℕ) : Type 0 where
   pub alls : a ≡ sum (bothOf (ledgerOf l) s) (tab i (credentialAt l))
   pub insides : b ≡ sum (insideOf (ledgerOf l) s m) (tab i (credentialAt l))
-  pub small : (a ≤ 8388672 * i) × (b ≤ 8388672 * i)
+  pub small : (a ≤ entryMost * i) × (b ≤ entryMost * i)
 
 -- the figures in them, once all rows are passed
 pub record Summed (l : List ℕ) (s m a b : ℕ) : Type 0 where
-  pub opens : b % 131072 ≡ openSeats (ledgerOf l) s m
-  pub seats : a % 131072 ≡ openSeats (ledgerOf l) s m + shutSeats (ledgerOf l) s m
-  pub places : a / 131072 ≡ placed (ledgerOf l) s
-  pub few : openSeats (ledgerOf l) s m + shutSeats (ledgerOf l) s m ≤ 65536
+  pub opens : b % placeUnit ≡ openSeats (ledgerOf l) s m
+  pub seats : a % placeUnit ≡ openSeats (ledgerOf l) s m + shutSeats (ledgerOf l) s m
+  pub places : a / placeUnit ≡ placed (ledgerOf l) s
+  pub few : openSeats (ledgerOf l) s m + shutSeats (ledgerOf l) s m ≤ seatsMost
 
 module _ (l : List ℕ) (s m : ℕ) where
   pub tally-start : Tallying l s m 0 0 0
@@ -135,10 +135,10 @@ module _ (l : List ℕ) (s m : ℕ) where
   module _ (g : Good l) where
     module _ (xs : List ℕ) (k : Counted l s (length (ledgerOf l .lines)) xs) where
       pub entry-small : {c : Credential} {e : ℕ} {r : Share} (n : ℕ) → e ≡ entry xs n → Shares c m e r
-          → r .all ≤ 8388672
+          → r .all ≤ entryMost
       entry-small {c} {e} {r} n x h = go (c .kind) (h .all)
         where
-          go : (k : Kind) → r .all ≡ byKind k e 0 → r .all ≤ 8388672
+          go : (k : Kind) → r .all ≡ byKind k e 0 → r .all ≤ entryMost
           go Linear y = omega (arith, counted-small l s g (length (ledgerOf l .lines)) xs (omega arith) k n)
           go Unrestricted y = omega arith
 

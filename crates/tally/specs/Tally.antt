@@ -20,15 +20,15 @@ use Rattle.store.specs.Store.{ledgerOf}
 use Rattle.parts.specs.Parts.{partsOf}
 use Rattle.tally.specs.declared.Figures.{Figures}
 use Rattle.tally.specs.declared.Share.{Share}
-use Rattle.tally.specs.Column.{Column}
+use Rattle.tally.specs.Column.{Column, placeUnit}
 
--- seats and places of session s, counted in one number: places in steps of 131,072
+-- seats and places of session s, counted in one number: places in steps of `placeUnit`
 unfoldable pub both : ℕ → Formula → ℕ
-both s a = count seat s a + 131072 * count place s a
+both s a = count seat s a + placeUnit * count place s a
 
 -- the same of an atom, and of a row, where f gives the parts' values
 abbrev pub atomBoth : ℕ → ℕ → ℕ → ℕ
-atomBoth s p t = pick (eqb t s) (pick (eqb p seat) 1 (pick (eqb p place) 131072 0)) 0
+atomBoth s p t = pick (eqb t s) (pick (eqb p seat) 1 (pick (eqb p place) placeUnit 0)) 0
 
 unfoldable pub bothRow : ℕ → (ℕ → ℕ) → Row → ℕ
 bothRow s f r = pick (eqb (r .letter) (code "a")) (atomBoth s (r .a) (r .b)) (sum f (partsOf r))

@@ -1,6 +1,7 @@
 // Columns: a number for each formula, kept by the formula's number while rows are gone through in order.
 use parts::Parts;
 use steps::Row;
+use steps::letters;
 ghost use mathlib.Core.Path.{_≡_};
 ghost use Prim.Native.Nat.{_<_};
 ghost use lib.ListN.{length};
@@ -10,9 +11,15 @@ ghost use Rattle.parts.specs.Parts.{numbers};
 ghost use Rattle.tally.specs.Column.{entry, Addable, Countable};
 ghost use Rattle.tally.specs.Tally.{atomBoth, bothRow};
 
-pub type Column = [u32; 200];
+pub const ENTRIES: usize = ledger::MAX_FORMULAS as usize;
 
-// The entry of a number below 200.
+pub type Column = [u32; ENTRIES];
+
+// A place counts as much as more seats than all rows can have: twice as many, so that seats and places are counted in
+// one number.
+pub const PLACE_UNIT: u32 = 2 * ledger::MAX_SIZE * cells::ROWS;
+
+// The entry of a formula's number.
 pub fn known(column: &Column, n: u32) -> u32
     requires { ⌜ (length (now column) ≡ maxFormulas) × (n < maxFormulas) ⌝ }
     ensures { λ r. ⌜ r ≡ entry (now (column .entry)) n ⌝ }
@@ -32,7 +39,7 @@ fn added(parts: Parts, column: &Column) -> u32
     }
 }
 
-// 1 for the session's seat, 131,072 for its place, else 0.
+// 1 for the session's seat, `PLACE_UNIT` for its place, else 0.
 fn atom(predicate: u32, of: u32, session: u32) -> u32
     ensures { λ r. ⌜ r ≡ atomBoth session predicate of ⌝ }
 {
@@ -41,7 +48,7 @@ fn atom(predicate: u32, of: u32, session: u32) -> u32
             return 1;
         }
         if predicate == parts::PLACE {
-            return 131072;
+            return PLACE_UNIT;
         }
     }
     0
@@ -52,7 +59,7 @@ pub fn count_row(row: Row, session: u32, column: &Column) -> u32
     requires { ⌜ Countable (now column) row ⌝ }
     ensures { λ r. ⌜ r ≡ bothRow session (entry (now (column .entry))) row ⌝ }
 {
-    if row.letter == parts::ATOM {
+    if row.letter == letters::ATOM {
         return atom(row.a, row.b, session);
     }
     added(parts::parts_of(row), column)

@@ -4,6 +4,7 @@ mod column;
 use crate::column::Column;
 use logic::Interval;
 use request::Kind;
+use steps::letters;
 use store::Store;
 ghost use mathlib.Core.Path.{_≡_};
 ghost use Prim.Native.Nat.{_<_};
@@ -14,6 +15,8 @@ ghost use Rattle.ledger.specs.Calls.{only};
 ghost use Rattle.cells.specs.Layout.{rowCount, credentialAt};
 ghost use Rattle.store.specs.Store.{ledgerOf, Good};
 ghost use Rattle.tally.specs.Tally.{Blank, NoneBefore, Counted, Shares, Tallied};
+
+const PLACE_UNIT: u64 = column::PLACE_UNIT as u64;
 
 // The sums of a tally: "open = seats of the session in coupons whose window has the minute, shut = the other seats,
 // placed = places", over the live linear credentials.
@@ -38,7 +41,7 @@ fn first_atom(store: &Store, session: u32) -> u32
     let mut i = 0;
     while i < n {
         let row = store::line_at(store, i);
-        if (row.letter == parts::ATOM) & (row.b == session) {
+        if (row.letter == letters::ATOM) & (row.b == session) {
             return i;
         }
         i += 1;
@@ -100,13 +103,13 @@ fn share_of(store: &Store, i: u32, minute: u32, both: u32) -> Share
     Share { all, inside }
 }
 
-// The tally of a session at a minute: seats and places are added up in one number, places in steps of 131,072, which
-// the seats of 1,024 rows never reach.
+// The tally of a session at a minute: seats and places are added up in one number, places in steps of `PLACE_UNIT`,
+// which the seats of all rows never reach.
 pub fn tally(store: &Store, session: u32, minute: u32) -> Figures
     requires { ⌜ Good (now store) ⌝ }
     ensures { λ r. ⌜ Tallied (now (store .entry)) session minute r ⌝ }
 {
-    let mut counts = [0u32; 200];
+    let mut counts = [0u32; column::ENTRIES];
     count_rows(store, session, &mut counts);
     let n = store::row_count(store);
     let mut all: u64 = 0;
@@ -120,8 +123,8 @@ pub fn tally(store: &Store, session: u32, minute: u32) -> Figures
         inside += added.inside as u64;
         i += 1;
     }
-    let open = (inside % 131072) as u32;
-    let shut = (all % 131072) as u32 - open;
-    let placed = (all / 131072) as u32;
+    let open = (inside % PLACE_UNIT) as u32;
+    let shut = (all % PLACE_UNIT) as u32 - open;
+    let placed = (all / PLACE_UNIT) as u32;
     Figures { open, shut, placed }
 }

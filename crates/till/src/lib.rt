@@ -3,6 +3,7 @@ use ledger::Answer;
 use reader::First;
 use reader::FirstRead;
 use reader::Head;
+use request::ranges;
 use store::Store;
 use verdicts::Verdict;
 ghost use Rattle.store.specs.Store.{Good};
@@ -20,7 +21,7 @@ pub fn answer(till: &mut Store, sheet: &[u8]) -> Reply
     requires { ⌜ Good (now till) ⌝ }
     ensures { λ r. ⌜ Replied (now (till .entry)) (now (sheet .entry)) r (now (till .exit)) ⌝ }
 {
-    let short = verdicts::tested(16384 < sheet.len());
+    let short = verdicts::tested(ranges::MAX_BYTES < sheet.len());
     let Verdict::Passed = short else {
         return Reply::Answered(Answer::Refused(1, 0));
     };

@@ -2,24 +2,33 @@
 // till. What is read in one piece is answered and written before more input is waited for.
 use console::Input;
 use console::Output;
+use request::ranges;
 use store::Store;
 use stream::Place;
-use stream::Rows;
+use tables::StepRows;
 ghost use mathlib.Core.Path.{_≡_};
+ghost use Prim.Native.Nat.{_*_};
 ghost use lib.ListN.{length};
+ghost use Rattle.request.specs.Range.{maxBytes};
 ghost use Rattle.ledger.specs.Ledger.{empty};
 ghost use Rattle.store.specs.Store.{StandsFor};
+ghost use Rattle.print.specs.Printed.{longest};
+ghost use Rattle.sheets.specs.Sheets.{most};
 ghost use Rattle.stream.specs.Stream.{Ready};
 ghost use Rattle.tillrun.specs.Program.{Turned, Played};
 
 // The first bytes of a sheet that has begun: one more than a sheet may have.
-type Begun = [u8; 16385];
-
-// The answers to the sheets of a piece, each of which takes a byte at least, of 36 bytes at most.
-type Text = [u8; 589824];
+type Begun = [u8; sheets::MOST];
 
 // What is read at once.
-type Piece = [u8; 16384];
+const PIECE: usize = ranges::MAX_BYTES;
+
+// The answers to the sheets of a piece, each of which takes a byte at least.
+const TEXT: usize = print::LONGEST * PIECE;
+
+type Text = [u8; TEXT];
+
+type Piece = [u8; PIECE];
 
 // Between two reads: what the state stands for, and what has been read and written.
 struct Turn {
@@ -37,13 +46,13 @@ struct Run {
 // That the buffers are as long as their types say, which a proof is told of arrays by value. They are not read, so that
 // no copy is made.
 fn sized(begun: Begun, text: Text, piece: Piece)
-    ensures { λ _. ⌜ (length begun ≡ 16385) × ((length text ≡ 589824) × (length piece ≡ 16384)) ⌝ }
+    ensures { λ _. ⌜ (length begun ≡ most) × ((length text ≡ longest * maxBytes) × (length piece ≡ maxBytes)) ⌝ }
 {}
 
 // Reads once, answers what came and writes the answers.
 fn next_piece(
     till: &mut Store,
-    rows: &mut Rows,
+    rows: &mut StepRows,
     begun: &mut [u8],
     text: &mut [u8],
     piece: &mut [u8],
@@ -71,7 +80,7 @@ fn next_piece(
 // Plays the input to its end. Where the answers cannot be written, the sheet that has begun is left.
 fn play(
     till: &mut Store,
-    rows: &mut Rows,
+    rows: &mut StepRows,
     begun: &mut Begun,
     text: &mut Text,
     piece: &mut Piece,
@@ -105,11 +114,11 @@ fn play(
 }
 
 fn main() {
-    let mut till = [0u32; 7748];
+    let mut till = [0u32; cells::CELLS];
     store::start(&mut till);
-    let mut begun = [0u8; 16385];
-    let mut text = [0u8; 589824];
-    let mut piece = [0u8; 16384];
-    let mut rows = [0u32; 1536];
+    let mut begun = [0u8; sheets::MOST];
+    let mut text = [0u8; TEXT];
+    let mut piece = [0u8; PIECE];
+    let mut rows = [0u32; tables::STEP_CELLS];
     play(&mut till, &mut rows, &mut begun, &mut text, &mut piece);
 }

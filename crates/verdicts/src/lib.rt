@@ -1,6 +1,7 @@
 // The tests of the checks, each answered by an enum.
 use logic::Interval;
 use request::Kind;
+use request::ranges;
 use steps::Row;
 use store::Store;
 ghost use mathlib.Core.Path.{_≡_};
@@ -116,7 +117,7 @@ pub fn room(till: &Store, held: u32) -> Verdict
     if live <= held {
         return Verdict::Passed;
     }
-    tested(512 <= live - held)
+    tested(ledger::MAX_LIVE <= live - held)
 }
 
 // 23: serial 999,999 was given.
@@ -124,7 +125,7 @@ pub fn unused(till: &Store) -> Verdict
     requires { ⌜ Good (now till) ⌝ }
     ensures { λ r. ⌜ Tells 23 r (usedUp (ledgerOf (now (till .entry)))) ⌝ }
 {
-    tested(999999 < store::next_serial(till))
+    tested(ranges::SERIAL_LAST < store::next_serial(till))
 }
 
 // 30: `now` is not in the goal's interval.

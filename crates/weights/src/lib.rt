@@ -2,6 +2,7 @@
 // line comes; the row keeps the answer.
 use parts::Parts;
 use steps::Row;
+use steps::letters;
 use store::Store;
 ghost use mathlib.Core.Path.{_≡_};
 ghost use Rattle.logic.specs.Weight.{counted};
@@ -38,7 +39,7 @@ fn atom_weight(predicate: u32, of: u32, session: u32) -> u32
 fn alone(row: Row, session: u32) -> Weight
     ensures { λ r. ⌜ r ≡ aloneWeight session row ⌝ }
 {
-    if row.letter == parts::ATOM {
+    if row.letter == letters::ATOM {
         return Weight {
             up: atom_weight(row.a, row.b, session),
             down: 0,
@@ -56,7 +57,7 @@ fn alone(row: Row, session: u32) -> Weight
 fn under(letter: u32, part: Weight) -> Weight
     ensures { λ r. ⌜ r ≡ underWeight letter part ⌝ }
 {
-    if letter == parts::BANG {
+    if letter == letters::BANG {
         return Weight {
             up: part.up,
             down: part.down,
@@ -73,17 +74,17 @@ fn joined(letter: u32, x: Weight, y: Weight) -> Weight
     ensures { λ r. ⌜ r ≡ joinedWeight letter x y ⌝ }
 {
     match letter {
-        parts::TENSOR => Weight {
+        letters::TENSOR => Weight {
             up: x.up + y.up,
             down: x.down + y.down,
             even: x.even & y.even,
         },
-        parts::LOLLI => Weight {
+        letters::LOLLI => Weight {
             up: y.up + x.down,
             down: y.down + x.up,
             even: x.even & y.even,
         },
-        parts::IMPLIES => Weight {
+        letters::IMPLIES => Weight {
             up: y.up,
             down: y.down,
             even: x.even & (y.even & (x.up == x.down)),
@@ -135,7 +136,7 @@ fn fair_within(store: &Store, row: Row, part: Row) -> bool
 {
     match parts::parts_of(part) {
         Parts::Nothing => {
-            if part.letter == parts::ATOM {
+            if part.letter == letters::ATOM {
                 return fair(store, row, part.b);
             }
             true

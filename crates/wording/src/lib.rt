@@ -27,7 +27,7 @@ fn word_named(till: &mut Store, row: Row) -> Answer
     ensures { λ r. ⌜ Handled (now (till .entry)) (wordRequest (lineOf row)) r (now (till .exit)) ⌝ }
 {
     let size = facts::row_size(till, row);
-    let small = verdicts::tested(64 < size);
+    let small = verdicts::tested(ledger::MAX_SIZE < size);
     let Verdict::Passed = small else {
         return Answer::Refused(12, 0);
     };
@@ -35,7 +35,7 @@ fn word_named(till: &mut Store, row: Row) -> Answer
     let Verdict::Passed = new else {
         return Answer::Refused(13, 0);
     };
-    let free = verdicts::tested(200 <= store::formula_count(till));
+    let free = verdicts::tested(ledger::MAX_FORMULAS <= store::formula_count(till));
     let Verdict::Passed = free else {
         return Answer::Refused(14, 0);
     };

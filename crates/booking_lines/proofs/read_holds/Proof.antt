@@ -5,6 +5,7 @@ use native.Mathlib.Omega.{arith}
 use borrow.Author.Needs.{needs}
 use lib.ListN.{length, take, drop, length-set}
 use Rattle.request.specs.Read.{holdLine}
+use Rattle.tables.specs.Held.{maxHolds}
 use Rattle.step_lines.specs.Step.{holdOf}
 use Rattle.numbers.proofs.Then.{told}
 use Rattle.booking_lines.proofs.Several.{prefixed, lines-begin, lines-end, lines-turn, lines-broken}
@@ -15,7 +16,7 @@ use Rattle.booking_lines.proofs.read_holds.Tie as tie
 
 abbrev Inv-loop : tie.InvT-loop
 Inv-loop s at count serials₀ i₀ k₀ serials i k =
-    (k ≤ count) × ((length serials ≡ 32) × (readLines count holdLine (drop at s)
+    (k ≤ count) × ((length serials ≡ maxHolds) × (readLines count holdLine (drop at s)
     ≡ prefixed (take k serials) (readLines (count - k) holdLine (drop i s))))
 
 abbrev μ-loop : tie.MeasureT-loop

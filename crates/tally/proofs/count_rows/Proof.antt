@@ -5,6 +5,7 @@ use native.Mathlib.Omega.{arith}
 use borrow.Author.Needs.{needs}
 use lib.ListN.{length}
 use denote.Ref.{now}
+use Rattle.ledger.specs.Checks.{maxFormulas}
 use Rattle.store.specs.Store.{ledgerOf}
 use Rattle.tally.specs.Column.{Countable}
 use Rattle.tally.specs.Tally.{bothRow, Counted}
@@ -41,8 +42,8 @@ count-row-requires c κs =
     subst (Countable _) (sym (c .before .line-at .ensures))
     (countable (now (s .args .store)) _ (s .pre .0) (at .loop .i) _ (turn (c .before .before)) (at .loop .inv .1))
 
--- the row's number is below 200
-low : (c : tie.After-count-row Inv-loop μ-loop) → c .before .before .before .before .loop .i < 200
+-- the row's number is below `maxFormulas`
+low : (c : tie.After-count-row Inv-loop μ-loop) → c .before .before .before .before .loop .i < maxFormulas
 low c =
     let t = c .before .before .before in
     omega (arith, turn t, t .before .before .before .before .pre .0 .bounded .lines)

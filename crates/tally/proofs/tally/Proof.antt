@@ -6,7 +6,8 @@ use borrow.Author.Needs.{needs}
 use denote.Ref.{now}
 use Rattle.logic.specs.Interval.{has}
 use Rattle.ledger.specs.declared.Credential.{Credential}
-use Rattle.cells.specs.Layout.{rowCount, credentialAt}
+use Rattle.cells.specs.Layout.{maxRows, rowCount, credentialAt}
+use Rattle.tally.specs.Column.{entryMost}
 use Rattle.tally.proofs.Tallies.{Tallying, Summed, only-le, entry-small, tally-start, tally-next, summed}
 use Rattle.tally.proofs.tally.Statement.{statement}
 use Rattle.tally.proofs.tally.Tie as tie
@@ -43,10 +44,10 @@ share-of-requires c κs =
     let k = c .before .before in
     (k .before .before .before .before .before .before .pre, turn (k .before))
 
--- what a row adds is small, and there are at most 1,024 rows
+-- what a row adds is small, and there are at most `maxRows` rows
 record Small (v i : ℕ) : Type 0 where
-  held : v ≤ 8388672
-  few : i < 1024
+  held : v ≤ entryMost
+  few : i < maxRows
 
 small : (c : tie.After-share-of Inv-loop μ-loop)
     → Small (c .share-of .result .all) (c .before .before .before .before .before .loop .i)

@@ -5,6 +5,7 @@ use Prim.Native.Nat.{_-_}
 use native.Mathlib.Omega.{arith}
 use lib.ListN.{length}
 use borrow.Author.Needs.{needs}
+use Rattle.request.specs.Range.{maxBytes}
 use Rattle.stream.proofs.Pieces.{ready-for}
 use Rattle.console.specs.Console.{mostReads, Stopped, GoesOn}
 use Rattle.tillrun.specs.Program.{Going}
@@ -14,7 +15,7 @@ use Rattle.tillrun.proofs.play.Tie as tie
 
 abbrev Inv-loop : tie.InvT-loop
 Inv-loop till₀ rows₀ begun₀ text₀ piece₀ turn₀ till rows begun text piece turn =
-    Going till begun text turn (length piece) × (length piece ≡ 16384)
+    Going till begun text turn (length piece) × (length piece ≡ maxBytes)
 
 abbrev μ-loop : tie.MeasureT-loop
 μ-loop till₀ rows₀ begun₀ text₀ piece₀ turn₀ till rows begun text piece turn = mostReads - turn .input .reads

@@ -1,7 +1,9 @@
 -- `formula_line` meets its contract: a line by its letter.
 use mathlib.Core.Path.{sym, ap, _∙_}
+use Prim.Native.Char.{code}
 use native.Mathlib.Omega.{arith}
 use borrow.Author.Needs.{needs}
+use Rattle.request.specs.Range.{predicate, session, principal, formulaNumber}
 use Rattle.request.specs.Text.{bytes, sameBytes, andThen}
 use Rattle.request.specs.Reader.{named, choose}
 use Rattle.request.specs.Request.{Line}
@@ -45,53 +47,60 @@ formula-line-spec =
     (λ c κs. search needs)
     (λ c. let d = c .before .before .before .before in
     c .two-fields .ensures
-    ∙ sym (ap rowed (letter-fields _ _ (d .before .before .if1 .left) 97 (c .before .match .keys1)
+    ∙ sym (ap rowed (letter-fields _ _ (d .before .before .if1 .left) (code "a") (c .before .match .keys1)
     (c .before .before .if4 .left))
-    ∙ numbers-row _ 255 255 Line.atom (λ i j. ap (λ l. row l i j 0 0) (sym (c .before .match .keys1))) _))
+    ∙ numbers-row _ (predicate .last) (session .last) Line.atom
+    (λ i j. ap (λ l. row l i j 0 0) (sym (c .before .match .keys1))) _))
     (λ c. let d = c .before .before .before .before in
     c .one-field .ensures
-    ∙ sym (ap rowed (letter-fields _ _ (d .before .before .if1 .left) 98 (c .before .match .keys2)
+    ∙ sym (ap rowed (letter-fields _ _ (d .before .before .if1 .left) (code "b") (c .before .match .keys2)
     (c .before .before .if4 .left))
     ∙ one-row _ Line.bang (λ i. ap (λ l. row l i 0 0 0) (sym (c .before .match .keys2))) _))
     (λ c. let d = c .before .before .before .before in
     c .superset-fields .ensures
-    ∙ sym (ap rowed (letter-fields _ _ (d .before .before .if1 .left) 103 (c .before .match .keys3)
+    ∙ sym (ap rowed (letter-fields _ _ (d .before .before .if1 .left) (code "g") (c .before .match .keys3)
     (c .before .before .if4 .left))
     ∙ superset-row _ (c .before .match .keys3) _))
     (λ c. let d = c .before .before .before .before in
     c .at-fields .ensures
-    ∙ sym (ap rowed (letter-fields _ _ (d .before .before .if1 .left) 104 (c .before .match .keys4)
+    ∙ sym (ap rowed (letter-fields _ _ (d .before .before .if1 .left) (code "h") (c .before .match .keys4)
     (c .before .before .if4 .left))
     ∙ at-row _ (c .before .match .keys4) _))
     (λ c. let d = c .before .before .before .before in
     c .two-fields2 .ensures
-    ∙ sym (ap rowed (letter-fields _ _ (d .before .before .if1 .left) 115 (c .before .match .keys5)
+    ∙ sym (ap rowed (letter-fields _ _ (d .before .before .if1 .left) (code "s") (c .before .match .keys5)
     (c .before .before .if4 .left))
-    ∙ numbers-row _ 255 999 Line.says (λ i j. ap (λ l. row l i j 0 0) (sym (c .before .match .keys5))) _))
+    ∙ numbers-row _ (principal .last) (formulaNumber .last) Line.says
+    (λ i j. ap (λ l. row l i j 0 0) (sym (c .before .match .keys5))) _))
     (λ c. let d = c .before .before .before .before in
     c .two-fields3 .ensures
-    ∙ sym (ap rowed (letter-fields _ _ (d .before .before .if1 .left) 108 (c .before .match .keys6)
+    ∙ sym (ap rowed (letter-fields _ _ (d .before .before .if1 .left) (code "l") (c .before .match .keys6)
     (c .before .before .if4 .left))
-    ∙ numbers-row _ 999 999 Line.lolli (λ i j. ap (λ l. row l i j 0 0) (sym (c .before .match .keys6))) _))
+    ∙ numbers-row _ (formulaNumber .last) (formulaNumber .last) Line.lolli
+    (λ i j. ap (λ l. row l i j 0 0) (sym (c .before .match .keys6))) _))
     (λ c. let d = c .before .before .before .before in
     c .two-fields4 .ensures
-    ∙ sym (ap rowed (letter-fields _ _ (d .before .before .if1 .left) 112 (c .before .match .keys7)
+    ∙ sym (ap rowed (letter-fields _ _ (d .before .before .if1 .left) (code "p") (c .before .match .keys7)
     (c .before .before .if4 .left))
-    ∙ numbers-row _ 999 999 Line.plus (λ i j. ap (λ l. row l i j 0 0) (sym (c .before .match .keys7))) _))
+    ∙ numbers-row _ (formulaNumber .last) (formulaNumber .last) Line.plus
+    (λ i j. ap (λ l. row l i j 0 0) (sym (c .before .match .keys7))) _))
     (λ c. let d = c .before .before .before .before in
     c .two-fields5 .ensures
-    ∙ sym (ap rowed (letter-fields _ _ (d .before .before .if1 .left) 116 (c .before .match .keys8)
+    ∙ sym (ap rowed (letter-fields _ _ (d .before .before .if1 .left) (code "t") (c .before .match .keys8)
     (c .before .before .if4 .left))
-    ∙ numbers-row _ 999 999 Line.tensor (λ i j. ap (λ l. row l i j 0 0) (sym (c .before .match .keys8))) _))
+    ∙ numbers-row _ (formulaNumber .last) (formulaNumber .last) Line.tensor
+    (λ i j. ap (λ l. row l i j 0 0) (sym (c .before .match .keys8))) _))
     (λ c. let d = c .before .before .before .before in
     c .two-fields6 .ensures
-    ∙ sym (ap rowed (letter-fields _ _ (d .before .before .if1 .left) 117 (c .before .match .keys9)
+    ∙ sym (ap rowed (letter-fields _ _ (d .before .before .if1 .left) (code "u") (c .before .match .keys9)
     (c .before .before .if4 .left))
-    ∙ numbers-row _ 999 999 Line.implies (λ i j. ap (λ l. row l i j 0 0) (sym (c .before .match .keys9))) _))
+    ∙ numbers-row _ (formulaNumber .last) (formulaNumber .last) Line.implies
+    (λ i j. ap (λ l. row l i j 0 0) (sym (c .before .match .keys9))) _))
     (λ c. let d = c .before .before .before .before in
     c .two-fields7 .ensures
-    ∙ sym (ap rowed (letter-fields _ _ (d .before .before .if1 .left) 119 (c .before .match .keys10)
+    ∙ sym (ap rowed (letter-fields _ _ (d .before .before .if1 .left) (code "w") (c .before .match .keys10)
     (c .before .before .if4 .left))
-    ∙ numbers-row _ 999 999 Line.with (λ i j. ap (λ l. row l i j 0 0) (sym (c .before .match .keys10))) _))
+    ∙ numbers-row _ (formulaNumber .last) (formulaNumber .last) Line.with
+    (λ i j. ap (λ l. row l i j 0 0) (sym (c .before .match .keys10))) _))
     (λ c. let d = c .before .before .before .before in
     sym (ap rowed (letter-other _ _ (d .before .if1 .left) (c .match .rest, c .before .before .if2 .left)))))
