@@ -41,7 +41,7 @@ holdsOf s count serials NoHolds = none
 
 -- the interval of a step is reversed
 unfoldable pub turned : StepRow → Bool
-turned r = pick (ltb (r .op) 20) false (ltb (r .to) (r .from))
+turned r = pick (ltb (r .op) 20) false (reversed (r .interval))
 
 -- the steps are ss; `any reversed` of their intervals is b (refusal 3)
 pub record StepsAre (q : Option (List Step)) (ss : List Step) (b : Bool) : Type 0 where

@@ -68,7 +68,7 @@ fn turns(r: StepRow) -> u32
     if r.op < 20 {
         return 0;
     }
-    if r.to < r.from {
+    if intervals::reversed(r.interval) {
         return 1;
     }
     0

@@ -22,7 +22,7 @@ use Rattle.ledger.specs.Calls.{Reply, told, openSeats, shutSeats, withLive, wit
 use Rattle.ledger.specs.Statements.{Pass, FirstFails, IsAccepted}
 use Rattle.ledger.proofs.Firsts.{if-false, if-true, skip, hit, handle-fails, handle-passes}
 use Rattle.lookup.specs.declared.Found.the-variants.{At, Nothing}
-use Rattle.cells.specs.Layout.{credentialAt}
+use Rattle.store_cells.specs.Layout.{credentialAt}
 use Rattle.lookup.proofs.Halves.{found-serial}
 use Rattle.store.specs.Store.{ledgerOf, Good, StandsFor, Givable}
 use Rattle.lookup.specs.Lookup.{Finds}

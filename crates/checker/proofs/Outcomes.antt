@@ -12,7 +12,7 @@ use Rattle.steps.specs.Check.{premiseOf, checkOf}
 use Rattle.steps.specs.Check.{Outcome as Result}
 use Rattle.steps.specs.Plans.{planOf}
 use Rattle.ledger.specs.Checks.{verdict}
-use Rattle.cells.specs.Layout.{rowAt}
+use Rattle.store_cells.specs.Layout.{rowAt}
 use Rattle.tables.specs.Held.{heldAt, putHeld}
 use Rattle.tables.specs.declared.StepRow.{StepRow}
 use Rattle.tables.specs.Lines.{stepRowAt, stepOf, stepAt, stepsFrom}

@@ -11,7 +11,7 @@ use Rattle.steps.specs.Check.{Outcome as Result}
 use Rattle.ledger.specs.declared.Answer.{Answer}
 use Rattle.ledger.specs.declared.Answer.the-variants.{Refused}
 use Rattle.ledger.specs.Checks.{Check, verdict}
-use Rattle.cells.specs.Layout.{rowAt}
+use Rattle.store_cells.specs.Layout.{rowAt}
 use Rattle.tables.specs.Held.{heldAt, putHeld}
 use Rattle.tables.specs.Lines.{maxSteps, stepsFrom}
 use Rattle.checker.specs.declared.Outcome.{Outcome}

@@ -9,7 +9,7 @@ use tables::StepRows;
 use tables::lines;
 ghost use Prim.Native.Nat.{_≤_};
 ghost use Rattle.steps.specs.Check.{checkOf};
-ghost use Rattle.cells.specs.Layout.{rowAt};
+ghost use Rattle.store_cells.specs.Layout.{rowAt};
 ghost use Rattle.tables.specs.Held.{heldAt, putHeld};
 ghost use Rattle.tables.specs.Lines.{maxSteps, stepsFrom};
 ghost use Rattle.checker.specs.Cycle.{Fits, PremiseChecked, StepChecked, Answers};

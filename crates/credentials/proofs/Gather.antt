@@ -14,15 +14,16 @@ use Rattle.ledger.specs.Ledger.{Ledger}
 use Rattle.ledger.proofs.Answers.{some-none, some-inj}
 use Rattle.ledger.specs.Bounds.{Rises, Below}
 use Rattle.store.specs.Tab.{tab, present}
-use Rattle.cells.specs.Layout.{maxRows, lineCount, liveCount, nextSerial, rowCount, credentialAt, gapAt, entryAt}
-use Rattle.cells.specs.Layout.{putCredential, putRowCount, putHint}
+use Rattle.store_cells.specs.Layout.{maxRows, lineCount, liveCount, nextSerial, rowCount, credentialAt, gapAt, entryAt}
+use Rattle.store_cells.specs.Layout.{putCredential, putRowCount, putHint}
 use Rattle.store.specs.Store.{ledgerOf, Ordered, Good, Compacted}
 use Rattle.store.proofs.Tabs.{length-tab, tab-ext, tab-append, every-tab, every-present, present-next, present-all}
 use Rattle.credentials.proofs.Serials.{rises-between}
-use Rattle.cells.proofs.Rows.{SameLines, lines-self, Stays, stays-credential, stays-gap, head-lines, head-same}
-use Rattle.cells.proofs.Rows.{head-other, head-stays}
-use Rattle.credential_cells.proofs.Rows.{entry-gap, entry-there, credential-same, credential-there, credential-stays}
-use Rattle.credential_cells.proofs.Rows.{credential-before, credential-lines, hint-before, hint-lines, hint-stays}
+use Rattle.store_cells.proofs.Rows.{SameLines, lines-self, Stays, stays-credential, stays-gap, head-lines, head-same}
+use Rattle.store_cells.proofs.Rows.{head-other, head-stays}
+use Rattle.store_cells.proofs.CredentialRows.{entry-gap, entry-there, credential-same, credential-there}
+use Rattle.store_cells.proofs.CredentialRows.{credential-stays}
+use Rattle.store_cells.proofs.CredentialRows.{credential-before, credential-lines, hint-before, hint-lines, hint-stays}
 use Rattle.credentials.proofs.Stands.{stands-live, ledger-live}
 
 -- Every live credential is of a formula of the ledger.

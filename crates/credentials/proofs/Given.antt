@@ -14,14 +14,15 @@ use Rattle.ledger.specs.Ledger.{Ledger}
 use Rattle.ledger.specs.Calls.{withCredential}
 use Rattle.ledger.proofs.Bounds.{credential-bounded}
 use Rattle.store.specs.Tab.{tab, present}
-use Rattle.cells.specs.Layout.{maxRows, lineCount, liveCount, nextSerial, rowCount, credentialAt, entryAt, putRowCount}
-use Rattle.cells.specs.Layout.{putLiveCount, putNext, putCredential, putHint}
+use Rattle.store_cells.specs.Layout.{maxRows, lineCount, liveCount, nextSerial, rowCount, credentialAt, entryAt}
+use Rattle.store_cells.specs.Layout.{putRowCount}
+use Rattle.store_cells.specs.Layout.{putLiveCount, putNext, putCredential, putHint}
 use Rattle.store.specs.Store.{ledgerOf, Ordered, StandsFor, Givable}
 use Rattle.store.proofs.Tabs.{tab-ext, present-next}
-use Rattle.cells.proofs.Rows.{SameLines, lines-self, head-lines, head-same, Stays, stays-credential, stays-entry}
-use Rattle.cells.proofs.Rows.{stays-serial, head-other, head-stays}
-use Rattle.credential_cells.proofs.Rows.{entry-there, credential-same, credential-there, credential-stays}
-use Rattle.credential_cells.proofs.Rows.{credential-lines}
+use Rattle.store_cells.proofs.Rows.{SameLines, lines-self, head-lines, head-same, Stays, stays-credential, stays-entry}
+use Rattle.store_cells.proofs.Rows.{stays-serial, head-other, head-stays}
+use Rattle.store_cells.proofs.CredentialRows.{entry-there, credential-same, credential-there, credential-stays}
+use Rattle.store_cells.proofs.CredentialRows.{credential-lines}
 use Rattle.store.proofs.Views.{lines-length}
 use Rattle.credentials.proofs.Stands.{stands-live, ledger-live, hint-stands}
 

@@ -13,12 +13,13 @@ use Rattle.ledger.specs.Calls.{withLive}
 use Rattle.ledger.proofs.Bounds.{without-bounded}
 use Rattle.ledger.proofs.Credentials.{take-out}
 use Rattle.store.specs.Tab.{tab, present}
-use Rattle.cells.specs.Layout.{liveCount, nextSerial, rowCount, credentialAt, gapAt, entryAt, putLiveCount, putGap}
+use Rattle.store_cells.specs.Layout.{liveCount, nextSerial, rowCount, credentialAt, gapAt, entryAt, putLiveCount}
+use Rattle.store_cells.specs.Layout.{putGap}
 use Rattle.store.specs.Store.{ledgerOf, Ordered, Good, StandsFor, Occupied}
 use Rattle.credentials.proofs.Serials.{without-row}
-use Rattle.cells.proofs.Rows.{SameLines, lines-self, head-lines, head-same, Stays, stays-entry, stays-serial}
-use Rattle.cells.proofs.Rows.{stays-credential, head-other, head-stays}
-use Rattle.credential_cells.proofs.Rows.{entry-gap, gap-here, gap-stays, gap-serial, gap-of, gap-before, gap-lines}
+use Rattle.store_cells.proofs.Rows.{SameLines, lines-self, head-lines, head-same, Stays, stays-entry, stays-serial}
+use Rattle.store_cells.proofs.Rows.{stays-credential, head-other, head-stays}
+use Rattle.store_cells.proofs.CredentialRows.{entry-gap, gap-here, gap-stays, gap-serial, gap-of, gap-before, gap-lines}
 use Rattle.store.proofs.Search.{find-row}
 use Rattle.store.proofs.Views.{only-here}
 use Rattle.credentials.proofs.Stands.{stands-live, ledger-live}

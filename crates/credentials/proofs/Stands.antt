@@ -12,11 +12,11 @@ use Rattle.ledger.specs.Ledger.{Ledger, formula}
 use Rattle.ledger.specs.Checks.{maxFormulas}
 use Rattle.ledger.specs.Bounds.{Bounded}
 use Rattle.store.specs.Tab.{tab, present}
-use Rattle.cells.specs.Layout.{lineCount, nextSerial, rowCount, entryAt, putHint}
+use Rattle.store_cells.specs.Layout.{lineCount, nextSerial, rowCount, entryAt, putHint}
 use Rattle.store.specs.Store.{lineOf, ledgerOf, Canonical, Ordered, Good, StandsFor}
 use Rattle.store.proofs.Tabs.{tab-ext}
-use Rattle.cells.proofs.Rows.{SameLines, lines-self, same-row, same-size, same-plain, same-balanced}
-use Rattle.credential_cells.proofs.Rows.{hint-lines, hint-live}
+use Rattle.store_cells.proofs.Rows.{SameLines, lines-self, same-row, same-size, same-plain, same-balanced}
+use Rattle.store_cells.proofs.CredentialRows.{hint-lines, hint-live}
 use Rattle.store.proofs.Live.{same-live, same-ordered}
 
 -- m has l's formula rows

@@ -3,11 +3,13 @@ use ledger::Credential;
 use logic::Interval;
 use request::Kind;
 use store::Store;
+use store_cells::credentials;
+use store_cells::head;
 ghost use Prim.Native.Nat.{_<_};
 ghost use lib.ListN.{length};
 ghost use Rattle.ledger.specs.Ledger.{withoutSerial};
 ghost use Rattle.ledger.specs.Calls.{withLive, withCredential};
-ghost use Rattle.cells.specs.Layout.{maxRows, rowCount, credentialAt};
+ghost use Rattle.store_cells.specs.Layout.{maxRows, rowCount, credentialAt};
 ghost use Rattle.store.specs.Store.{ledgerOf, Good, StandsFor, Givable, Occupied, Compacted};
 
 // The credential of a row leaves: the row becomes a gap.
@@ -16,9 +18,9 @@ pub fn remove(store: &mut Store, at: u32)
     ensures { λ _. ⌜ StandsFor (now (store .exit)) (withLive (ledgerOf (now (store .entry)))
         (withoutSerial (ledgerOf (now (store .entry)) .live) (credentialAt (now (store .entry)) at .serial))) ⌝ }
 {
-    let n = cells::live_count(store);
-    credential_cells::put_gap(store, at);
-    cells::put_live_count(store, n - 1);
+    let n = head::live_count(store);
+    credentials::put_gap(store, at);
+    head::put_live_count(store, n - 1);
 }
 
 // The live credentials move together, in order, so that no gap is left.
@@ -26,20 +28,20 @@ fn compact(store: &mut Store)
     requires { ⌜ Good (now store) ⌝ }
     ensures { λ _. ⌜ Compacted (now (store .entry)) (now (store .exit)) ⌝ }
 {
-    let used = cells::row_count(store);
+    let used = head::row_count(store);
     let mut i = 0;
     let mut k = 0;
     while i < used {
         let from = i;
         i += 1;
-        if !credential_cells::gap(store, from) {
-            let c = credential_cells::credential(store, from);
-            credential_cells::put_credential(store, k, c);
-            credential_cells::put_hint(store, c.serial, k);
+        if !credentials::gap(store, from) {
+            let c = credentials::credential(store, from);
+            credentials::put_credential(store, k, c);
+            credentials::put_hint(store, c.serial, k);
             k += 1;
         }
     }
-    cells::put_row_count(store, k);
+    head::put_row_count(store, k);
 }
 
 // A row is free: where all are in use, the live credentials move together first.
@@ -48,7 +50,7 @@ fn make_room(store: &mut Store)
     ensures { λ _. ⌜ StandsFor (now (store .exit)) (ledgerOf (now (store .entry)))
         × (rowCount (now (store .exit)) < maxRows) ⌝ }
 {
-    if cells::row_count(store) == cells::ROWS {
+    if head::row_count(store) == store_cells::ROWS {
         compact(store);
     }
 }
@@ -59,20 +61,20 @@ fn append(store: &mut Store, kind: Kind, formula: u32, interval: Interval)
     ensures { λ _. ⌜ StandsFor (now (store .exit))
         (withCredential (ledgerOf (now (store .entry))) kind formula interval) ⌝ }
 {
-    let i = cells::row_count(store);
-    let n = cells::live_count(store);
-    let serial = cells::next(store);
+    let i = head::row_count(store);
+    let n = head::live_count(store);
+    let serial = head::next(store);
     let c = Credential {
         serial,
         kind,
         formula,
         interval,
     };
-    credential_cells::put_credential(store, i, c);
-    cells::put_row_count(store, i + 1);
-    cells::put_live_count(store, n + 1);
-    cells::put_next(store, serial + 1);
-    credential_cells::put_hint(store, serial, i);
+    credentials::put_credential(store, i, c);
+    head::put_row_count(store, i + 1);
+    head::put_live_count(store, n + 1);
+    head::put_next(store, serial + 1);
+    credentials::put_hint(store, serial, i);
 }
 
 // One credential more, with the next serial.

@@ -1,4 +1,4 @@
-// The entry for C (include/oysterbrim.h): the till is a block of 7,748 numbers that the caller keeps, a sheet is bytes
+// The entry for C (include/oysterbrim.h): the till is a block of 8,148 numbers that the caller keeps, a sheet is bytes
 // with a length, and the caller lends 1,536 numbers to work on and four for the answer.
 use ledger::Answer;
 use store::Store;

@@ -1,25 +1,19 @@
 -- Formula lines by their letter: what follows it, as a row.
-use mathlib.Core.Path.{_≡_, refl, sym, ap, _∙_}
+use mathlib.Core.Path.{_≡_, refl, ap, _∙_}
 use mathlib.Core.List.{List, [], _∷_}
 use mathlib.Core.Option.{Option, none, some}
-use mathlib.Core.Bool.{Bool, true, false, _||_, or-false}
 use mathlib.Core.Logic.{inl, inr}
 use Prim.Native.Nat.{ℕ, _+_, _≤_, _<_}
 use Prim.Native.Char.{code}
 use native.Mathlib.Omega.{arith}
-use lib.Dec.{eqb, ltb}
-use borrow.Author.Tests.{ne-eqb, lt-ltb, le-ltb}
 use lib.ListN.{length, getD, drop, length-drop}
-use Rattle.logic.specs.Interval.{reversed}
 use Rattle.request.specs.Range.{formulaNumber, _‥_}
 use Rattle.request.specs.Text.{bytes, sameBytes, andThen, numberIn}
 use Rattle.request.specs.Reader.{Reader, return, _>>=_, next, named, choose}
-use Rattle.request.specs.Request.{Line, lineIntervals}
+use Rattle.request.specs.Request.{Line}
 use Rattle.request.specs.Read.{number, interval, part, parts, formulaLine}
 use Rattle.steps.specs.declared.Row.{Row}
-use Rattle.ledger.specs.Table.{rowOf}
-use Rattle.ledger.specs.Checks.{any}
-use Rattle.logic.specs.Choice.{pick}
+use Rattle.ledger.specs.Table.{lettered, rowOf}
 use Rattle.numbers.specs.Field.{fieldTo}
 use Rattle.forms.specs.Line.{readLine, row, oneField, twoFields, atFields, supersetFields, rowed}
 use Rattle.numbers.proofs.Then.{then-then, then-same, then-pair}
@@ -31,7 +25,7 @@ use Rattle.forms.proofs.Tables.{onward-end, onward-on, Others, no-key, 
 
 -- Fields as a row
 
-pub one-row : (letter : ℕ) (make : ℕ → Line) → ((i : ℕ) → rowOf (make i) ≡ row letter i 0 0 0) → (b : List ℕ)
+pub one-row : (letter : ℕ) (make : ℕ → Line) → ((i : ℕ) → rowOf (make i) ≡ lettered letter i 0) → (b : List ℕ)
     → rowed (readLine (part make) b) ≡ oneField letter b
 unfolding rowed oneField part andThen
 one-row letter make h b =
@@ -50,7 +44,8 @@ module _ {A B : Type 0} {r : Reader A} {s : Reader B} {p : ℕ → List ℕ → 
       ∙ then-same (p 44 b) (λ x. then-same (q 10 (x .1)) (λ y. ap (λ z. some (z, y .1)) (h (x .0) (y .0)))))
 
 module _ (letter : ℕ) where
-  pub numbers-row : (m n : ℕ) (make : ℕ → ℕ → Line) → ((i j : ℕ) → rowOf (make i j) ≡ row letter i j 0 0) → (b : List ℕ)
+  pub numbers-row : (m n : ℕ) (make : ℕ → ℕ → Line) → ((i j : ℕ) → rowOf (make i j) ≡ lettered letter i j)
+      → (b : List ℕ)
       → rowed (readLine (number (0 ‥ m) >>= (λ i. number (0 ‥ n) >>= (λ j. return (make i j)))) b)
       ≡ twoFields letter m n b
   unfolding twoFields
@@ -147,43 +142,3 @@ module _ (s : List ℕ) (i : ℕ) where
     unfolding formulaLine bytes
     letter-other n =
         letter-line h ∙ onward-none _ (λ ts. whole-none _ ts (letter-none n ts)) _ _
-
--- Reversed intervals, by the row
-
-abbrev turned : Row → Bool
-turned x = pick (eqb (x .letter) (code "h")) (ltb (x .c) (x .b))
-    (pick (eqb (x .letter) (code "g")) (ltb (x .b) (x .a) || ltb (x .d) (x .c)) false)
-
-line-turned : (l : Line) → turned (rowOf l) ≡ any reversed (lineIntervals l)
-unfolding any reversed
-line-turned (Line.atom p s) = refl
-line-turned Line.one = refl
-line-turned (Line.tensor i j) = refl
-line-turned (Line.with i j) = refl
-line-turned (Line.plus i j) = refl
-line-turned (Line.lolli i j) = refl
-line-turned (Line.implies i j) = refl
-line-turned (Line.bang i) = refl
-line-turned (Line.at i w) = sym (or-false (ltb (w .to) (w .from)))
-line-turned (Line.says k i) = refl
-line-turned (Line.superset v w) = ap (λ b. ltb (v .to) (v .from) || b) (sym (or-false (ltb (w .to) (w .from))))
-
--- what the code tells of a row
-abbrev pub Told : Row → Bool → Type 0
-Told x r = (l : Line) → rowOf l ≡ x → r ≡ any reversed (lineIntervals l)
-
-row-turned : (x : Row) {r : Bool} → r ≡ turned x → Told x r
-row-turned x e l q = e ∙ rw (← q) (line-turned l)
-
-module _ (x : Row) where
-  pub told-at : x .letter ≡ code "h" → Told x (ltb (x .c) (x .b))
-  told-at h = row-turned x (rw h)
-
-  pub told-none : (x .letter ≡ code "h" → ⊥) → (x .letter ≡ code "g" → ⊥) → Told x false
-  told-none n m = row-turned x (rw (ne-eqb (x .letter) (code "h") n, ne-eqb (x .letter) (code "g") m))
-
-  pub told-first : x .letter ≡ code "g" → x .b < x .a → Told x true
-  told-first h l = row-turned x (rw (h, lt-ltb (x .b) (x .a) l))
-
-  pub told-second : x .letter ≡ code "g" → x .a ≤ x .b → Told x (ltb (x .d) (x .c))
-  told-second h l = row-turned x (rw (h, le-ltb (x .b) (x .a) l))

@@ -7,13 +7,13 @@ use Prim.Native.String.{String}
 use lib.Dec.{eqb}
 use lib.ListN.{length, drop}
 use Rattle.logic.specs.declared.Interval.{Interval}
-use Rattle.logic.specs.Interval.{span}
+use Rattle.logic.specs.Interval.{span, noInterval}
 use Rattle.request.specs.Range.{minute, formulaNumber, maxBytes, _‥_}
 use Rattle.request.specs.Text.{bytes, sameBytes, andThen, fields, numberIn}
 use Rattle.request.specs.Reader.{Reader, whole}
 use Rattle.request.specs.Request.{Line}
 use Rattle.steps.specs.declared.Row.{Row}
-use Rattle.ledger.specs.Table.{rowOf}
+use Rattle.ledger.specs.Table.{lettered, rowOf}
 use Rattle.forms.specs.declared.Span.{Span}
 use Rattle.forms.specs.declared.Span.the-variants.{Minutes, Broken as NoSpan}
 use Rattle.forms.specs.declared.FormulaLine.{FormulaLine}
@@ -43,29 +43,30 @@ intervalTo stop b =
 
 -- A formula line's fields as a row, after the letter and its comma
 
-abbrev pub row : ℕ → ℕ → ℕ → ℕ → ℕ → Row
-row letter a b c d = record { letter = letter; a = a; b = b; c = c; d = d }
+-- a letter, a number and two intervals
+abbrev pub row : ℕ → ℕ → Interval → Interval → Row
+row letter a i j = record { letter = letter; a = a; b = 0; first = i; second = j }
 
 unfoldable pub oneField : ℕ → List ℕ → Option (Row × List ℕ)
-oneField letter b = andThen (fieldTo 10 (numberIn formulaNumber) b) (λ p. some (row letter (p .0) 0 0 0, p .1))
+oneField letter b = andThen (fieldTo 10 (numberIn formulaNumber) b) (λ p. some (lettered letter (p .0) 0, p .1))
 
 -- two numbers, from 0 to m and from 0 to n
 unfoldable pub twoFields : ℕ → ℕ → ℕ → List ℕ → Option (Row × List ℕ)
 twoFields letter m n b =
     andThen (fieldTo 44 (numberIn (0 ‥ m)) b) (λ p.
-    andThen (fieldTo 10 (numberIn (0 ‥ n)) (p .1)) (λ q. some (row letter (p .0) (q .0) 0 0, q .1)))
+    andThen (fieldTo 10 (numberIn (0 ‥ n)) (p .1)) (λ q. some (lettered letter (p .0) (q .0), q .1)))
 
 -- a formula's number and an interval
 unfoldable pub atFields : ℕ → List ℕ → Option (Row × List ℕ)
 atFields letter b =
     andThen (fieldTo 44 (numberIn formulaNumber) b) (λ p.
-    andThen (intervalTo 10 (p .1)) (λ q. some (row letter (p .0) (q .0 .from) (q .0 .to) 0, q .1)))
+    andThen (intervalTo 10 (p .1)) (λ q. some (row letter (p .0) (q .0) noInterval, q .1)))
 
 -- two intervals
 unfoldable pub supersetFields : ℕ → List ℕ → Option (Row × List ℕ)
 supersetFields letter b =
     andThen (intervalTo 44 b) (λ p.
-    andThen (intervalTo 10 (p .1)) (λ q. some (row letter (p .0 .from) (p .0 .to) (q .0 .from) (q .0 .to), q .1)))
+    andThen (intervalTo 10 (p .1)) (λ q. some (row letter 0 (p .0) (q .0), q .1)))
 
 -- lines as rows
 unfoldable pub rowed : Option (Line × List ℕ) → Option (Row × List ℕ)

@@ -11,14 +11,11 @@ ghost use mathlib.Core.Path.{_≡_};
 ghost use Prim.Native.Nat.{_≤_};
 ghost use lib.ListN.{length, drop};
 ghost use Rattle.request.specs.Range.{maxBytes};
-ghost use Rattle.request.specs.Request.{Line, lineIntervals};
 ghost use Rattle.request.specs.Read.{formulaLine};
-ghost use Rattle.logic.specs.Interval.{reversed};
-ghost use Rattle.ledger.specs.Table.{rowOf};
-ghost use Rattle.ledger.specs.Checks.{any};
+ghost use Rattle.ledger.specs.Table.{lettered as letteredOf};
 ghost use Rattle.numbers.specs.Field.{Stop};
 ghost use Rattle.forms.specs.Line.{readLine, intervalTo, oneField, twoFields, atFields, supersetFields, rowed};
-ghost use Rattle.forms.specs.Line.{row, spanOf, formulaOf, TwoAsked};
+ghost use Rattle.forms.specs.Line.{spanOf, formulaOf, TwoAsked};
 
 // `from,to`, which the byte `stop` ends.
 pub fn interval(s: &[u8], at: u32, stop: u8) -> Span
@@ -36,6 +33,20 @@ pub fn interval(s: &[u8], at: u32, stop: u8) -> Span
     Span::Minutes(Interval { from, to }, j)
 }
 
+// A letter and two numbers, without intervals.
+fn lettered(letter: u32, a: u32, b: u32) -> Row
+    ensures { λ r. ⌜ r ≡ letteredOf letter a b ⌝ }
+{
+    let i = intervals::none();
+    Row {
+        letter,
+        a,
+        b,
+        first: i,
+        second: i,
+    }
+}
+
 fn one_field(s: &[u8], at: u32, letter: u32) -> FormulaLine
     requires { ⌜ length (now s) ≤ maxBytes ⌝ }
     ensures { λ r. ⌜ formulaOf (now (s .entry)) r ≡ oneField letter (drop at (now (s .entry))) ⌝ }
@@ -44,16 +55,7 @@ fn one_field(s: &[u8], at: u32, letter: u32) -> FormulaLine
     let Decimal::Number(a, i) = f else {
         return FormulaLine::Broken;
     };
-    FormulaLine::Formula(
-        Row {
-            letter,
-            a,
-            b: 0,
-            c: 0,
-            d: 0,
-        },
-        i,
-    )
+    FormulaLine::Formula(lettered(letter, a, 0), i)
 }
 
 fn two_fields(s: &[u8], at: u32, letter: u32, m: u32, n: u32) -> FormulaLine
@@ -68,16 +70,7 @@ fn two_fields(s: &[u8], at: u32, letter: u32, m: u32, n: u32) -> FormulaLine
     let Decimal::Number(b, j) = g else {
         return FormulaLine::Broken;
     };
-    FormulaLine::Formula(
-        Row {
-            letter,
-            a,
-            b,
-            c: 0,
-            d: 0,
-        },
-        j,
-    )
+    FormulaLine::Formula(lettered(letter, a, b), j)
 }
 
 fn at_fields(s: &[u8], at: u32, letter: u32) -> FormulaLine
@@ -96,9 +89,9 @@ fn at_fields(s: &[u8], at: u32, letter: u32) -> FormulaLine
         Row {
             letter,
             a,
-            b: w.from,
-            c: w.to,
-            d: 0,
+            b: 0,
+            first: w,
+            second: intervals::none(),
         },
         j,
     )
@@ -119,26 +112,13 @@ fn superset_fields(s: &[u8], at: u32, letter: u32) -> FormulaLine
     FormulaLine::Formula(
         Row {
             letter,
-            a: v.from,
-            b: v.to,
-            c: w.from,
-            d: w.to,
+            a: 0,
+            b: 0,
+            first: v,
+            second: w,
         },
         j,
     )
-}
-
-// A letter without fields.
-fn bare(letter: u32) -> Row
-    ensures { λ r. ⌜ r ≡ row letter 0 0 0 0 ⌝ }
-{
-    Row {
-        letter,
-        a: 0,
-        b: 0,
-        c: 0,
-        d: 0,
-    }
 }
 
 // One of the eleven formula lines.
@@ -156,7 +136,7 @@ pub fn formula_line(s: &[u8], at: u32) -> FormulaLine
     let j = at + 2;
     if x == letters::ONE {
         if stop == 10 {
-            return FormulaLine::Formula(bare(letters::ONE), j);
+            return FormulaLine::Formula(lettered(letters::ONE, 0, 0), j);
         }
         return FormulaLine::Broken;
     }
@@ -176,20 +156,4 @@ pub fn formula_line(s: &[u8], at: u32) -> FormulaLine
         letters::WITH => two_fields(s, j, x, ranges::FORMULA_LAST, ranges::FORMULA_LAST),
         _ => FormulaLine::Broken,
     }
-}
-
-// Whether an interval of a formula line is reversed (refusal 3), from its row.
-pub fn reversed_row(x: Row) -> bool
-    ensures { λ r. ⌜ ((l : Line) → rowOf l ≡ x → r ≡ any reversed (lineIntervals l)) ⌝ }
-{
-    if x.letter == letters::AT {
-        return x.c < x.b;
-    }
-    if x.letter != letters::SUPERSET {
-        return false;
-    }
-    if x.b < x.a {
-        return true;
-    }
-    x.d < x.c
 }

@@ -19,12 +19,13 @@ use Rattle.ledger.proofs.Tables.{formula-snoc, formula-stays}
 use Rattle.ledger.specs.Bounds.{Bounded}
 use Rattle.ledger.proofs.Bounds.{line-bounded}
 use Rattle.store.specs.Tab.{tab}
-use Rattle.cells.specs.Layout.{lineCount, lineCell, rowAt, sizeAt, plainAt, balancedAt, lineCells, putLineCount}
-use Rattle.cells.specs.Layout.{putLine}
+use Rattle.store_cells.specs.Layout.{lineCount, lineCell, rowAt, sizeAt, plainAt, balancedAt, lineCells, putLineCount}
+use Rattle.store_cells.specs.Layout.{putLine, sizeCell, plainCell, balancedCell, lineWidth}
 use Rattle.store.specs.Store.{lineOf, ledgerOf, Canonical, StandsFor, Wordable}
 use Rattle.store.proofs.Tabs.{tab-append}
-use Rattle.cells.proofs.Rows.{row-ext, row-below, SameLive, count-live, head-same, head-line, line-same, line-other}
-use Rattle.cells.proofs.Rows.{line-live}
+use Rattle.store_cells.proofs.Rows.{row-ext, row-below, SameLive, count-live, head-same, head-line, line-same}
+use Rattle.store_cells.proofs.Rows.{line-other}
+use Rattle.store_cells.proofs.Rows.{line-live}
 use Rattle.store.proofs.Views.{lines-length}
 use Rattle.store.proofs.Live.{same-live, same-ordered}
 
@@ -60,10 +61,10 @@ module _ (l : List ℕ) (r : Row) (s : ℕ) (p b : Bool) (a : Wordable l r s p b
   count : lineCount m ≡ n + 1
   count = head-same rowed 0 (n + 1) (rowed-live .long) (omega arith)
 
-  new-cell : (f : ℕ) → f < 8 → lineCell m n f ≡ getD (lineCells r s p b) f 0
+  new-cell : (f : ℕ) → f < lineWidth → lineCell m n f ≡ getD (lineCells r s p b) f 0
   new-cell f q = head-line rowed 0 (n + 1) n f (omega arith) ∙ line-same l n r s p b (a .good .long) room f q
 
-  old-cell : (k f : ℕ) → k < n → f < 8 → lineCell m k f ≡ lineCell l k f
+  old-cell : (k f : ℕ) → k < n → f < lineWidth → lineCell m k f ≡ lineCell l k f
   old-cell k f h q = head-line rowed 0 (n + 1) k f (omega arith) ∙ line-other l n r s p b k f (omega arith) q
 
   new-row : rowAt m n ≡ r
@@ -101,18 +102,19 @@ module _ (l : List ℕ) (r : Row) (s : ℕ) (p b : Bool) (a : Wordable l r s p b
   unfolding sizeAt plainAt balancedAt
   new-right = record {
     canonical = subst Canonical (sym new-row) (a .canonical);
-    sized = new-cell 5 (omega arith) ∙ a .sized ∙ ap size (sym new-formula);
-    plainly = new-cell 6 (omega arith) ∙ ap bit (a .plainly ∙ ap plain (sym new-formula));
-    balancedly = new-cell 7 (omega arith) ∙ ap bit (a .balancedly ∙ ap balanced (sym new-formula));
+    sized = new-cell sizeCell (omega arith) ∙ a .sized ∙ ap size (sym new-formula);
+    plainly = new-cell plainCell (omega arith) ∙ ap bit (a .plainly ∙ ap plain (sym new-formula));
+    balancedly = new-cell balancedCell (omega arith) ∙ ap bit (a .balancedly ∙ ap balanced (sym new-formula));
   }
 
   old-right : (k : ℕ) → k < n → Right m k
   unfolding sizeAt plainAt balancedAt
   old-right k h = record {
     canonical = subst Canonical (sym (old-row k h)) (a .good .canonical k h);
-    sized = old-cell k 5 h (omega arith) ∙ a .good .sizes k h ∙ ap size (sym (old-formula k h));
-    plainly = old-cell k 6 h (omega arith) ∙ a .good .plains k h ∙ ap (λ x. bit (plain x)) (sym (old-formula k h));
-    balancedly = old-cell k 7 h (omega arith) ∙ a .good .balances k h
+    sized = old-cell k sizeCell h (omega arith) ∙ a .good .sizes k h ∙ ap size (sym (old-formula k h));
+    plainly = old-cell k plainCell h (omega arith) ∙ a .good .plains k h
+        ∙ ap (λ x. bit (plain x)) (sym (old-formula k h));
+    balancedly = old-cell k balancedCell h (omega arith) ∙ a .good .balances k h
         ∙ ap (λ x. bit (balanced x)) (sym (old-formula k h));
   }
 

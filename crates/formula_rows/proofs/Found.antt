@@ -9,7 +9,7 @@ use Rattle.ledger.specs.Checks.{any, sameRow}
 use Rattle.store.specs.Tab.{tab}
 use Rattle.steps.specs.declared.Row.{Row}
 use Rattle.ledger.specs.Table.{rowOf}
-use Rattle.cells.specs.Layout.{lineCount, rowAt}
+use Rattle.store_cells.specs.Layout.{lineCount, rowAt}
 use Rattle.store.specs.Store.{ledgerOf, Good}
 
 -- a test of every one of f 0, f 1, .. and of one of them

@@ -1,17 +1,23 @@
 // The formula lines of a store (document 01: the wordings): whether a row stands there, and one more.
 use steps::Row;
 use store::Store;
+use store_cells::head;
+use store_cells::lines;
 ghost use mathlib.Core.Path.{_≡_};
 ghost use Rattle.ledger.specs.Table.{rowOf};
 ghost use Rattle.ledger.specs.Checks.{any, sameRow};
 ghost use Rattle.ledger.specs.Calls.{withLine};
 ghost use Rattle.store.specs.Store.{lineOf, ledgerOf, Good, StandsFor, Wordable};
 
-// Equal letters and equal fields.
+// Equal letters and equal fields. Most rows differ in the letter or a number, so these are one test, and intervals are
+// looked at only where it holds.
 fn same_row(x: Row, y: Row) -> bool
     ensures { λ r. ⌜ r ≡ sameRow x y ⌝ }
 {
-    x.letter == y.letter && (x.a == y.a && (x.b == y.b && (x.c == y.c && x.d == y.d)))
+    if (x.letter == y.letter) & ((x.a == y.a) & (x.b == y.b)) {
+        return intervals::same(x.first, y.first) & intervals::same(x.second, y.second);
+    }
+    false
 }
 
 // Whether a line of the ledger has this row.
@@ -19,7 +25,7 @@ pub fn has_row(store: &Store, row: Row) -> bool
     requires { ⌜ Good (now store) ⌝ }
     ensures { λ r. ⌜ r ≡ any (λ m. sameRow row (rowOf m)) (ledgerOf (now (store .entry)) .lines) ⌝ }
 {
-    let n = cells::line_count(store);
+    let n = head::line_count(store);
     let mut i = 0;
     while i < n {
         let other = store::line_at(store, i);
@@ -37,7 +43,7 @@ pub fn add_row(store: &mut Store, row: Row, size: u32, plain: bool, balanced: bo
     requires { ⌜ Wordable (now store) row size plain balanced ⌝ }
     ensures { λ _. ⌜ StandsFor (now (store .exit)) (withLine (ledgerOf (now (store .entry))) (lineOf row)) ⌝ }
 {
-    let n = cells::line_count(store);
-    cells::put_line(store, n, row, size, plain, balanced);
-    cells::put_line_count(store, n + 1);
+    let n = head::line_count(store);
+    lines::put_line(store, n, row, size, plain, balanced);
+    head::put_line_count(store, n + 1);
 }

@@ -13,7 +13,7 @@ use Rattle.ledger.specs.Calls.{withLive}
 use Rattle.ledger.proofs.Credentials.{Alive, Apart, any-none, twice-apart, spend-first, alive-after}
 use Rattle.lookup.specs.declared.Found.{Found}
 use Rattle.lookup.specs.declared.Found.the-variants.{At, Nothing}
-use Rattle.cells.specs.Layout.{credentialAt}
+use Rattle.store_cells.specs.Layout.{credentialAt}
 use Rattle.store.specs.Store.{ledgerOf, Good, StandsFor}
 use Rattle.lookup.specs.Lookup.{Finds}
 use Rattle.holds.specs.Holds.{spent}

@@ -19,7 +19,7 @@ use Rattle.ledger.specs.declared.Credential.{Credential}
 use Rattle.ledger.specs.Ledger.{row, held}
 use Rattle.ledger.specs.Checks.{LabelTable, noLabels, readLabel, writeLabel, hypothesis, bookingSequent}
 use Rattle.ledger.specs.Checks.{verdict, steps}
-use Rattle.cells.specs.Layout.{rowAt}
+use Rattle.store_cells.specs.Layout.{rowAt}
 use Rattle.store.specs.Store.{ledgerOf, Good}
 use Rattle.store.proofs.Views.{rows-are}
 use Rattle.tables.specs.Held.{labelCells, labelPlace, heldAt, putHeld}

@@ -7,7 +7,7 @@ use Prim.Native.Nat.{ℕ, suc, _-_}
 use lib.Dec.{eqb, leb, ltb}
 use lib.ListN.{length}
 use Rattle.logic.specs.declared.Interval.{Interval}
-use Rattle.logic.specs.Interval.{span, has, reversed}
+use Rattle.logic.specs.Interval.{noInterval, has, sameInterval, reversed}
 use Rattle.logic.specs.Formula.{size, plain}
 use Rattle.logic.specs.Counts.{balanced}
 use Rattle.request.specs.declared.Kind.{Kind}
@@ -72,7 +72,8 @@ oversize t l = ltb maxSize (size (form (formula t) l))
 unfoldable pub sameRow : Row → Row → Bool
 sameRow x y =
     eqb (x .letter) (y .letter)
-    && (eqb (x .a) (y .a) && (eqb (x .b) (y .b) && (eqb (x .c) (y .c) && eqb (x .d) (y .d))))
+    && (eqb (x .a) (y .a)
+    && (eqb (x .b) (y .b) && (sameInterval (x .first) (y .first) && sameInterval (x .second) (y .second))))
 
 abbrev pub sameLine : Line → Line → Bool
 sameLine l m = sameRow (rowOf l) (rowOf m)
@@ -98,7 +99,7 @@ usedUp t = ltb (serial .last) (t .next)
 
 -- the table of labels, as a function, before any is taken
 abbrev pub noLabels : LabelTable
-noLabels k = record { formula = 0; interval = span 0 0 }
+noLabels k = record { formula = 0; interval = noInterval }
 
 -- "Holds take labels 0, 1, .. in order": what they stand for, and the set of those of a kind, from label n on, with d
 abbrev pub hypothesis : Credential → Hypothesis

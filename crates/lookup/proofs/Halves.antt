@@ -10,8 +10,8 @@ use Rattle.logic.specs.Choice.{pick}
 use Rattle.ledger.specs.declared.Credential.{Credential}
 use Rattle.ledger.specs.Ledger.{find}
 use Rattle.ledger.proofs.Credentials.{take-out}
-use Rattle.cells.specs.Layout.{rowCount, credentialAt, gapAt, entryAt}
-use Rattle.credential_cells.proofs.Rows.{entry-there}
+use Rattle.store_cells.specs.Layout.{rowCount, credentialAt, gapAt, entryAt}
+use Rattle.store_cells.proofs.CredentialRows.{entry-there}
 use Rattle.store.specs.Store.{ledgerOf, Good}
 use Rattle.store.proofs.Search.{find-none, find-row}
 use Rattle.store.proofs.Views.{only-here}

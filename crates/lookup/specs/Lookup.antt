@@ -6,7 +6,7 @@ use Prim.Native.Nat.{ℕ}
 use Rattle.logic.specs.Choice.{pick}
 use Rattle.ledger.specs.declared.Credential.{Credential}
 use Rattle.ledger.specs.Ledger.{find}
-use Rattle.cells.specs.Layout.{credentialAt, gapAt}
+use Rattle.store_cells.specs.Layout.{credentialAt, gapAt}
 use Rattle.store.specs.Store.{ledgerOf, Occupied}
 use Rattle.lookup.specs.declared.Found.{Found}
 use Rattle.lookup.specs.declared.Found.the-variants.{At, Nothing}

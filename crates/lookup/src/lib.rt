@@ -1,9 +1,11 @@
 // Looking up a live credential by its serial.
 use ledger::Credential;
 use store::Store;
+use store_cells::credentials;
+use store_cells::head;
 ghost use mathlib.Core.Path.{_≡_};
 ghost use Prim.Native.Nat.{_<_};
-ghost use Rattle.cells.specs.Layout.{maxRows};
+ghost use Rattle.store_cells.specs.Layout.{maxRows};
 ghost use Rattle.store.specs.Store.{Good};
 ghost use Rattle.lookup.specs.Lookup.{foundAt, Finds};
 
@@ -18,10 +20,10 @@ fn found_at(store: &Store, i: u32) -> Found
     requires { ⌜ i < maxRows ⌝ }
     ensures { λ r. ⌜ r ≡ foundAt (now (store .entry)) i ⌝ }
 {
-    if credential_cells::gap(store, i) {
+    if credentials::gap(store, i) {
         return Found::Nothing;
     }
-    Found::At(i, credential_cells::credential(store, i))
+    Found::At(i, credentials::credential(store, i))
 }
 
 // The live credential of a serial: serials rise, so half of what is left goes with each look.
@@ -30,10 +32,10 @@ fn find_by_halves(store: &Store, serial: u32) -> Found
     ensures { λ r. ⌜ Finds (now (store .entry)) serial r ⌝ }
 {
     let mut low = 0;
-    let mut high = cells::row_count(store);
+    let mut high = head::row_count(store);
     while low < high {
         let middle = (low + high) / 2;
-        let seen = credential_cells::serial(store, middle);
+        let seen = credentials::serial(store, middle);
         if seen == serial {
             return found_at(store, middle);
         }
@@ -51,9 +53,9 @@ pub fn find(store: &Store, serial: u32) -> Found
     requires { ⌜ Good (now store) ⌝ }
     ensures { λ r. ⌜ Finds (now (store .entry)) serial r ⌝ }
 {
-    let i = credential_cells::hint(store, serial);
-    if i < cells::row_count(store) {
-        if credential_cells::serial(store, i) == serial {
+    let i = credentials::hint(store, serial);
+    if i < head::row_count(store) {
+        if credentials::serial(store, i) == serial {
             return found_at(store, i);
         }
     }

@@ -1,7 +1,12 @@
-// A row by its letter: the numbers that it names, and whether it is the letter of a plain formula.
+// What a row tells of its formula line: the numbers that it names, whether an interval is reversed, whether its letter
+// is that of a plain formula.
 use steps::Row;
 use steps::letters;
 ghost use mathlib.Core.Path.{_≡_};
+ghost use Rattle.logic.specs.Interval.{reversed};
+ghost use Rattle.request.specs.Request.{Line, lineIntervals};
+ghost use Rattle.ledger.specs.Table.{rowOf};
+ghost use Rattle.ledger.specs.Checks.{any};
 ghost use Rattle.parts.specs.Parts.{among, plains, partsOf, numbers};
 
 // "Predicate 1 is seat, 2 place"
@@ -43,4 +48,11 @@ pub fn plain_letter(letter: u32) -> bool
         letters::SAYS => true,
         _ => false,
     }
+}
+
+// Whether an interval of a formula line is reversed (refusal 3), from its row: one that a line has not is none.
+pub fn reversed_row(x: Row) -> bool
+    ensures { λ r. ⌜ ((l : Line) → rowOf l ≡ x → r ≡ any reversed (lineIntervals l)) ⌝ }
+{
+    intervals::reversed(x.first) | intervals::reversed(x.second)
 }

@@ -1,4 +1,5 @@
-// Plans and premises, as the definitions write them, and the tests that steps share.
+// Plans under a test, by the numbers that they are made of, and the test for a label. Steps make their plans of these,
+// so that none builds a nested value itself.
 use logic::Interval;
 use request::ranges;
 use steps::Fresh;
@@ -7,7 +8,6 @@ use steps::Hypothesis;
 use steps::Plan;
 use steps::Premise;
 ghost use mathlib.Core.Path.{_≡_};
-ghost use Rattle.logic.specs.Interval.{contains as containsOf};
 ghost use Rattle.labels.specs.Labels.{member};
 ghost use Rattle.steps.specs.Plans.{when as whenOf, premise as premiseOf, _at_};
 
@@ -28,14 +28,7 @@ pub fn has(d: u64, k: u32) -> bool
     labels::member(d, k)
 }
 
-// I ⊇ J.
-pub fn contains(i: Interval, j: Interval) -> bool
-    ensures { λ r. ⌜ r ≡ containsOf i j ⌝ }
-{
-    (i.from <= j.from) & (j.to <= i.to)
-}
-
-pub fn premise(d: u64, goal: Goal, fresh: Fresh) -> Premise
+fn premise(d: u64, goal: Goal, fresh: Fresh) -> Premise
     ensures { λ r. ⌜ r ≡ premiseOf d goal fresh ⌝ }
 {
     Premise {
@@ -46,11 +39,84 @@ pub fn premise(d: u64, goal: Goal, fresh: Fresh) -> Premise
 }
 
 // Formula n at i.
-pub fn held(n: u32, i: Interval) -> Hypothesis
+fn held(n: u32, i: Interval) -> Hypothesis
     ensures { λ r. ⌜ r ≡ n at i ⌝ }
 {
     Hypothesis {
         formula: n,
         interval: i,
     }
+}
+
+// A premise with the goal of formula n at i, which takes no label.
+fn proving(d: u64, n: u32, i: Interval) -> Premise
+    ensures { λ r. ⌜ r ≡ premiseOf d (Goal.Holds n i) Fresh.Nothing ⌝ }
+{
+    premise(d, Goal::Holds(n, i), Fresh::Nothing)
+}
+
+// A premise with a new linear label, for formula n at i.
+fn assuming(d: u64, g: Goal, n: u32, i: Interval) -> Premise
+    ensures { λ r. ⌜ r ≡ premiseOf d g (Fresh.Linear (n at i)) ⌝ }
+{
+    premise(d, g, Fresh::Linear(held(n, i)))
+}
+
+// A premise, and what takes new labels in it.
+pub fn one(b: bool, d: u64, g: Goal, fresh: Fresh) -> Plan
+    ensures { λ r. ⌜ r ≡ whenOf b (Plan.One (premiseOf d g fresh)) ⌝ }
+{
+    when(b, Plan::One(premise(d, g, fresh)))
+}
+
+// The goal of formula n at i.
+pub fn goal(b: bool, d: u64, n: u32, i: Interval) -> Plan
+    ensures { λ r. ⌜ r ≡ whenOf b (Plan.One (premiseOf d (Goal.Holds n i) Fresh.Nothing)) ⌝ }
+{
+    when(b, Plan::One(proving(d, n, i)))
+}
+
+// The goals of formulas m and n at i, from d and from e.
+pub fn goals(b: bool, d: u64, m: u32, e: u64, n: u32, i: Interval) -> Plan
+    ensures { λ r. ⌜ r ≡ whenOf b (Plan.Two (premiseOf d (Goal.Holds m i) Fresh.Nothing)
+        (premiseOf e (Goal.Holds n i) Fresh.Nothing)) ⌝ }
+{
+    when(b, Plan::Two(proving(d, m, i), proving(e, n, i)))
+}
+
+// A new linear label, for formula n at i.
+pub fn linear(b: bool, d: u64, g: Goal, n: u32, i: Interval) -> Plan
+    ensures { λ r. ⌜ r ≡ whenOf b (Plan.One (premiseOf d g (Fresh.Linear (n at i)))) ⌝ }
+{
+    when(b, Plan::One(assuming(d, g, n, i)))
+}
+
+// Two new linear labels in one premise, for formulas m and n at i.
+pub fn both(b: bool, d: u64, g: Goal, m: u32, n: u32, i: Interval) -> Plan
+    ensures { λ r. ⌜ r ≡ whenOf b (Plan.One (premiseOf d g (Fresh.Both (m at i) (n at i)))) ⌝ }
+{
+    one(b, d, g, Fresh::Both(held(m, i), held(n, i)))
+}
+
+// A new unrestricted label, for formula n at i.
+pub fn unrestricted(b: bool, d: u64, g: Goal, n: u32, i: Interval) -> Plan
+    ensures { λ r. ⌜ r ≡ whenOf b (Plan.One (premiseOf d g (Fresh.Unrestricted (n at i)))) ⌝ }
+{
+    one(b, d, g, Fresh::Unrestricted(held(n, i)))
+}
+
+// Two premises, each with a new linear label: for formula m at i, for formula n at i.
+pub fn arms(b: bool, d: u64, g: Goal, m: u32, n: u32, i: Interval) -> Plan
+    ensures { λ r. ⌜ r ≡ whenOf b (Plan.Two (premiseOf d g (Fresh.Linear (m at i)))
+        (premiseOf d g (Fresh.Linear (n at i)))) ⌝ }
+{
+    when(b, Plan::Two(assuming(d, g, m, i), assuming(d, g, n, i)))
+}
+
+// The goal of formula m at j, from s; then the goal g from d, with a new linear label for formula n at j.
+pub fn applied(b: bool, s: u64, m: u32, d: u64, g: Goal, n: u32, j: Interval) -> Plan
+    ensures { λ r. ⌜ r ≡ whenOf b (Plan.Two (premiseOf s (Goal.Holds m j) Fresh.Nothing)
+        (premiseOf d g (Fresh.Linear (n at j)))) ⌝ }
+{
+    when(b, Plan::Two(proving(s, m, j), assuming(d, g, n, j)))
 }

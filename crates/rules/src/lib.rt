@@ -1,7 +1,8 @@
 // The rules: what a step does at a sequent, as a plan. Nothing here calls itself.
 use logic::Interval;
 use request::ranges;
-use steps::Fresh;
+use step_rules::left;
+use step_rules::right;
 use steps::Goal;
 use steps::Plan;
 use steps::Sequent;
@@ -13,7 +14,7 @@ use tables::lines;
 ghost use mathlib.Core.Path.{_≡_};
 ghost use Prim.Native.Nat.{_≤_};
 ghost use Rattle.steps.specs.Plans.{planOf};
-ghost use Rattle.cells.specs.Layout.{rowAt};
+ghost use Rattle.store_cells.specs.Layout.{rowAt};
 ghost use Rattle.tables.specs.Held.{heldAt};
 ghost use Rattle.tables.specs.Lines.{stepOf};
 
@@ -27,22 +28,22 @@ fn at_right(store: &Store, table: &LabelRows, q: Sequent, n: u32, i: Interval, s
     let d = q.linear;
     let op = s.op;
     match op {
-        1 => right_steps::or(d, x),
-        2 => right_steps::gr(d, x),
-        3 => right_steps::p1(d, x, i),
-        4 => right_steps::p2(d, x, i),
-        5 => right_steps::br(d, x, i),
-        6 => right_steps::hr(d, x),
-        7 => right_steps::sr(d, x, i),
-        8 => right_steps::wr(d, x, i),
-        9 => right_steps::tr(d, x, i, lines::share(s)),
+        1 => right::or(d, x),
+        2 => right::gr(d, x),
+        3 => right::p1(d, x, i),
+        4 => right::p2(d, x, i),
+        5 => right::br(d, x, i),
+        6 => right::hr(d, x),
+        7 => right::sr(d, x, i),
+        8 => right::wr(d, x, i),
+        9 => right::tr(d, x, i, lines::share(s)),
         // `ax`, 10: the last of them
         _ => {
             if ranges::LABELS <= s.label {
                 return Plan::Refused;
             }
             let h = held::held_at(table, s.label);
-            right_steps::ax(d, x, i, s.label, h, store::row_at(store, h.formula))
+            right::ax(d, x, i, s.label, h, store::row_at(store, h.formula))
         }
     }
 }
@@ -61,26 +62,23 @@ fn at_left(store: &Store, table: &LabelRows, q: Sequent, s: StepRow) -> Plan
     let d = labels::remove(q.linear, s.label);
     let g = q.goal;
     let i = h.interval;
-    let j = Interval {
-        from: s.from,
-        to: s.to,
-    };
+    let j = s.interval;
     let op = s.op;
     match op {
-        12 => left_steps::ol(d, g, x),
-        13 => left_steps::w1(d, g, x, i),
-        14 => left_steps::w2(d, g, x, i),
-        15 => left_steps::bl(d, g, x, i),
-        16 => left_steps::hl(d, g, x),
+        12 => left::ol(d, g, x),
+        13 => left::w1(d, g, x, i),
+        14 => left::w2(d, g, x, i),
+        15 => left::bl(d, g, x, i),
+        16 => left::hl(d, g, x),
         17 => match g {
             Goal::Holds(_, _) => Plan::Refused,
-            Goal::Affirms(_, v, k) => left_steps::sl(d, g, x, i, k, v),
+            Goal::Affirms(_, v, k) => left::sl(d, g, x, i, k, v),
         },
-        18 => left_steps::tl(d, g, x, i),
-        19 => left_steps::pl(d, g, x, i),
-        20 => left_steps::ll(d, g, x, i, lines::share(s), j),
+        18 => left::tl(d, g, x, i),
+        19 => left::pl(d, g, x, i),
+        20 => left::ll(d, g, x, i, lines::share(s), j),
         // `ul`, 21: a row with a number past it reads as `ul` too
-        _ => left_steps::ul(d, g, x, i, j),
+        _ => left::ul(d, g, x, i, j),
     }
 }
 
@@ -94,17 +92,13 @@ pub fn rule(store: &Store, table: &LabelRows, q: Sequent, s: StepRow) -> Plan
     match op {
         0 => match g {
             Goal::Holds(_, _) => Plan::Refused,
-            Goal::Affirms(n, i, _) => Plan::One(plans::premise(
-                q.linear,
-                Goal::Holds(n, i),
-                Fresh::Nothing,
-            )),
+            Goal::Affirms(n, i, _) => plans::goal(true, q.linear, n, i),
         },
         1..=10 => match g {
             Goal::Holds(n, i) => at_right(store, table, q, n, i, s),
             Goal::Affirms(_, _, _) => Plan::Refused,
         },
-        11 => left_steps::cp(table, q, s.label),
+        11 => left::cp(table, q, s.label),
         12.. => at_left(store, table, q, s),
     }
 }

@@ -16,6 +16,7 @@ use Rattle.request.specs.Reader.{Reader, return, _>>=_, next, named, choose, wh
 use Rattle.request.specs.Request.{Step}
 use Rattle.request.specs.Read.{number, labelSet, interval, labelled, stepLine, holdLine}
 use Rattle.tables.specs.declared.StepRow.{StepRow}
+use Rattle.logic.specs.Interval.{noInterval}
 use Rattle.tables.specs.Lines.{half, stepRow, stepOf}
 use Rattle.numbers.specs.Field.{fieldTo, strip}
 use Rattle.forms.specs.Line.{readLine, lookup, intervalTo}
@@ -84,7 +85,7 @@ unfolding labelSet
 set-shape = next-shape labelSetIn
 
 module _ (op : ℕ) where
-  reader-plain : op < 9 → stepReader op ≡ return (stepOf (stepRow op 0 0 0 0 0))
+  reader-plain : op < 9 → stepReader op ≡ return (stepOf (stepRow op 0 0 0 noInterval))
   unfolding stepReader
   reader-plain h = rw (lt-ltb op 9 h)
 
@@ -110,9 +111,9 @@ module _ (b : List ℕ) where
   set-line = set-shape .last Step.tr b
 
   pub label-line : (op : ℕ) → readLine (labelReader op) b
-      ≡ andThen (fieldTo 10 (numberIn label) b) (λ l. some (stepOf (stepRow op (l .0) 0 0 0 0), l .1))
+      ≡ andThen (fieldTo 10 (numberIn label) b) (λ l. some (stepOf (stepRow op (l .0) 0 0 noInterval), l .1))
   unfolding labelReader labelled
-  label-line op = number-shape label .last (λ l. stepOf (stepRow op l 0 0 0 0)) b
+  label-line op = number-shape label .last (λ l. stepOf (stepRow op l 0 0 noInterval)) b
 
   pub lolli-line : readLine (stepReader 20) b ≡ andThen (fieldTo 44 (numberIn label) b) (λ l.
       andThen (fieldTo 44 labelSetIn (l .1)) (λ v. andThen (intervalTo 10 (v .1)) (λ j.
@@ -178,7 +179,7 @@ module _ (s : List ℕ) (i : ℕ) where
         ∙ onward-same (step-word (getD s i 0 ∷ getD s (i + 1) 0 ∷ [])) (getD s (i + 2) 0) (drop (i + 3) s))
 
     pub step-plain : op < 9 → getD s (i + 2) 0 ≡ 10
-        → readLine stepLine (drop i s) ≡ some (stepOf (stepRow op 0 0 0 0 0), drop (i + 3) s)
+        → readLine stepLine (drop i s) ≡ some (stepOf (stepRow op 0 0 0 noInterval), drop (i + 3) s)
     step-plain l e = step-at ∙ rw (reader-plain op l) (onward-end _ (drop (i + 3) s) e)
 
     pub step-plain-on : op < 9 → (getD s (i + 2) 0 ≡ 10 → ⊥) → readLine stepLine (drop i s) ≡ none

@@ -9,6 +9,7 @@ use Rattle.request.specs.Range.{label}
 use Rattle.request.specs.Reader.{Reader, return, _>>=_}
 use Rattle.request.specs.Request.{Step}
 use Rattle.request.specs.Read.{number, labelSet, interval, labelled}
+use Rattle.logic.specs.Interval.{noInterval}
 use Rattle.logic.specs.Choice.{pick}
 use Rattle.tables.specs.Lines.{stepRow, stepOf}
 use Rattle.forms.specs.Line.{lookup}
@@ -32,11 +33,11 @@ opOf t = lookup ops 22 t
 
 -- the fields of a step by its number
 unfoldable pub labelReader : ℕ → Reader Step
-labelReader op = labelled (λ l. stepOf (stepRow op l 0 0 0 0))
+labelReader op = labelled (λ l. stepOf (stepRow op l 0 0 noInterval))
 
 unfoldable pub stepReader : ℕ → Reader Step
 stepReader op =
-    pick (ltb op 9) (return (stepOf (stepRow op 0 0 0 0 0)))
+    pick (ltb op 9) (return (stepOf (stepRow op 0 0 0 noInterval)))
     (pick (eqb op 9) (do s ← labelSet; return (Step.tr s))
     (pick (ltb op 20) (labelReader op)
     (pick (eqb op 20) (do l ← number label; s ← labelSet; j ← interval; return (Step.ll l s j))

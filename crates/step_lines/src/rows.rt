@@ -14,6 +14,7 @@ ghost use mathlib.Core.Path.{_≡_};
 ghost use mathlib.Core.List.{[], _∷_};
 ghost use Prim.Native.Nat.{_≤_};
 ghost use lib.ListN.{length, drop};
+ghost use Rattle.logic.specs.Interval.{noInterval};
 ghost use Rattle.request.specs.Range.{maxBytes};
 ghost use Rattle.request.specs.Read.{stepLine};
 ghost use Rattle.forms.specs.Line.{readLine};
@@ -52,6 +53,19 @@ fn op_of(a: u8, b: u8) -> u32
     }
 }
 
+// A step without an interval.
+fn plain_step(op: u32, label: u32, high: u32, low: u32) -> StepRow
+    ensures { λ r. ⌜ r ≡ stepRow op label high low noInterval ⌝ }
+{
+    StepRow {
+        op,
+        label,
+        high,
+        low,
+        interval: intervals::none(),
+    }
+}
+
 // `tr`: a set of labels
 fn set_fields(s: &[u8], at: u32) -> StepLine
     requires { ⌜ length (now s) ≤ maxBytes ⌝ }
@@ -63,17 +77,7 @@ fn set_fields(s: &[u8], at: u32) -> StepLine
     };
     let high = (v / HALF) as u32;
     let low = (v % HALF) as u32;
-    StepLine::Step(
-        StepRow {
-            op: 9,
-            label: 0,
-            high,
-            low,
-            from: 0,
-            to: 0,
-        },
-        i,
-    )
+    StepLine::Step(plain_step(9, 0, high, low), i)
 }
 
 // A label alone.
@@ -85,17 +89,7 @@ fn label_fields(s: &[u8], at: u32, op: u32) -> StepLine
     let Decimal::Number(label, i) = f else {
         return StepLine::Broken;
     };
-    StepLine::Step(
-        StepRow {
-            op,
-            label,
-            high: 0,
-            low: 0,
-            from: 0,
-            to: 0,
-        },
-        i,
-    )
+    StepLine::Step(plain_step(op, label, 0, 0), i)
 }
 
 // `ll`: a label, a set of labels, an interval
@@ -123,8 +117,7 @@ fn lolli_fields(s: &[u8], at: u32) -> StepLine
             label,
             high,
             low,
-            from: w.from,
-            to: w.to,
+            interval: w,
         },
         k,
     )
@@ -149,25 +142,10 @@ fn implies_fields(s: &[u8], at: u32) -> StepLine
             label,
             high: 0,
             low: 0,
-            from: w.from,
-            to: w.to,
+            interval: w,
         },
         j,
     )
-}
-
-// A step without fields.
-fn bare(op: u32) -> StepRow
-    ensures { λ r. ⌜ r ≡ stepRow op 0 0 0 0 0 ⌝ }
-{
-    StepRow {
-        op,
-        label: 0,
-        high: 0,
-        low: 0,
-        from: 0,
-        to: 0,
-    }
 }
 
 // One of the 22 step lines.
@@ -186,7 +164,7 @@ pub fn read_step(s: &[u8], at: u32) -> StepLine
         if stop != 10 {
             return StepLine::Broken;
         }
-        return StepLine::Step(bare(op), j);
+        return StepLine::Step(plain_step(op, 0, 0, 0), j);
     }
     if stop != 44 {
         return StepLine::Broken;

@@ -5,7 +5,7 @@ use Prim.Native.Nat.{ℕ}
 use Prim.Native.Char.{Char, code}
 use lib.Dec.{eqb}
 use Rattle.logic.specs.declared.Interval.{Interval}
-use Rattle.logic.specs.Interval.{span, contains}
+use Rattle.logic.specs.Interval.{contains}
 use Rattle.request.specs.Request.{Step}
 use Rattle.labels.specs.Labels.{member, subset, isEmpty, isJust, remove, without}
 use Rattle.steps.specs.declared.Row.{Row}
@@ -103,10 +103,10 @@ module _ (row : ℕ → Row) (label : ℕ → Hypothesis) (R D : ℕ) (g : Goal)
   -- "the part joins R"
   planOf (Step.bl l) = left l "b" (λ i x. One (premise (remove D l) g (Unrestricted ((x .a) at i))))
   -- "A@J becomes A at J."
-  planOf Step.hr = right g "h" (λ x i. One (premise D (Holds (x .a) (span (x .b) (x .c))) Nothing))
+  planOf Step.hr = right g "h" (λ x i. One (premise D (Holds (x .a) (x .first)) Nothing))
   -- "likewise for L"
   planOf (Step.hl l) =
-      left l "h" (λ i x. One (premise (remove D l) g (Linear ((x .a) at (span (x .b) (x .c))))))
+      left l "h" (λ i x. One (premise (remove D l) g (Linear ((x .a) at (x .first)))))
   -- "⟨K⟩A becomes K affirms A."
   planOf Step.sr = right g "s" (λ x i. One (premise D (Affirms (x .b) i (x .a)) Nothing))
   -- "K affirms A becomes A."
@@ -117,4 +117,4 @@ module _ (row : ℕ → Row) (label : ℕ → Hypothesis) (R D : ℕ) (g : Goal)
       (One (premise (remove D l) g (Linear ((x .b) at i))))))
   -- "⊇ that holds, D empty; closes."
   planOf Step.gr =
-      right g "g" (λ x i. when (isEmpty D && contains (span (x .a) (x .b)) (span (x .c) (x .d))) Closed)
+      right g "g" (λ x i. when (isEmpty D && contains (x .first) (x .second)) Closed)

@@ -15,11 +15,11 @@ use Rattle.ledger.specs.Ledger.{Ledger, empty, consSome}
 use Rattle.ledger.specs.Bounds.{Bounded}
 use Rattle.ledger.proofs.Bounds.{empty-bounded}
 use Rattle.store.specs.Tab.{tab, present}
-use Rattle.cells.specs.Layout.{cells, lineCount, liveCount, nextSerial, rowCount, credentialAt, gapAt, entryAt}
+use Rattle.store_cells.specs.Layout.{cells, lineCount, liveCount, nextSerial, rowCount, credentialAt, gapAt, entryAt}
 use Rattle.store.specs.Store.{ledgerOf, Ordered, StandsFor}
 use Rattle.store.proofs.Tabs.{tab-ext, present-sum}
-use Rattle.cells.proofs.Rows.{stays-entry, stays-credential, stays-serial, SameLive}
-use Rattle.credential_cells.proofs.Rows.{gap-kind}
+use Rattle.store_cells.proofs.Rows.{stays-entry, stays-credential, stays-serial, SameLive}
+use Rattle.store_cells.proofs.CredentialRows.{gap-kind}
 
 -- The empty ledger.
 pub empty-stands : (l : List ℕ) → length l ≡ cells → lineCount l ≡ 0 → liveCount l ≡ 0 → nextSerial l ≡ 1

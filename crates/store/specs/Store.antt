@@ -8,7 +8,6 @@ use Prim.Native.Nat.{ℕ, _≤_, _<_}
 use Prim.Native.Char.{code}
 use lib.Dec.{eqb}
 use lib.ListN.{length}
-use Rattle.logic.specs.Interval.{span}
 use Rattle.logic.specs.Formula.{size, plain, bit}
 use Rattle.logic.specs.Counts.{balanced}
 use Rattle.request.specs.Range.{serial}
@@ -20,8 +19,8 @@ use Rattle.ledger.specs.Checks.{maxSize, maxFormulas, maxLive}
 use Rattle.ledger.specs.Bounds.{There, Bounded}
 use Rattle.logic.specs.Choice.{pick}
 use Rattle.store.specs.Tab.{tab, present}
-use Rattle.cells.specs.Layout.{cells, maxRows, lineCount, liveCount, nextSerial, rowCount, rowAt, sizeAt, plainAt}
-use Rattle.cells.specs.Layout.{balancedAt, credentialAt, entryAt}
+use Rattle.store_cells.specs.Layout.{cells, maxRows, lineCount, liveCount, nextSerial, rowCount, rowAt, sizeAt, plainAt}
+use Rattle.store_cells.specs.Layout.{balancedAt, credentialAt, entryAt}
 
 -- the line of a row, by its letter; 1 for any other letter
 unfoldable pub lineOf : Row → Line
@@ -33,9 +32,9 @@ lineOf r =
     (pick (eqb (r .letter) (code "l")) (Line.lolli (r .a) (r .b))
     (pick (eqb (r .letter) (code "u")) (Line.implies (r .a) (r .b))
     (pick (eqb (r .letter) (code "b")) (Line.bang (r .a))
-    (pick (eqb (r .letter) (code "h")) (Line.at (r .a) (span (r .b) (r .c)))
+    (pick (eqb (r .letter) (code "h")) (Line.at (r .a) (r .first))
     (pick (eqb (r .letter) (code "s")) (Line.says (r .a) (r .b))
-    (pick (eqb (r .letter) (code "g")) (Line.superset (span (r .a) (r .b)) (span (r .c) (r .d)))
+    (pick (eqb (r .letter) (code "g")) (Line.superset (r .first) (r .second))
     Line.one)))))))))
 
 unfoldable pub ledgerOf : List ℕ → Ledger

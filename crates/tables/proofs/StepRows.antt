@@ -14,7 +14,7 @@ use Rattle.tables.specs.Lines.{stepWidth, stepPlace, stepRowAt, putStepR
 use Rattle.logic.proofs.Stores.{sets-outside, sets-in}
 
 abbrev cells : StepRow → List ℕ
-cells r = r .op ∷ r .label ∷ r .high ∷ r .low ∷ r .from ∷ r .to ∷ []
+cells r = r .op ∷ r .label ∷ r .high ∷ r .low ∷ r .interval .from ∷ r .interval .to ∷ []
 
 pub length-put : (l : List ℕ) (k : ℕ) (r : StepRow) → length (putStepRow l k r) ≡ length l
 unfolding putStepRow
@@ -31,8 +31,7 @@ row-put l k r h =
       label = at 1 (omega arith) i;
       high = at 2 (omega arith) i;
       low = at 3 (omega arith) i;
-      from = at 4 (omega arith) i;
-      to = at 5 (omega arith) i;
+      interval = record { from = at 4 (omega arith) i; to = at 5 (omega arith) i };
     }
 
 row-kept : (l : List ℕ) (k j : ℕ) (r : StepRow) → (j ≡ k → ⊥) → stepRowAt (putStepRow l k r) j ≡ stepRowAt l j
@@ -47,8 +46,7 @@ row-kept l k j r d =
       label = kept 1 (omega arith) i;
       high = kept 2 (omega arith) i;
       low = kept 3 (omega arith) i;
-      from = kept 4 (omega arith) i;
-      to = kept 5 (omega arith) i;
+      interval = record { from = kept 4 (omega arith) i; to = kept 5 (omega arith) i };
     }
   where
     apart : (f : ℕ) → f < stepWidth → Dec (j < k)

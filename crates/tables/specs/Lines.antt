@@ -3,6 +3,7 @@ use mathlib.Core.List.{List, [], _∷_}
 use Prim.Native.Nat.{ℕ, zero, suc, _+_, _*_}
 use lib.ListN.{getD}
 use lib.Seq.{sets}
+use Rattle.logic.specs.declared.Interval.{Interval}
 use Rattle.logic.specs.Interval.{span}
 use Rattle.request.specs.Range.{steps}
 use Rattle.request.specs.Request.{Step}
@@ -22,8 +23,8 @@ stepCells = maxSteps * stepWidth
 abbrev pub stepPlace : ℕ → ℕ
 stepPlace k = k * stepWidth
 
-abbrev pub stepRow : ℕ → ℕ → ℕ → ℕ → ℕ → ℕ → StepRow
-stepRow op l h w i j = record { op = op; label = l; high = h; low = w; from = i; to = j }
+abbrev pub stepRow : ℕ → ℕ → ℕ → ℕ → Interval → StepRow
+stepRow op l h w i = record { op = op; label = l; high = h; low = w; interval = i }
 
 -- The step of a row
 
@@ -36,7 +37,7 @@ abbrev pub share : StepRow → ℕ
 share r = r .high * half + r .low
 
 abbrev pub implies : StepRow → Step
-implies r = Step.ul (r .label) (span (r .from) (r .to))
+implies r = Step.ul (r .label) (r .interval)
 
 -- A step's number is its place here, so that right and left steps are ranges: `af` 0, right steps and `ax` 1 to 10,
 -- `cp` 11, left steps from 12 on.
@@ -47,7 +48,7 @@ makers =
     (λ r. Step.ax (r .label)) ∷ (λ r. Step.cp (r .label)) ∷ (λ r. Step.ol (r .label)) ∷ (λ r. Step.w1 (r .label)) ∷
     (λ r. Step.w2 (r .label)) ∷ (λ r. Step.bl (r .label)) ∷ (λ r. Step.hl (r .label)) ∷ (λ r. Step.sl (r .label)) ∷
     (λ r. Step.tl (r .label)) ∷ (λ r. Step.pl (r .label)) ∷
-    (λ r. Step.ll (r .label) (share r) (span (r .from) (r .to))) ∷ implies ∷ []
+    (λ r. Step.ll (r .label) (share r) (r .interval)) ∷ implies ∷ []
 
 -- every number past the last reads as the last
 unfoldable pub stepOf : StepRow → Step
@@ -58,10 +59,11 @@ stepOf r = getD makers (r .op) implies r
 unfoldable pub stepRowAt : List ℕ → ℕ → StepRow
 stepRowAt l k =
     stepRow (getD l (stepPlace k) 0) (getD l (stepPlace k + 1) 0) (getD l (stepPlace k + 2) 0)
-    (getD l (stepPlace k + 3) 0) (getD l (stepPlace k + 4) 0) (getD l (stepPlace k + 5) 0)
+    (getD l (stepPlace k + 3) 0) (span (getD l (stepPlace k + 4) 0) (getD l (stepPlace k + 5) 0))
 
 unfoldable pub putStepRow : List ℕ → ℕ → StepRow → List ℕ
-putStepRow l k r = sets l (stepPlace k) (r .op ∷ r .label ∷ r .high ∷ r .low ∷ r .from ∷ r .to ∷ [])
+putStepRow l k r =
+    sets l (stepPlace k) (r .op ∷ r .label ∷ r .high ∷ r .low ∷ r .interval .from ∷ r .interval .to ∷ [])
 
 abbrev pub stepAt : List ℕ → ℕ → Step
 stepAt l k = stepOf (stepRowAt l k)

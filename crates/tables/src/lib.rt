@@ -25,12 +25,11 @@ pub const SERIALS: usize = ranges::HOLDS_LAST as usize;
 pub type Serials = [u32; SERIALS];
 
 // A step line as a row: its number, label, the high and low 32 bits of its set of labels (document 01: share), its
-// interval; 0 where a step has no such field.
+// interval; 0, and 0 to 0, where a step has no such field.
 pub struct StepRow {
     pub op: u32,
     pub label: u32,
     pub high: u32,
     pub low: u32,
-    pub from: u32,
-    pub to: u32,
+    pub interval: logic::Interval,
 }

@@ -2,6 +2,7 @@
 use crate::STEP_WIDTH;
 use crate::StepRow;
 use crate::StepRows;
+use logic::Interval;
 ghost use mathlib.Core.Path.{_≡_};
 ghost use Prim.Native.Nat.{_<_};
 ghost use Rattle.tables.specs.Lines.{maxSteps, share as shareOf, stepRowAt, putStepRow};
@@ -27,8 +28,10 @@ pub fn step_at(steps: &StepRows, k: u32) -> StepRow
         label: steps[at + 1],
         high: steps[at + 2],
         low: steps[at + 3],
-        from: steps[at + 4],
-        to: steps[at + 5],
+        interval: Interval {
+            from: steps[at + 4],
+            to: steps[at + 5],
+        },
     }
 }
 
@@ -37,10 +40,11 @@ pub fn put_step(steps: &mut StepRows, k: u32, r: StepRow)
     ensures { λ _. ⌜ now (steps .exit) ≡ putStepRow (now (steps .entry)) k r ⌝ }
 {
     let at = (k as usize) * STEP_WIDTH;
+    let i = r.interval;
     steps[at] = r.op;
     steps[at + 1] = r.label;
     steps[at + 2] = r.high;
     steps[at + 3] = r.low;
-    steps[at + 4] = r.from;
-    steps[at + 5] = r.to;
+    steps[at + 4] = i.from;
+    steps[at + 5] = i.to;
 }

@@ -18,7 +18,7 @@ use Rattle.request.specs.Request.{Line}
 use Rattle.ledger.specs.Table.{form, names, rowOf}
 use Rattle.ledger.specs.Checks.{maxFormulas}
 use Rattle.ledger.specs.Bounds.{lineAt}
-use Rattle.cells.specs.Layout.{rowAt}
+use Rattle.store_cells.specs.Layout.{rowAt}
 use Rattle.store.specs.Store.{ledgerOf, Good}
 use Rattle.store.proofs.Views.{row-is}
 use Rattle.parts.specs.Parts.{partsOf}

@@ -17,7 +17,7 @@ use Rattle.ledger.specs.declared.Credential.{Credential}
 use Rattle.ledger.specs.Ledger.{Ledger, formula, byKind}
 use Rattle.ledger.specs.Checks.{maxSize}
 use Rattle.ledger.specs.Calls.{only, seatsOf, placesOf, openSeats, shutSeats, placed}
-use Rattle.cells.specs.Layout.{rowCount, credentialAt}
+use Rattle.store_cells.specs.Layout.{rowCount, credentialAt}
 use Rattle.store.specs.Tab.{tab}
 use Rattle.store.specs.Store.{ledgerOf, Good}
 use Rattle.store.proofs.Tabs.{length-tab, tab-snoc}

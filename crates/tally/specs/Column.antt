@@ -9,7 +9,7 @@ use Rattle.steps.specs.declared.Row.{Row}
 use Rattle.ledger.specs.Table.{nth, formulas}
 use Rattle.ledger.specs.Ledger.{Ledger}
 use Rattle.ledger.specs.Checks.{maxSize, maxFormulas}
-use Rattle.cells.specs.Layout.{maxRows}
+use Rattle.store_cells.specs.Layout.{maxRows}
 use Rattle.parts.specs.Parts.{partsOf}
 
 -- the formulas of the first i lines; a later number reads as 1

@@ -15,7 +15,7 @@ use Rattle.ledger.specs.declared.Credential.{Credential}
 use Rattle.ledger.specs.Ledger.{byKind}
 use Rattle.ledger.specs.Checks.{maxFormulas}
 use Rattle.ledger.specs.Calls.{only, openSeats, shutSeats, placed}
-use Rattle.cells.specs.Layout.{rowAt}
+use Rattle.store_cells.specs.Layout.{rowAt}
 use Rattle.store.specs.Store.{ledgerOf}
 use Rattle.parts.specs.Parts.{partsOf}
 use Rattle.tally.specs.declared.Figures.{Figures}

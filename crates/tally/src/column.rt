@@ -17,7 +17,7 @@ pub type Column = [u32; ENTRIES];
 
 // A place counts as much as more seats than all rows can have: twice as many, so that seats and places are counted in
 // one number.
-pub const PLACE_UNIT: u32 = 2 * ledger::MAX_SIZE * cells::ROWS;
+pub const PLACE_UNIT: u32 = 2 * ledger::MAX_SIZE * store_cells::ROWS;
 
 // The entry of a formula's number.
 pub fn known(column: &Column, n: u32) -> u32

@@ -12,7 +12,7 @@ ghost use lib.ListN.{length};
 ghost use Rattle.logic.specs.Interval.{has};
 ghost use Rattle.ledger.specs.Ledger.{byKind};
 ghost use Rattle.ledger.specs.Calls.{only};
-ghost use Rattle.cells.specs.Layout.{rowCount, credentialAt};
+ghost use Rattle.store_cells.specs.Layout.{rowCount, credentialAt};
 ghost use Rattle.store.specs.Store.{ledgerOf, Good};
 ghost use Rattle.tally.specs.Tally.{Blank, NoneBefore, Counted, Shares, Tallied};
 
@@ -79,10 +79,8 @@ fn when_linear(kind: Kind, n: u32) -> u32
 fn when_has(interval: Interval, minute: u32, n: u32) -> u32
     ensures { λ r. ⌜ r ≡ only (has interval minute) n ⌝ }
 {
-    if interval.from <= minute {
-        if minute <= interval.to {
-            return n;
-        }
+    if intervals::has(interval, minute) {
+        return n;
     }
     0
 }

@@ -114,7 +114,7 @@ fn play(
 }
 
 fn main() {
-    let mut till = [0u32; cells::CELLS];
+    let mut till = [0u32; store_cells::CELLS];
     store::start(&mut till);
     let mut begun = [0u8; sheets::MOST];
     let mut text = [0u8; TEXT];

@@ -37,7 +37,7 @@ pub fn tested(bad: bool) -> Verdict
 pub fn ordered(i: Interval) -> Verdict
     ensures { λ r. ⌜ Tells 3 r (reversed i) ⌝ }
 {
-    tested(i.to < i.from)
+    tested(intervals::reversed(i))
 }
 
 // 3: an interval of a formula line is reversed.
@@ -45,14 +45,14 @@ pub fn line_ordered(row: Row) -> Verdict
     requires { ⌜ Canonical row ⌝ }
     ensures { λ r. ⌜ Tells 3 r (any reversed (lineIntervals (lineOf row))) ⌝ }
 {
-    tested(forms::formulas::reversed_row(row))
+    tested(parts::reversed_row(row))
 }
 
 // 3: the goal's interval is reversed, or a step's is.
 pub fn lines_ordered(interval: Interval, turned: bool) -> Verdict
     ensures { λ r. ⌜ Tells 3 r (reversed interval || turned) ⌝ }
 {
-    tested((interval.to < interval.from) | turned)
+    tested(intervals::reversed(interval) | turned)
 }
 
 // 10: a named formula is not there.
@@ -132,5 +132,5 @@ pub fn unused(till: &Store) -> Verdict
 pub fn timely(interval: Interval, now: u32) -> Verdict
     ensures { λ r. ⌜ Tells 30 r (not (has interval now)) ⌝ }
 {
-    tested((now < interval.from) | (interval.to < now))
+    tested(!intervals::has(interval, now))
 }

@@ -18,7 +18,7 @@ use Rattle.steps.specs.declared.Row.{Row}
 use Rattle.ledger.specs.Table.{form, names, rowOf}
 use Rattle.ledger.specs.Ledger.{formula}
 use Rattle.ledger.specs.Bounds.{There, lineAt}
-use Rattle.cells.specs.Layout.{rowAt}
+use Rattle.store_cells.specs.Layout.{rowAt}
 use Rattle.store.specs.Store.{lineOf, ledgerOf, Good}
 use Rattle.store.proofs.Views.{row-is}
 use Rattle.store.proofs.Lines.{line-of-row}

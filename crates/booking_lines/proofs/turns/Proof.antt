@@ -1,4 +1,5 @@
 -- `turns` meets its contract.
+use mathlib.Core.Path.{sym, _∙_}
 use borrow.Author.Needs.{needs}
 use borrow.Author.Tests.{lt-ltb, le-ltb}
 use Rattle.booking_lines.specs.Booking.{turned}
@@ -11,5 +12,8 @@ turns-spec =
     tie.close
     (tie.spec
     (λ c. (simp (lt-ltb _ _ (c .if1 .taken)), search needs))
-    (λ c. (simp (le-ltb _ _ (c .before .before .if1 .left), lt-ltb _ _ (c .if2 .taken)), search needs))
-    (λ c. (simp (le-ltb _ _ (c .before .before .if1 .left), le-ltb _ _ (c .if2 .left)), search needs)))
+    (λ c κs. search needs)
+    (λ c. let e = sym (c .before .reversed .ensures) ∙ c .if2 .taken in
+    (simp (le-ltb _ _ (c .before .before .if1 .left), e), search needs))
+    (λ c. let e = sym (c .before .reversed .ensures) ∙ c .if2 .left in
+    (simp (le-ltb _ _ (c .before .before .if1 .left), e), search needs)))

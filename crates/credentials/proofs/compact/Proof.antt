@@ -4,7 +4,7 @@ use Prim.Native.Nat.{_≤_, _<_, _-_}
 use borrow.Author.Needs.{needs}
 use borrow.Author.Tests.{not-true, not-false}
 use native.Mathlib.Omega.{arith}
-use Rattle.cells.specs.Layout.{maxRows}
+use Rattle.store_cells.specs.Layout.{maxRows}
 use Rattle.credentials.proofs.Gather.{Gathering, gather-start, gather-gap, gather-move, gather-hint}
 use Rattle.credentials.proofs.Gather.{compact-done}
 use Rattle.credentials.proofs.compact.Statement.{statement}

@@ -7,7 +7,7 @@ use borrow.Author.Needs.{needs}
 use native.Mathlib.Omega.{arith}
 use denote.Ref.{now}
 use Rattle.ledger.specs.Checks.{sameRow}
-use Rattle.cells.specs.Layout.{lineCount, rowAt}
+use Rattle.store_cells.specs.Layout.{lineCount, rowAt}
 use Rattle.store.proofs.Views.{lines-length}
 use Rattle.formula_rows.proofs.Found.{has-at, has-none}
 use Rattle.formula_rows.proofs.has_row.Statement.{statement}

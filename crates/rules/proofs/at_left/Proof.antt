@@ -26,7 +26,7 @@ remove-requires c κs =
 returns-2 : tie.Need-returns-2
 unfolding planOf left
 returns-2 c =
-    let b = c .before .before .before in
+    let b = c .before .before .before .before in
     let a = b .before .before .before in
     rw (numbered (a .before .before .args .s) (c .before .match .keys1), holds (a .before .has .ensures) (a .if1 .left))
     (simp (c .ol .ensures, b .remove .ensures, b .before .row-at .ensures, b .before .before .held-at .ensures))
@@ -34,7 +34,7 @@ returns-2 c =
 returns-3 : tie.Need-returns-3
 unfolding planOf left
 returns-3 c =
-    let b = c .before .before .before in
+    let b = c .before .before .before .before in
     let a = b .before .before .before in
     rw (numbered (a .before .before .args .s) (c .before .match .keys2), holds (a .before .has .ensures) (a .if1 .left))
     (simp (c .w1 .ensures, b .remove .ensures, b .before .row-at .ensures, b .before .before .held-at .ensures))
@@ -42,7 +42,7 @@ returns-3 c =
 returns-4 : tie.Need-returns-4
 unfolding planOf left
 returns-4 c =
-    let b = c .before .before .before in
+    let b = c .before .before .before .before in
     let a = b .before .before .before in
     rw (numbered (a .before .before .args .s) (c .before .match .keys3), holds (a .before .has .ensures) (a .if1 .left))
     (simp (c .w2 .ensures, b .remove .ensures, b .before .row-at .ensures, b .before .before .held-at .ensures))
@@ -50,7 +50,7 @@ returns-4 c =
 returns-5 : tie.Need-returns-5
 unfolding planOf left
 returns-5 c =
-    let b = c .before .before .before in
+    let b = c .before .before .before .before in
     let a = b .before .before .before in
     rw (numbered (a .before .before .args .s) (c .before .match .keys4), holds (a .before .has .ensures) (a .if1 .left))
     (simp (c .bl .ensures, b .remove .ensures, b .before .row-at .ensures, b .before .before .held-at .ensures))
@@ -58,7 +58,7 @@ returns-5 c =
 returns-6 : tie.Need-returns-6
 unfolding planOf left
 returns-6 c =
-    let b = c .before .before .before in
+    let b = c .before .before .before .before in
     let a = b .before .before .before in
     rw (numbered (a .before .before .args .s) (c .before .match .keys5), holds (a .before .has .ensures) (a .if1 .left))
     (simp (c .hl .ensures, b .remove .ensures, b .before .row-at .ensures, b .before .before .held-at .ensures))
@@ -66,13 +66,13 @@ returns-6 c =
 returns-7 : tie.Need-returns-7
 unfolding planOf affirmed left
 returns-7 c =
-    let a = c .before .before .before .before .before .before .before .before .before in
+    let a = c .before .before .before .before .before .before .before .before .before .before in
     rw (numbered (a .args .s) (c .before .before .match .keys6), c .enum-told .given .1)
 
 returns-8 : tie.Need-returns-8
 unfolding planOf affirmed left
 returns-8 c =
-    let b = c .before .before .before .before .before .before in
+    let b = c .before .before .before .before .before .before .before in
     let a = b .before .before .before in
     rw (numbered (a .before .before .args .s) (c .before .before .before .before .match .keys6))
     (simp (
@@ -87,7 +87,7 @@ returns-8 c =
 returns-9 : tie.Need-returns-9
 unfolding planOf left
 returns-9 c =
-    let b = c .before .before .before in
+    let b = c .before .before .before .before in
     let a = b .before .before .before in
     rw (numbered (a .before .before .args .s) (c .before .match .keys7), holds (a .before .has .ensures) (a .if1 .left))
     (simp (c .tl .ensures, b .remove .ensures, b .before .row-at .ensures, b .before .before .held-at .ensures))
@@ -95,7 +95,7 @@ returns-9 c =
 returns-10 : tie.Need-returns-10
 unfolding planOf left
 returns-10 c =
-    let b = c .before .before .before in
+    let b = c .before .before .before .before in
     let a = b .before .before .before in
     rw (numbered (a .before .before .args .s) (c .before .match .keys8), holds (a .before .has .ensures) (a .if1 .left))
     (simp (c .pl .ensures, b .remove .ensures, b .before .row-at .ensures, b .before .before .held-at .ensures))
@@ -103,7 +103,7 @@ returns-10 c =
 returns-11 : tie.Need-returns-11
 unfolding planOf left
 returns-11 c =
-    let b = c .before .before .before .before in
+    let b = c .before .before .before .before .before in
     let a = b .before .before .before in
     rw (
       numbered (a .before .before .args .s) (c .before .before .match .keys9),
@@ -120,7 +120,7 @@ returns-11 c =
 returns-12 : tie.Need-returns-12
 unfolding planOf left
 returns-12 c =
-    let b = c .before .before .before in
+    let b = c .before .before .before .before in
     let a = b .before .before .before in
     rw (
       last-left (a .before .before .args .s) (a .before .before .pre) (c .before .match .rest),

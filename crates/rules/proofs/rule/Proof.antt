@@ -1,7 +1,7 @@
 -- `rule` meets its contract.
 use mathlib.Core.Path.{sym}
 use native.Mathlib.Omega.{arith}
-use Rattle.steps.specs.Plans.{planOf, affirmed}
+use Rattle.steps.specs.Plans.{planOf, affirmed, when}
 use Rattle.rules.proofs.Numbers.{numbered, right-refused}
 use borrow.Author.Needs.{needs}
 use Rattle.rules.proofs.rule.Statement.{statement}
@@ -13,10 +13,10 @@ returns c =
     rw (numbered (c .before .before .before .args .s) (c .before .before .match .keys1), c .enum-told .given .1)
 
 returns-2 : tie.Need-returns-2
-unfolding planOf affirmed
+unfolding planOf affirmed when
 returns-2 c =
     let a = c .before .before .before .before in
-    rw (numbered (a .before .args .s) (a .match .keys1)) (simp (c .before .before .g .given .1, c .premise .ensures))
+    rw (numbered (a .before .args .s) (a .match .keys1)) (simp (c .before .before .g .given .1, c .goal .ensures))
 
 returns-3 : tie.Need-returns-3
 unfolding planOf

@@ -6,7 +6,7 @@ use borrow.Author.Needs.{needs}
 use denote.Ref.{now}
 use Rattle.logic.specs.Interval.{has}
 use Rattle.ledger.specs.declared.Credential.{Credential}
-use Rattle.cells.specs.Layout.{maxRows, rowCount, credentialAt}
+use Rattle.store_cells.specs.Layout.{maxRows, rowCount, credentialAt}
 use Rattle.tally.specs.Column.{entryMost}
 use Rattle.tally.proofs.Tallies.{Tallying, Summed, only-le, entry-small, tally-start, tally-next, summed}
 use Rattle.tally.proofs.tally.Statement.{statement}

@@ -24,8 +24,11 @@ at-fields-spec =
       told (decimalOf _) (d .before .before .number .ensures) (d .f .given .1),
       told (spanOf _) (c .before .before .interval .ensures) (c .enum-told2 .given .1),
     ))
-    (λ c. let d = c .before .before .before .before in
+    (λ c κs. search needs)
+    (λ c. let b = c .before in
+    let d = b .before .before .before .before in
     simp (
       told (decimalOf _) (d .before .before .before .number .ensures) (d .before .f .given .1),
-      told (spanOf _) (c .before .before .before .interval .ensures) (c .before .g .given .1),
+      told (spanOf _) (b .before .before .before .interval .ensures) (b .before .g .given .1),
+      c .none .ensures,
     )))

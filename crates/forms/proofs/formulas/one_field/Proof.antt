@@ -16,4 +16,8 @@ one-field-spec =
     (λ c. search needs)
     (λ c. search needs)
     (λ c. simp (told (decimalOf _) (c .before .before .number .ensures) (c .enum-told .given .1)))
-    (λ c. simp (told (decimalOf _) (c .before .before .before .number .ensures) (c .before .f .given .1))))
+    (λ c κs. search needs)
+    (λ c. simp (
+      told (decimalOf _) (c .before .before .before .before .number .ensures) (c .before .before .f .given .1),
+      c .lettered .ensures,
+    )))

@@ -24,8 +24,11 @@ two-fields-spec =
       told (decimalOf _) (d .before .before .number .ensures) (d .f .given .1),
       told (decimalOf _) (c .before .before .number2 .ensures) (c .enum-told2 .given .1),
     ))
-    (λ c. let d = c .before .before .before .before in
+    (λ c κs. search needs)
+    (λ c. let b = c .before in
+    let d = b .before .before .before .before in
     simp (
       told (decimalOf _) (d .before .before .before .number .ensures) (d .before .f .given .1),
-      told (decimalOf _) (c .before .before .before .number2 .ensures) (c .before .g .given .1),
+      told (decimalOf _) (b .before .before .before .number2 .ensures) (b .before .g .given .1),
+      c .lettered .ensures,
     )))

@@ -3,7 +3,7 @@ use mathlib.Core.Path.{sym, _∙_}
 use borrow.Author.Needs.{needs}
 use Rattle.numbers.specs.Field.{decimalOf}
 use Rattle.numbers.proofs.Then.{told, then-some, then-no}
-use Rattle.step_lines.proofs.Ops.{label-line}
+use Rattle.step_lines.proofs.Ops.{label-line, step-told}
 use Rattle.step_lines.proofs.rows.label_fields.Statement.{statement}
 use Rattle.step_lines.proofs.rows.label_fields.Tie as tie
 
@@ -16,5 +16,7 @@ label-fields-spec =
     (λ c. search needs)
     (λ c. sym (label-line _ _ ∙ then-no _ (told (decimalOf _) (c .before .before .number .ensures)
     (c .enum-told .given .1))))
-    (λ c. sym (label-line _ _ ∙ then-some _ (told (decimalOf _) (c .before .before .before .number .ensures)
-    (c .before .f .given .1)))))
+    (λ c κs. search needs)
+    (λ c. step-told _ (c .plain-step .ensures)
+    ∙ sym (label-line _ _ ∙ then-some _ (told (decimalOf _) (c .before .before .before .before .number .ensures)
+    (c .before .before .f .given .1)))))

@@ -24,7 +24,7 @@ read-step-spec =
     (c .before .if2 .taken) (c .if3 .taken)))
     (λ c κs. search needs)
     (λ c. let d = c .before .before .before .before in
-    step-told _ (c .bare .ensures)
+    step-told _ (c .plain-step .ensures)
     ∙ sym (step-plain _ _ (d .before .before .before .if1 .left) (d .op-of .ensures) (c .before .before .if2 .taken)
     (c .before .if3 .left)))
     (λ c. let d = c .before .before .before .before in

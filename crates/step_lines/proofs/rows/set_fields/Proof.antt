@@ -4,7 +4,7 @@ use borrow.Author.Needs.{needs}
 use Rattle.tables.specs.Lines.{stepOf}
 use Rattle.numbers.specs.Field.{labelsOf}
 use Rattle.numbers.proofs.Then.{told, then-some, then-no}
-use Rattle.step_lines.proofs.Ops.{set-line, set-halves}
+use Rattle.step_lines.proofs.Ops.{set-line, set-halves, step-told}
 use Rattle.step_lines.proofs.rows.set_fields.Statement.{statement}
 use Rattle.step_lines.proofs.rows.set_fields.Tie as tie
 
@@ -20,6 +20,8 @@ set-fields-spec =
     (c .enum-told .given .1))))
     (λ c. search needs)
     (λ c. search needs)
-    (λ c. set-halves _ _
-    ∙ sym (set-line _ ∙ then-some _ (told (labelsOf _) (c .before .before .before .label-set .ensures)
-    (c .before .f .given .1)))))
+    (λ c κs. search needs)
+    (λ c. step-told _ (c .plain-step .ensures)
+    ∙ set-halves _ _
+    ∙ sym (set-line _ ∙ then-some _ (told (labelsOf _) (c .before .before .before .before .label-set .ensures)
+    (c .before .before .f .given .1)))))
