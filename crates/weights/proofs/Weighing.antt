@@ -6,6 +6,7 @@ use Prim.Native.Nat.{ℕ, _+_, _≤_, _<_}
 use Prim.Native.Char.{code}
 use native.Mathlib.Omega.{arith}
 use lib.Dec.{eqb}
+use lib.ListN.{length}
 use borrow.Author.Tests.{eq-eqb, ne-eqb}
 use Rattle.logic.specs.Choice.{pick}
 use Rattle.logic.specs.Formula.{Formula, atom, one, tensor, with, plus, lolli, implies, bang, at, says, superset}
@@ -25,7 +26,7 @@ use Rattle.store.proofs.Lines.{line-of-row}
 use Rattle.parts.specs.declared.Parts.{Parts}
 use Rattle.parts.specs.Parts.{partsOf, numbers}
 use Rattle.facts.specs.Facts.{Formable}
-use Rattle.facts.proofs.Named.{parts-are, parts-size}
+use Rattle.facts.proofs.Named.{parts-are, parts-there, parts-size}
 use Rattle.weights.specs.declared.Weight.{Weight}
 use Rattle.weights.specs.Weights.{weightOf, aloneWeight, underWeight, joinedWeight, Light}
 
@@ -71,61 +72,42 @@ module _ (T : ℕ → Formula) where
   sessions-row (Line.says k i) = refl
   sessions-row (Line.superset v w) = refl
 
-each-less : (f : ℕ → ℕ) (ns : List ℕ) {m : ℕ} → sum f ns < m → Every (λ k. f k < m) ns
+-- the number of a part of a formula of size t: what is asked before its row is read, and that it is smaller
+pub record Part (l : List ℕ) (t k : ℕ) : Type 0 where
+  pub there : Good l × (k < length (ledgerOf l .lines))
+  pub less : size (formula (ledgerOf l) k) < t
+
+each-part : (l : List ℕ) {t : ℕ} → Good l → (ns : List ℕ) → There (ledgerOf l) ns
+    → sum (λ k. size (formula (ledgerOf l) k)) ns < t → Every (Part l t) ns
 unfolding sum
-each-less f [] h = tt
-each-less f (k ∷ ns) h = (omega arith, each-less f ns (omega arith))
+each-part l g [] h s = tt
+each-part l g (k ∷ ns) h s =
+    (record { there = (g, h .0); less = omega arith }, each-part l g ns (h .1) (omega arith))
 
--- of a row that the store can have, whose parts are known
-module _ (l : List ℕ) (r : Row) (f : Formable l r) (p q : Parts) (e : numbers p ≡ partsOf r) (g : p ≡ q) where
-  at-parts : {A : Type 0} (h : Row → List ℕ → A) → h r (numbers q) ≡ h (rowOf (lineOf r)) (partsOf (rowOf (lineOf r)))
-  at-parts h =
-      ap (h r) (parts-are r p q e g)
-      ∙ ap (λ (x : Row). h x (partsOf x)) (sym (f .canonical))
-
-  pub parts-less : Every (λ k. size (formula (ledgerOf l) k) < size (form (formula (ledgerOf l)) (lineOf r)))
-      (numbers q)
-  parts-less =
-      each-less (λ k. size (formula (ledgerOf l) k)) (numbers q) (omega (arith, parts-size r p q e g l f))
-
-  pub weight-is : (s : ℕ) → weighed s r (map (λ k. weightOf s (formula (ledgerOf l) k)) (numbers q))
+-- of a row whose formula has size t, the numbers of its parts, and its weight and its sessions from theirs
+pub record Parted (l : List ℕ) (r : Row) (t : ℕ) (ns : List ℕ) : Type 0 where
+  pub each : Every (Part l t) ns
+  pub weight : (s : ℕ) → weighed s r (map (λ k. weightOf s (formula (ledgerOf l) k)) ns)
       ≡ weightOf s (form (formula (ledgerOf l)) (lineOf r))
-  weight-is s =
-      at-parts (λ x ns. weighed s x (map (λ k. weightOf s (formula (ledgerOf l) k)) ns))
-      ∙ weight-row (formula (ledgerOf l)) s (lineOf r)
-
-  pub sessions-are : gathered r (map (λ k. sessionsOf (formula (ledgerOf l) k)) (numbers q))
+  pub sessions : gathered r (map (λ k. sessionsOf (formula (ledgerOf l) k)) ns)
       ≡ sessionsOf (form (formula (ledgerOf l)) (lineOf r))
-  sessions-are =
-      at-parts (λ x ns. gathered x (map (λ k. sessionsOf (formula (ledgerOf l) k)) ns))
-      ∙ sessions-row (formula (ledgerOf l)) (lineOf r)
 
--- of the row of a number
-module _ (l : List ℕ) (g : Good l) (n : ℕ) {r : Row} (e : r ≡ rowAt l n) where
-  line-is : lineAt (ledgerOf l) n ≡ lineOf r
-  line-is = sym (line-of-row _) ∙ ap lineOf (row-is l g n ∙ sym e)
-
-  pub part-formable : Formable l r
-  part-formable = record {
-    good = g;
-    canonical = ap rowOf (sym line-is) ∙ row-is l g n ∙ sym e;
-    there = subst (λ (x : Line). There (ledgerOf l) (names x)) line-is (g .bounded .tabled .refs n);
+module _ (r : Row) (p : Parts) (e : numbers p ≡ partsOf r) (l : List ℕ) (f : Formable l r) where
+  pub parted : {t : ℕ} → size (form (formula (ledgerOf l)) (lineOf r)) ≡ t → {q : Parts} → p ≡ q
+      → Parted l r t (numbers q)
+  parted m {q} g = record {
+    each =
+        each-part l (f .good) (numbers q) (parts-there r p q e g l f) (omega (arith, parts-size r p q e g l f, m));
+    weight = λ s. at-parts (λ x ns. weighed s x (map (λ k. weightOf s (formula (ledgerOf l) k)) ns))
+        ∙ weight-row (formula (ledgerOf l)) s (lineOf r);
+    sessions =
+        at-parts (λ x ns. gathered x (map (λ k. sessionsOf (formula (ledgerOf l) k)) ns))
+        ∙ sessions-row (formula (ledgerOf l)) (lineOf r);
   }
-
-  pub part-is : form (formula (ledgerOf l)) (lineOf r) ≡ formula (ledgerOf l) n
-  part-is = ap (form (formula (ledgerOf l))) (sym line-is) ∙ sym (g .bounded .tabled .reads n)
-
-  pub part-below : {m t : ℕ} → m ≡ t → size (formula (ledgerOf l) n) < m
-      → size (form (formula (ledgerOf l)) (lineOf r)) < t
-  part-below q h = omega (arith, h, q, ap size part-is)
-
-  pub part-weight : (s : ℕ) {x : Weight} → x ≡ weightOf s (form (formula (ledgerOf l)) (lineOf r))
-      → x ≡ weightOf s (formula (ledgerOf l) n)
-  part-weight s h = h ∙ ap (weightOf _) part-is
-
-  pub part-sessions : (f : ℕ → Bool) {b : Bool} → b ≡ all f (sessionsOf (form (formula (ledgerOf l)) (lineOf r)))
-      → b ≡ all f (sessionsOf (formula (ledgerOf l) n))
-  part-sessions f h = h ∙ ap (λ (a : Formula). all f (sessionsOf a)) part-is
+    where
+      at-parts : {A : Type 0} (h : Row → List ℕ → A)
+          → h r (numbers q) ≡ h (rowOf (lineOf r)) (partsOf (rowOf (lineOf r)))
+      at-parts h = ap (h r) (parts-are r p q e g) ∙ ap (λ (x : Row). h x (partsOf x)) (sym (f .canonical))
 
 -- no formula weighs more than its size
 weight-le : (s : ℕ) (a : Formula) → up s a + down s a ≤ size a
@@ -142,15 +124,39 @@ weight-le s (at a i) = omega (arith, weight-le s a)
 weight-le s (says k a) = omega (arith, weight-le s a)
 weight-le s (superset i j) = omega arith
 
--- no formula of a store weighs much
-pub light : (l : List ℕ) → Good l → (s n : ℕ) {x : Weight} → x ≡ weightOf s (formula (ledgerOf l) n) → Light x
-light l g s n e =
-    let a = formula (ledgerOf l) n in
-    subst Light (sym e)
-    (record {
-      up = omega (arith, weight-le s a, g .bounded .sizes n);
-      down = omega (arith, weight-le s a, g .bounded .sizes n);
-    })
+-- of the row of a part
+module _ {l : List ℕ} {t n : ℕ} (p : Part l t n) {r : Row} (e : r ≡ rowAt l n) where
+  line-is : lineAt (ledgerOf l) n ≡ lineOf r
+  line-is = sym (line-of-row _) ∙ ap lineOf (row-is l (p .there .0) n ∙ sym e)
+
+  part-is : form (formula (ledgerOf l)) (lineOf r) ≡ formula (ledgerOf l) n
+  part-is = ap (form (formula (ledgerOf l))) (sym line-is) ∙ sym (p .there .0 .bounded .tabled .reads n)
+
+  -- what a call for the part asks
+  pub part-asked : (size (form (formula (ledgerOf l)) (lineOf r)) < t) × Formable l r
+  part-asked = (
+    omega (arith, p .less, ap size part-is),
+    record {
+      good = p .there .0;
+      canonical = ap rowOf (sym line-is) ∙ row-is l (p .there .0) n ∙ sym e;
+      there = subst (λ (x : Line). There (ledgerOf l) (names x)) line-is (p .there .0 .bounded .tabled .refs n);
+    },
+  )
+
+  pub part-weight : (s : ℕ) {x : Weight} → x ≡ weightOf s (form (formula (ledgerOf l)) (lineOf r))
+      → x ≡ weightOf s (formula (ledgerOf l) n)
+  part-weight s h = h ∙ ap (weightOf _) part-is
+
+  -- no formula of a store weighs much
+  pub part-light : (s : ℕ) {x : Weight} → x ≡ weightOf s (form (formula (ledgerOf l)) (lineOf r)) → Light x
+  part-light s h =
+      let b = weight-le s (formula (ledgerOf l) n) in
+      let m = p .there .0 .bounded .sizes n in
+      subst Light (sym (part-weight s h)) (record { up = omega (arith, b, m); down = omega (arith, b, m) })
+
+  pub part-sessions : (f : ℕ → Bool) {b : Bool} → b ≡ all f (sessionsOf (form (formula (ledgerOf l)) (lineOf r)))
+      → b ≡ all f (sessionsOf (formula (ledgerOf l) n))
+  part-sessions f h = h ∙ ap (λ (a : Formula). all f (sessionsOf a)) part-is
 
 -- a test of the sessions, from its answers for the parts'
 module _ (f : ℕ → Bool) where

@@ -1,5 +1,5 @@
 -- `fair_within` meets its contract; it calls itself for the part's parts, which are smaller.
-use mathlib.Core.Path.{ap, _∙_}
+use mathlib.Core.Path.{_≡_, ap, _∙_}
 use Prim.Native.Nat.{ℕ, _<_}
 use borrow.Author.Needs.{needs}
 use borrow.Author.Tests.{not-true, not-false}
@@ -10,8 +10,9 @@ use Rattle.logic.specs.Counts.{all}
 use Rattle.ledger.specs.Table.{form}
 use Rattle.ledger.specs.Ledger.{formula}
 use Rattle.store.specs.Store.{lineOf, ledgerOf}
-use Rattle.facts.proofs.Named.{parts-there}
-use Rattle.weights.proofs.Weighing.{part-formable, part-below, part-sessions, parts-less, sessions-are}
+use Rattle.parts.specs.declared.Parts.{Parts}
+use Rattle.parts.specs.Parts.{numbers}
+use Rattle.weights.proofs.Weighing.{Parted, parted, part-asked, part-sessions}
 use Rattle.weights.proofs.Weighing.{all-atom, all-other, all-left, all-right}
 use Rattle.weights.proofs.fair_within.Reads as within
 use Rattle.weights.proofs.fair_within.Kinds as within-kinds
@@ -43,129 +44,59 @@ within-with t = (
   within.Post,
 )
 
-within-parts-of-requires : (t : ℕ) → within-lts.Need-parts-of-requires (within-with t) (within-at t) within.Post
-within-parts-of-requires t c κs = search needs
-
-within-enum-told : (t : ℕ) → within-lts.Need-enum-told (within-with t) (within-at t) within.Post
-within-enum-told t c = search needs
-
-within-fair-requires : (t : ℕ) → within-lts.Need-fair-requires (within-with t) (within-at t) within.Post
-within-fair-requires t c κs = search needs
-
-within-returns : (t : ℕ) → within-lts.Need-returns (within-with t) (within-at t) within.Post
-within-returns t c =
-    let d = c .before .before .before in
-    let p = d .before .before in
-    c .fair .ensures
-    ∙ all-atom _ (p .before .args .part) (c .before .if1 .taken)
-    ∙ ap (all _) (sessions-are _ _ (p .before .pre .1 .1) _ _ (p .parts-of .ensures) (d .enum-told .given .1))
-
-within-enum-known-i : (t : ℕ) → within-lts.Need-enum-known-i (within-with t) (within-at t) within.Post
-within-enum-known-i t c = search needs
-
-within-line-at-requires : (t : ℕ) → within-lts.Need-line-at-requires (within-with t) (within-at t) within.Post
-within-line-at-requires t c κs =
-    let d = c .before in
-    let f = d .before .before .before .pre .1 .1 in
-    (f .good, parts-there _ _ _ (d .before .before .parts-of .ensures) (d .i .given .1) _ f .0)
-
-within-fair-within-requires : (t : ℕ) → within-lts.Need-fair-within-requires (within-with t) (within-at t) within.Post
-within-fair-within-requires t c κs =
-    let d = c .before .before in
-    let f = d .before .before .before .pre .1 .1 in
-    let s = d .before .before .before in (
-      part-below _ (f .good) _ (c .line-at .ensures) (s .pre .0)
-          (parts-less _ _ f _ _ (d .before .before .parts-of .ensures) (d .i .given .1) .0),
-      (s .pre .1 .0, part-formable _ (f .good) _ (c .line-at .ensures)),
-    )
-
-within-enum-known-i-2 : (t : ℕ) → within-lts.Need-enum-known-i-2 (within-with t) (within-at t) within.Post
-within-enum-known-i-2 t c = search needs
-
-within-line-at-requires-2 : (t : ℕ) → within-lts.Need-line-at-requires-2 (within-with t) (within-at t) within.Post
-within-line-at-requires-2 t c κs =
-    let d = c .before in
-    let f = d .before .before .before .pre .1 .1 in
-    (f .good, parts-there _ _ _ (d .before .before .parts-of .ensures) (d .i2 .given .1) _ f .0)
-
-within-fair-within-requires-2 : (t : ℕ)
-    → within-lts.Need-fair-within-requires-2 (within-with t) (within-at t) within.Post
-within-fair-within-requires-2 t c κs =
-    let d = c .before .before in
-    let f = d .before .before .before .pre .1 .1 in
-    let s = d .before .before .before in (
-      part-below _ (f .good) _ (c .line-at2 .ensures) (s .pre .0)
-          (parts-less _ _ f _ _ (d .before .before .parts-of .ensures) (d .i2 .given .1) .0),
-      (s .pre .1 .0, part-formable _ (f .good) _ (c .line-at2 .ensures)),
-    )
+-- what is known of the parts in each arm
+parts : (t : ℕ) (c : within-lts.After-parts-of (within-with t) (within-at t) within.Post) {q : Parts}
+    → c .parts-of .result ≡ q → Parted (c .before .args .store .now) (c .before .args .part) t (numbers q)
+parts t c = parted _ _ (c .parts-of .ensures) _ (c .before .pre .1 .1) (c .before .pre .0)
 
 within-returns-2 : (t : ℕ) → within-lts.Need-returns-2 (within-with t) (within-at t) within.Post
 within-returns-2 t c =
-    let d = c .before .before .before .before in
-    let f = d .before .before .before .pre .1 .1 in
-    let b = c .before in
-    all-left _ _ _ (part-sessions _ (f .good) _ (b .before .line-at2 .ensures) _ (b .fair-within2 .ensures))
+    let x = c .before in
+    let i = x .before .before .before in
+    let p = parts t (i .before .before) (i .i2 .given .1) in
+    all-left _ _ _ (part-sessions (p .each .0) (x .before .line-at2 .ensures) _ (x .fair-within2 .ensures))
     (not-true _ (c .if2 .taken))
-    ∙ ap (all _) (sessions-are _ _ f _ _ (d .before .before .parts-of .ensures) (d .i2 .given .1))
-
-within-line-at-requires-3 : (t : ℕ) → within-lts.Need-line-at-requires-3 (within-with t) (within-at t) within.Post
-within-line-at-requires-3 t c κs =
-    let d = c .before .before .before .before in
-    let f = d .before .before .before .pre .1 .1 in
-    (f .good, parts-there _ _ _ (d .before .before .parts-of .ensures) (d .i2 .given .1) _ f .1 .0)
-
-within-fair-within-requires-3 : (t : ℕ)
-    → within-lts.Need-fair-within-requires-3 (within-with t) (within-at t) within.Post
-within-fair-within-requires-3 t c κs =
-    let d = c .before .before .before .before .before in
-    let f = d .before .before .before .pre .1 .1 in
-    let s = d .before .before .before in (
-      part-below _ (f .good) _ (c .line-at3 .ensures) (s .pre .0)
-          (parts-less _ _ f _ _ (d .before .before .parts-of .ensures) (d .i2 .given .1) .1 .0),
-      (s .pre .1 .0, part-formable _ (f .good) _ (c .line-at3 .ensures)),
-    )
-
-within-returns-3 : (t : ℕ) → within-lts.Need-returns-3 (within-with t) (within-at t) within.Post
-within-returns-3 t c =
-    let d = c .before .before in
-    let p = d .before .before in
-    all-other _ (p .before .args .part) (c .if1 .left)
-    ∙ ap (all _) (sessions-are _ _ (p .before .pre .1 .1) _ _ (p .parts-of .ensures) (d .enum-told .given .1))
-
-within-returns-4 : (t : ℕ) → within-lts.Need-returns-4 (within-with t) (within-at t) within.Post
-within-returns-4 t c =
-    let d = c .before .before .before in
-    let f = d .before .before .before .pre .1 .1 in
-    part-sessions _ (f .good) _ (c .before .line-at .ensures) _ (c .fair-within .ensures)
-    ∙ ap (all _) (sessions-are _ _ f _ _ (d .before .before .parts-of .ensures) (d .i .given .1))
+    ∙ ap (all _) (p .sessions)
 
 within-returns-5 : (t : ℕ) → within-lts.Need-returns-5 (within-with t) (within-at t) within.Post
 within-returns-5 t c =
-    let d = c .before .before .before .before .before .before in
-    let f = d .before .before .before .pre .1 .1 in
-    let b = c .before .before .before in
-    all-right _ _ _ (part-sessions _ (f .good) _ (b .before .line-at2 .ensures) _ (b .fair-within2 .ensures))
+    let x = c .before .before .before in
+    let i = x .before .before .before in
+    let p = parts t (i .before .before) (i .i2 .given .1) in
+    all-right _ _ _ (part-sessions (p .each .0) (x .before .line-at2 .ensures) _ (x .fair-within2 .ensures))
     (not-false _ (c .before .before .if2 .left))
-    (part-sessions _ (f .good) _ (c .before .line-at3 .ensures) _ (c .fair-within3 .ensures))
-    ∙ ap (all _) (sessions-are _ _ f _ _ (d .before .before .parts-of .ensures) (d .i2 .given .1))
+    (part-sessions (p .each .1 .0) (c .before .line-at3 .ensures) _ (c .fair-within3 .ensures))
+    ∙ ap (all _) (p .sessions)
 
 pub +fair-within-spec : {M : Type 1} → statement M
 +fair-within-spec =
     close μ-within
     (λ t. within-lts.spec (within-with t) (within-at t) within.Post
-    (within-parts-of-requires t)
-    (within-enum-told t)
-    (within-fair-requires t)
-    (within-returns t)
-    (within-enum-known-i t)
-    (within-line-at-requires t)
-    (within-fair-within-requires t)
-    (within-enum-known-i-2 t)
-    (within-line-at-requires-2 t)
-    (within-fair-within-requires-2 t)
+    (λ c κs. search needs) (λ c. search needs) (λ c κs. search needs)
+    (λ c. let e = c .before .before .before in
+    c .fair .ensures
+    ∙ all-atom _ (e .before .before .before .args .part) (c .before .if1 .taken)
+    ∙ ap (all _) (parts t (e .before .before) (e .enum-told .given .1) .sessions))
+    (λ c. search needs)
+    (λ c κs. parts t (c .before .before .before) (c .before .i .given .1) .each .0 .there)
+    (λ c κs. let i = c .before .before in
+    let a = part-asked (parts t (i .before .before) (i .i .given .1) .each .0) (c .line-at .ensures) in
+    (a .0, (i .before .before .before .pre .1 .0, a .1)))
+    (λ c. search needs)
+    (λ c κs. parts t (c .before .before .before) (c .before .i2 .given .1) .each .0 .there)
+    (λ c κs. let i = c .before .before in
+    let a = part-asked (parts t (i .before .before) (i .i2 .given .1) .each .0) (c .line-at2 .ensures) in
+    (a .0, (i .before .before .before .pre .1 .0, a .1)))
     (within-returns-2 t)
-    (within-line-at-requires-3 t)
-    (within-fair-within-requires-3 t)
-    (within-returns-3 t)
-    (within-returns-4 t)
+    (λ c κs. let i = c .before .before .before .before in
+    parts t (i .before .before) (i .i2 .given .1) .each .1 .0 .there)
+    (λ c κs. let i = c .before .before .before .before .before in
+    let a = part-asked (parts t (i .before .before) (i .i2 .given .1) .each .1 .0) (c .line-at3 .ensures) in
+    (a .0, (i .before .before .before .pre .1 .0, a .1)))
+    (λ c. let e = c .before .before in
+    all-other _ (e .before .before .before .args .part) (c .if1 .left)
+    ∙ ap (all _) (parts t (e .before .before) (e .enum-told .given .1) .sessions))
+    (λ c. let i = c .before .before .before in
+    let p = parts t (i .before .before) (i .i .given .1) in
+    part-sessions (p .each .0) (c .before .line-at .ensures) _ (c .fair-within .ensures) ∙ ap (all _) (p .sessions))
     (within-returns-5 t))
