@@ -1,5 +1,4 @@
-// Booking (document 01: book): its checks in the paper's order, up to 31, from where crate settling goes on; and the
-// one call, which tells the five requests apart.
+// Booking (document 01: book): its checks in the paper's order, up to 31, from where crate settling goes on.
 use booking_lines::HoldsRead;
 use booking_lines::StepsRead;
 use booking_lines::read_holds;
@@ -10,12 +9,8 @@ use reader::Head;
 use store::Store;
 use tables::Serials;
 use tables::StepRows;
-use till::Reply;
-use till::answer;
 use verdicts::Verdict;
-ghost use Rattle.store.specs.Store.{Good};
-ghost use Rattle.calls.specs.Handled.{Handled};
-ghost use Rattle.till.specs.Replied.{Called};
+ghost use Rattle.call_contracts.specs.Called.{Handled, Called};
 ghost use Rattle.judging.specs.Booking.{bookingAt, ReadLines, Bookable, Opened};
 
 // 24 for all holds, then 31.
@@ -58,7 +53,7 @@ fn book_read(till: &mut Store, head: Head, serials: &Serials, rows: &StepRows) -
 }
 
 // A booking whose head has been read: the rest of 2, 3, then as above. The rows are lent for its step lines.
-fn book(till: &mut Store, sheet: &[u8], rows: &mut StepRows, head: Head) -> Answer
+pub fn book(till: &mut Store, sheet: &[u8], rows: &mut StepRows, head: Head) -> Answer
     requires { ⌜ Opened (now till) (now sheet) head ⌝ }
     ensures { λ r. ⌜ Called (now (till .entry)) (now (sheet .entry)) r (now (till .exit)) ⌝ }
 {
@@ -81,16 +76,4 @@ fn book(till: &mut Store, sheet: &[u8], rows: &mut StepRows, head: Head) -> Answ
         return Answer::Refused(3, 0);
     };
     book_read(till, head, &serials, rows)
-}
-
-// The one call: any bytes, of any length. The rows are lent for a booking's step lines; what they hold says nothing.
-pub fn call(till: &mut Store, sheet: &[u8], rows: &mut StepRows) -> Answer
-    requires { ⌜ Good (now till) ⌝ }
-    ensures { λ r. ⌜ Called (now (till .entry)) (now (sheet .entry)) r (now (till .exit)) ⌝ }
-{
-    let reply = answer(till, sheet);
-    match reply {
-        Reply::Answered(a) => a,
-        Reply::Booking(head) => book(till, sheet, rows, head),
-    }
 }

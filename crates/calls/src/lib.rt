@@ -8,7 +8,8 @@ use store::Store;
 use verdicts::Verdict;
 ghost use Rattle.request.specs.Request.{issue as issueRequest, withdraw as withdrawRequest, tally as tallyRequest};
 ghost use Rattle.store.specs.Store.{Good};
-ghost use Rattle.calls.specs.Handled.{Handled, Issuable};
+ghost use Rattle.call_contracts.specs.Called.{Handled};
+ghost use Rattle.calls.specs.Issue.{Issuable};
 
 // Issue of a formula that has passed the checks before 22: 22, 23.
 fn issue_fair(till: &mut Store, kind: Kind, formula: u32, interval: Interval) -> Answer

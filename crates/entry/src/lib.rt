@@ -27,7 +27,7 @@ pub extern "C" fn till_call(
     requires { ⌜ Good (now till) ⌝ }
     ensures { λ _. ⌜ Entered (now (till .entry)) (now (sheet .entry)) (now (answer .exit)) (now (till .exit)) ⌝ }
 {
-    let a = booking::call(till, sheet, scratch);
+    let a = call::call(till, sheet, scratch);
     match a {
         Answer::Accepted(n) => {
             *answer = [1, n, 0, 0];

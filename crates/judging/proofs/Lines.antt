@@ -1,8 +1,8 @@
 -- What becomes of the bytes of a booking, by what is read after its head.
-use mathlib.Core.Path.{_≡_, refl, sym, ap, subst, _∙_}
+use mathlib.Core.Path.{_≡_, refl, sym, ap, _∙_}
 use mathlib.Core.List.{List, []}
 use mathlib.Core.Option.{none, some}
-use mathlib.Core.Bool.{Bool, true, _||_}
+use mathlib.Core.Bool.{Bool, _||_}
 use Prim.Native.Nat.{ℕ, zero, suc, _-_, _≤_}
 use native.Mathlib.Omega.{arith}
 use lib.ListN.{length, take, drop, length-drop, drop-of-length-le}
@@ -10,23 +10,25 @@ use lib.Seq.{take-length}
 use Rattle.logic.specs.Interval.{reversed}
 use Rattle.request.specs.Text.{andThen}
 use Rattle.request.specs.Request.{intervals}
-use Rattle.request.specs.Read.{requestOf, holdLine, stepLine}
+use Rattle.request.specs.Read.{holdLine, stepLine}
 use Rattle.ledger.specs.declared.Answer.{Answer}
 use Rattle.ledger.specs.declared.Answer.the-variants.{Refused}
-use Rattle.ledger.specs.Checks.{any}
-use Rattle.ledger.proofs.Firsts.{if-true, hit}
+use Rattle.ledger.specs.Checks.{any, checks}
+use Rattle.ledger.specs.Statements.{from-start, _▸_}
 use Rattle.forms.specs.Line.{split, readLine}
 use Rattle.tables.specs.Held.{maxHolds}
 use Rattle.tables.specs.Lines.{maxSteps, stepsFrom}
 use Rattle.reader.specs.declared.Head.{Head}
 use Rattle.booking_lines.specs.Booking.{readLines, allLines, StepsAre, LinesAsked}
 use Rattle.booking_lines.proofs.Several.{no-holds, no-steps, booking-read}
-use Rattle.store.specs.Store.{Good}
-use Rattle.calls.specs.Handled.{Handled}
-use Rattle.till.specs.Replied.{Called, Pending}
-use Rattle.calls.proofs.Laws.{refused}
-use Rattle.till.proofs.Sheets.{called-broken, called-read}
-use Rattle.judging.specs.Booking.{bookingAt, Opened}
+use Rattle.holds.specs.Holds.{Serials}
+use Rattle.verdicts.specs.declared.Verdict.{Verdict}
+use Rattle.verdicts.specs.declared.Verdict.the-variants.{Passed, Failed}
+use Rattle.verdicts.specs.Verdicts.{Tells}
+use Rattle.verdicts.proofs.Laws.{shown, reworded}
+use Rattle.call_contracts.specs.Called.{Handled, Called}
+use Rattle.call_contracts.proofs.Laws.{refused, called-broken, called-read}
+use Rattle.judging.specs.Booking.{bookingAt, Opened, ReadLines}
 
 -- the part of the bytes from a position on, as the code hands it over
 abbrev pub from : List ℕ → ℕ → List ℕ
@@ -53,43 +55,53 @@ module _ {l b : List ℕ} {h : Head} (o : Opened l b h) where
   }
 
   pub holds-broken : none ≡ readLines (h .holds) holdLine (drop (h .next) b) → Called l b (Refused 2 0) l
-  holds-broken e =
-      called-broken l b (o .good) (o .short) (no-holds h (drop (h .next) b) (o .head .reads) (sym e))
+  holds-broken e = called-broken (o .good) (o .short) (no-holds h (drop (h .next) b) (o .head .reads) (sym e))
 
-  module _ (serials : List ℕ) (at : ℕ)
-      (e : some (take (h .holds) serials, drop at b) ≡ readLines (h .holds) holdLine (drop (h .next) b)) where
-    no-lines : allLines (h .steps) stepLine (drop at b) ≡ none → Called l b (Refused 2 0) l
-    no-lines n = called-broken l b (o .good) (o .short) (no-steps h (drop (h .next) b) (o .head .reads) (sym e) n)
+-- its holds have been read, up to a position
+pub record ReadHolds (l b : List ℕ) (h : Head) (serials : List ℕ) (at : ℕ) : Type 0 where
+  pub opened : Opened l b h
+  pub held : Serials serials (h .holds)
+  pub lines : some (take (h .holds) serials, drop at b) ≡ readLines (h .holds) holdLine (drop (h .next) b)
 
-    pub steps-broken : allLines (h .steps) stepLine (from b at) ≡ none → Called l b (Refused 2 0) l
-    steps-broken n = no-lines (rw (from-is b at) at n)
+module _ {l b : List ℕ} {h : Head} {serials : List ℕ} {at : ℕ} (r : ReadHolds l b h serials at) where
+  no-lines : allLines (h .steps) stepLine (drop at b) ≡ none → Called l b (Refused 2 0) l
+  no-lines n =
+      let o = r .opened in
+      called-broken (o .good) (o .short) (no-steps h (drop (h .next) b) (o .head .reads) (sym (r .lines)) n)
 
-    pub no-bytes : length b ≤ at → Called l b (Refused 2 0) l
-    no-bytes m =
-        no-lines (rw (drop-of-length-le b m) (none-of (h .steps) (o .head .range .steps .least)))
+  pub steps-broken : allLines (h .steps) stepLine (from b at) ≡ none → Called l b (Refused 2 0) l
+  steps-broken n = no-lines (rw (from-is b at) at n)
 
-    module _ (rows : List ℕ) {x : Bool}
-        (s : StepsAre (allLines (h .steps) stepLine (from b at)) (stepsFrom rows 0 (h .steps)) x) where
-      reads : requestOf b ≡ some (bookingAt h serials rows)
-      reads = booking-read h (drop (h .next) b) (o .head .reads) (sym e) (rw (from-is b at) at (s .steps))
+  pub no-bytes : length b ≤ at → Called l b (Refused 2 0) l
+  no-bytes m = no-lines (rw (drop-of-length-le b m) (none-of (h .steps) (r .opened .head .range .steps .least)))
 
-      -- all intervals of the booking, the goal's and the steps'
-      pub any-reversed : any reversed (intervals (bookingAt h serials rows)) ≡ (reversed (h .interval) || x)
-      unfolding intervals any
-      any-reversed = ap (λ (y : Bool). reversed (h .interval) || y) (s .reversals)
+-- and its steps; x says whether an interval of theirs is reversed
+pub record ReadSteps (l b : List ℕ) (h : Head) (serials rows : List ℕ) (at : ℕ) (x : Bool) : Type 0 where
+  pub holds : ReadHolds l b h serials at
+  pub steps : StepsAre (allLines (h .steps) stepLine (from b at)) (stepsFrom rows 0 (h .steps)) x
 
-      pub lines-reversed : (reversed (h .interval) || x) ≡ true → Called l b (Refused 3 0) l
-      lines-reversed r =
-          called-read l b (o .short) reads
-          (refused l (bookingAt h serials rows) (o .good) (hit (if-true 3 _ (any-reversed ∙ r))))
+module _ {l b : List ℕ} {h : Head} {serials rows : List ℕ} {at : ℕ} {x : Bool}
+    (r : ReadSteps l b h serials rows at x) where
+  pub lines-handled : {a : Answer} {l′ : List ℕ} → Handled l (bookingAt h serials rows) a l′ → Called l b a l′
+  lines-handled d =
+      let o = r .holds .opened in
+      let steps = rw (from-is b at) at (r .steps .steps) in
+      called-read (o .short) (booking-read h (drop (h .next) b) (o .head .reads) (sym (r .holds .lines)) steps) d
 
-      pub lines-handled : {a : Answer} {l′ : List ℕ} → Handled l (bookingAt h serials rows) a l′ → Called l b a l′
-      lines-handled d = called-read l b (o .short) reads d
+  -- 3: all intervals of the booking, the goal's and the steps'
+  turned : {v : Verdict} → Tells 3 v (reversed (h .interval) || x)
+      → Tells 3 v (any reversed (intervals (bookingAt h serials rows)))
+  unfolding intervals any
+  turned t = reworded t (ap (λ (y : Bool). reversed (h .interval) || y) (sym (r .steps .reversals)))
 
--- A booking is opened by `answer`, which has changed nothing
+  pub lines-reversed : {v : Verdict} → Tells 3 v (reversed (h .interval) || x) → v ≡ Failed → Called l b (Refused 3 0) l
+  lines-reversed t e = lines-handled (refused (r .holds .opened .good) from-start (shown (turned t) e))
 
-pub opened : {l b l′ : List ℕ} {h : Head} → Good l → Pending l b h l′ → Opened l′ b h
-opened {l} g p = record { good = subst Good (sym (p .same)) g; short = p .short; head = p .head }
-
-pub called-after : {l b l′ l″ : List ℕ} {h : Head} {a : Answer} → Pending l b h l′ → Called l′ b a l″ → Called l b a l″
-called-after {l} {b} {l″ = l″} {a = a} p c = subst (λ (m : List ℕ). Called m b a l″) (p .same) c
+  pub lines-read : {v : Verdict} → Tells 3 v (reversed (h .interval) || x) → v ≡ Passed → ReadLines l h serials rows
+  unfolding checks
+  lines-read t e = record {
+    good = r .holds .opened .good;
+    held = r .holds .held;
+    steps = r .holds .opened .head .range .steps .most;
+    so-far = from-start ▸ shown (turned t) e;
+  }

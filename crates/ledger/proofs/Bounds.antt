@@ -160,5 +160,5 @@ forget o a u = u
 
 pub bounded : AlwaysBounded
 bounded bs =
-    walk forget (λ t u. Bounded t) (λ o n k u. refl) (λ t u b r e p. accept-bounded t r (p .1)) empty tt bs
+    walk forget (λ t u. Bounded t) (λ o n k u. refl) (λ t u b r e p. accept-bounded t r (p .rest)) empty tt bs
     empty-bounded

@@ -17,6 +17,12 @@ pub data FirstFails (f : Refusal) : List Check → Type 0 where
   here : {cs : List Check} → FirstFails f (some f ∷ cs)
   later : {cs : List Check} → FirstFails f cs → FirstFails f (none ∷ cs)
 
+-- so far so good: the checks before `rest` pass. `s ▸ e` goes past one more, which passes by e
+infixl 4 _▸_
+pub data SoFar (all : List Check) : List Check → Type 0 where
+  from-start : SoFar all all
+  _▸_ : {c : Check} {rest : List Check} → SoFar all (c ∷ rest) → c ≡ none → SoFar all rest
+
 -- no refusal
 abbrev pub IsAccepted : Told → Type 0
 IsAccepted (ok values) = Unit {0}

@@ -15,7 +15,7 @@ use verdicts::Verdict;
 ghost use mathlib.Core.Path.{_≡_};
 ghost use Rattle.premises.specs.Begin.{sequent};
 ghost use Rattle.checker.specs.Cycle.{refusalOf, refusedBy};
-ghost use Rattle.calls.specs.Handled.{Handled};
+ghost use Rattle.call_contracts.specs.Called.{Handled};
 ghost use Rattle.judging.specs.Booking.{bookingAt, Steppable};
 
 // The sequent of the first step: the goal from the holds.

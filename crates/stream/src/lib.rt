@@ -29,7 +29,7 @@ fn answer(till: &mut Store, rows: &mut StepRows, sheet: &[u8], text: &mut [u8], 
     ensures { λ r. ⌜ Said (now (till .entry)) (now (sheet .entry)) (now (text .entry)) at
         (now (till .exit)) (now (text .exit)) r ⌝ }
 {
-    let a = booking::call(till, sheet, rows);
+    let a = call::call(till, sheet, rows);
     print::put_answer(text, at, a)
 }
 

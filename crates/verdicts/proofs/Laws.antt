@@ -30,6 +30,10 @@ by-verdict {n} {v} {w} {b} e g = go v b (e .check) ∙ ap fails g
     go Failed true e = refl
     go Failed false e = absurd (some-none e)
 
+-- its check, by the verdict
+pub shown : {n : ℕ} {v w : Verdict} {b : Bool} → Tells n v b → v ≡ w → (n if b) ≡ checked n w
+shown {n} e g = sym (e .check) ∙ ap (checked n) g
+
 -- a verdict by its test
 pub passing : (n : ℕ) {b : Bool} → b ≡ false → Tells n Passed b
 passing n {b} e = record { check = sym (if-false n b e) }

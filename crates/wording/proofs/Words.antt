@@ -1,7 +1,7 @@
--- Word: one law for each way out.
+-- The ways out of word.
 use mathlib.Core.Path.{_≡_, sym, ap, _∙_}
-use mathlib.Core.List.{List}
-use mathlib.Core.Bool.{Bool, true, false}
+use mathlib.Core.List.{List, _∷_}
+use mathlib.Core.Bool.{Bool}
 use Prim.Native.Nat.{ℕ}
 use lib.Dec.{leb, ltb}
 use lib.ListN.{length}
@@ -9,20 +9,24 @@ use borrow.Author.Tests.{leb-false, ltb-false}
 use Rattle.logic.specs.Interval.{reversed}
 use Rattle.logic.specs.Formula.{size, plain}
 use Rattle.logic.specs.Counts.{balanced}
-use Rattle.request.specs.Request.{Line, word, lineIntervals, intervals}
+use Rattle.request.specs.Request.{word, lineIntervals, intervals}
 use Rattle.steps.specs.declared.Row.{Row}
 use Rattle.ledger.specs.declared.Answer.the-variants.{Accepted, Refused}
 use Rattle.ledger.specs.Table.{form, names, rowOf}
-use Rattle.ledger.specs.Ledger.{Ledger, formula}
-use Rattle.ledger.specs.Checks.{any, maxSize, maxFormulas, missing, sameRow, sameLine, checks}
+use Rattle.ledger.specs.Ledger.{formula}
+use Rattle.ledger.specs.Checks.{_if_, any, maxSize, maxFormulas, missing, oversize, sameRow, sameLine, checks}
 use Rattle.ledger.specs.Calls.{withLine, accept}
-use Rattle.ledger.proofs.Firsts.{if-false, if-true, skip, hit}
+use Rattle.ledger.specs.Statements.{from-start, _▸_}
 use Rattle.store.specs.Store.{lineOf, ledgerOf, Good, Canonical, StandsFor, Wordable}
 use Rattle.facts.specs.Facts.{Formable}
 use Rattle.facts.proofs.Named.{none-missing}
-use Rattle.wording.specs.Wording.{Named, Fitting}
-use Rattle.calls.specs.Handled.{Handled}
-use Rattle.calls.proofs.Laws.{refused, accepted}
+use Rattle.verdicts.specs.declared.Verdict.{Verdict}
+use Rattle.verdicts.specs.declared.Verdict.the-variants.{Passed, Failed}
+use Rattle.verdicts.specs.Verdicts.{Tells}
+use Rattle.verdicts.proofs.Laws.{shown, reworded}
+use Rattle.call_contracts.specs.Called.{Handled}
+use Rattle.call_contracts.proofs.Laws.{refused, accepted}
+use Rattle.wording.specs.Wording.{fitChecks, Past, Named, Fitting}
 
 -- a row of named parts stands for a formula
 pub named-formable : {l : List ℕ} {x : Row} → Named l x → Formable l x
@@ -32,83 +36,51 @@ named-formable {l} {x} n = record {
   there = none-missing (ledgerOf l) (names (lineOf x)) (n .there);
 }
 
+-- 3, by its verdict
+turned : (x : Row) {v : Verdict} → Tells 3 v (any reversed (lineIntervals (lineOf x)))
+    → Tells 3 v (any reversed (intervals (word (lineOf x))))
+unfolding intervals
+turned x h = h
+
+pub word-reversed : {l : List ℕ} (x : Row) {v : Verdict} → Good l → Tells 3 v (any reversed (lineIntervals (lineOf x)))
+    → v ≡ Failed → Handled l (word (lineOf x)) (Refused 3 0) l
+word-reversed x g h e = refused g from-start (shown (turned x h) e)
+
 module _ (l : List ℕ) (x : Row) where
-  abbrev t : Ledger
-  t = ledgerOf l
-
-  abbrev line : Line
-  line = lineOf x
-
-  straight : {b : Bool} → any reversed (lineIntervals line) ≡ b → any reversed (intervals (word line)) ≡ b
-  unfolding intervals
-  straight e = e
-
-  pub word-reversed : Good l → any reversed (lineIntervals line) ≡ true → Handled l (word line) (Refused 3 0) l
-  word-reversed g e = refused l (word line) g (hit (if-true 3 _ (straight e)))
-
-  pub word-missing : Good l → any reversed (lineIntervals line) ≡ false → any (missing t) (names line) ≡ true
-      → Handled l (word line) (Refused 10 0) l
+  pub past-intervals : {v : Verdict} → Tells 3 v (any reversed (lineIntervals (lineOf x))) → v ≡ Passed
+      → Past l x ((10 if any (missing (ledgerOf l)) (names (lineOf x))) ∷ fitChecks (ledgerOf l) (lineOf x))
   unfolding checks
-  word-missing g s e = refused l (word line) g (skip (if-false 3 _ (straight s)) (hit (if-true 10 _ e)))
+  past-intervals h e = from-start ▸ shown (turned x h) e
 
-  -- a line equal to the row's, by rows
-  same-row : Canonical x → {b : Bool} → any (λ m. sameRow x (rowOf m)) (t .lines) ≡ b
-      → any (sameLine line) (t .lines) ≡ b
-  same-row c e = ap (λ (r : Row). any (λ m. sameRow r (rowOf m)) (t .lines)) c ∙ e
+  -- 12, 13 and 14 as the code tests them
+  pub sized : {z : ℕ} {v : Verdict} → z ≡ size (form (formula (ledgerOf l)) (lineOf x)) → Tells 12 v (ltb maxSize z)
+      → Tells 12 v (oversize (ledgerOf l) (lineOf x))
+  sized e h = reworded h (ap (ltb maxSize) e)
 
-  module _ (n : Named l x) (z : ℕ) (sized : z ≡ size (form (formula t) line)) where
-    large : {b : Bool} → ltb maxSize z ≡ b → ltb maxSize (size (form (formula t) line)) ≡ b
-    large e = ap (ltb maxSize) (sym sized) ∙ e
+  pub known : {b : Bool} {v : Verdict} → Canonical x → b ≡ any (λ m. sameRow x (rowOf m)) (ledgerOf l .lines)
+      → Tells 13 v b → Tells 13 v (any (sameLine (lineOf x)) (ledgerOf l .lines))
+  known c e h =
+      reworded h (e ∙ sym (ap (λ (r : Row). any (λ m. sameRow r (rowOf m)) (ledgerOf l .lines)) c))
 
-    pub word-large : ltb maxSize z ≡ true → Handled l (word line) (Refused 12 0) l
-    unfolding checks
-    word-large e =
-        refused l (word line) (n .good)
-        (skip (if-false 3 _ (straight (n .straight))) (skip (if-false 10 _ (n .there)) (hit (if-true 12 _ (large e)))))
+pub counted : (l : List ℕ) {n : ℕ} {v : Verdict} → n ≡ length (ledgerOf l .lines) → Tells 14 v (leb maxFormulas n)
+    → Tells 14 v (leb maxFormulas (length (ledgerOf l .lines)))
+counted l e h = reworded h (ap (leb maxFormulas) e)
 
-    module _ (small : ltb maxSize z ≡ false) where
-      pub word-known : any (λ m. sameRow x (rowOf m)) (t .lines) ≡ true → Handled l (word line) (Refused 13 0) l
-      unfolding checks
-      word-known e =
-          refused l (word line) (n .good)
-          (skip (if-false 3 _ (straight (n .straight))) (skip (if-false 10 _ (n .there))
-          (skip (if-false 12 _ (large small)) (hit (if-true 13 _ (same-row (n .canonical) e))))))
+module _ {l : List ℕ} {x : Row} {z : ℕ} (f : Fitting l x z) where
+  pub word-added : {p b : Bool} → p ≡ plain (form (formula (ledgerOf l)) (lineOf x))
+      → b ≡ balanced (form (formula (ledgerOf l)) (lineOf x)) → Wordable l x z p b
+  word-added q y = record {
+    good = f .named .good;
+    room = leb-false maxFormulas (length (ledgerOf l .lines)) (f .room);
+    canonical = f .named .canonical;
+    there = named-formable (f .named) .there;
+    sized = f .sized;
+    plainly = q;
+    balancedly = y;
+    small = ltb-false maxSize z (f .small);
+  }
 
-      pub word-full : any (λ m. sameRow x (rowOf m)) (t .lines) ≡ false → leb maxFormulas (length (t .lines)) ≡ true
-          → Handled l (word line) (Refused 14 0) l
-      unfolding checks
-      word-full f e =
-          refused l (word line) (n .good)
-          (skip (if-false 3 _ (straight (n .straight))) (skip (if-false 10 _ (n .there))
-          (skip (if-false 12 _ (large small)) (skip (if-false 13 _ (same-row (n .canonical) f))
-          (hit (if-true 14 _ e))))))
-
-  module _ {z : ℕ} (f : Fitting l x z) where
-    pub word-added : {p b : Bool} → p ≡ plain (form (formula t) line) → b ≡ balanced (form (formula t) line)
-        → Wordable l x z p b
-    word-added q y = record {
-      good = f .named .good;
-      room = leb-false maxFormulas (length (t .lines)) (f .room);
-      canonical = f .named .canonical;
-      there = named-formable (f .named) .there;
-      sized = f .sized;
-      plainly = q;
-      balancedly = y;
-      small = ltb-false maxSize z (f .small);
-    }
-
-    pub word-done : (l′ : List ℕ) (n : ℕ) → n ≡ length (t .lines) → StandsFor l′ (withLine t line)
-        → Handled l (word line) (Accepted n) l′
-    unfolding checks accept
-    word-done l′ n e d =
-        accepted l l′ (word line) (Accepted n) (
-          if-false 3 _ (straight (f .named .straight)),
-          (
-            if-false 10 _ (f .named .there),
-            (
-              if-false 12 _ (large (f .named) z (f .sized) (f .small)),
-              (if-false 13 _ (same-row (f .named .canonical) (f .fresh)), (if-false 14 _ (f .room), tt)),
-            ),
-          ),
-        )
-        (ap Accepted e) tt d
+  pub word-done : {l′ : List ℕ} {n : ℕ} → n ≡ length (ledgerOf l .lines)
+      → StandsFor l′ (withLine (ledgerOf l) (lineOf x)) → Handled l (word (lineOf x)) (Accepted n) l′
+  unfolding accept
+  word-done e d = accepted (f .so-far) (ap Accepted e) tt d

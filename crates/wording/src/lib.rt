@@ -6,7 +6,7 @@ use store::Store;
 use verdicts::Verdict;
 ghost use Rattle.request.specs.Request.{word as wordRequest};
 ghost use Rattle.store.specs.Store.{lineOf, Canonical, Good};
-ghost use Rattle.calls.specs.Handled.{Handled};
+ghost use Rattle.call_contracts.specs.Called.{Handled};
 ghost use Rattle.wording.specs.Wording.{Named, Fitting};
 
 // A line that has passed all checks is added.

@@ -1,16 +1,56 @@
 -- `book` meets its contract.
-use mathlib.Core.Path.{_∙_}
-use Prim.Native.Nat.{_<_}
+use mathlib.Core.List.{List}
+use mathlib.Core.Bool.{Bool}
+use Prim.Native.Nat.{ℕ, _<_}
 use denote.Ref.{now}
 use lib.ListN.{length}
 use borrow.Author.Tests.{leb-true, leb-false}
 use borrow.Author.Needs.{needs}
 use native.Mathlib.Omega.{arith}
 use Rattle.verdicts.proofs.Laws.{by-verdict}
-use Rattle.judging.proofs.Lines.{holds-asked, steps-asked, holds-broken, no-bytes, steps-broken}
-use Rattle.judging.proofs.Lines.{lines-reversed, lines-handled, any-reversed}
+use Rattle.judging.proofs.Lines.{holds-asked, steps-asked, ReadHolds, holds-broken, no-bytes, steps-broken}
+use Rattle.judging.proofs.Lines.{ReadSteps, lines-reversed, lines-read, lines-handled}
 use Rattle.booking.proofs.book.Statement.{statement}
 use Rattle.booking.proofs.book.Tie as tie
+
+-- where the holds have been read: the way back to the start, the serials, the position after them
+abbrev begun : tie.After-held → tie.Start
+begun c = c .before .before .before .before .before
+
+abbrev serials : tie.After-held → List ℕ
+serials c = c .before .before .read-holds .last .1 .1 .1 .0
+
+abbrev end : tie.After-held → ℕ
+end c = c .held .given .0 .0
+
+holds-read : (c : tie.After-held) →
+    let a = begun c .args in
+    ReadHolds (now (a .till)) (now (a .sheet)) (a .head) (serials c) (end c)
+holds-read c =
+    let read = c .before .before .read-holds in
+    record {
+      opened = begun c .pre;
+      held = record { few = begun c .pre .head .range .holds .most; long = read .ensures .1 };
+      lines = rw (c .held .given .1) at (read .ensures .0);
+    }
+
+-- where the steps have been read too: where the holds had been, the rows, whether an interval is reversed
+abbrev holds : tie.After-read → tie.After-held
+holds c = c .before .before .before .before .before .before .before .before .before
+
+abbrev rows : tie.After-read → List ℕ
+rows c = c .before .before .read-steps .last .1 .1 .0
+
+abbrev turned : tie.After-read → Bool
+turned c = c .read .given .0 .0
+
+steps-read : (c : tie.After-read) →
+    let a = begun (holds c) .args in
+    ReadSteps (now (a .till)) (now (a .sheet)) (a .head) (serials (holds c)) (rows c) (end (holds c)) (turned c)
+steps-read c = record {
+  holds = holds-read (holds c);
+  steps = rw (c .read .given .1) at (c .before .before .read-steps .ensures);
+}
 
 returns : tie.Need-returns
 returns c =
@@ -21,94 +61,45 @@ returns c =
 returns-2 : tie.Need-returns-2
 returns-2 c =
     let tested = c .before .before in
-    let held = tested .before .before in
-    let read = held .before .before in
-    let start = read .before .before .before in
-    let serials = read .read-holds .last .1 .1 .1 .0 in
-    let end = held .held .given .0 .0 in
-    let lines = rw (held .held .given .1) at (read .read-holds .ensures .0) in
-    no-bytes (start .pre) serials end lines
+    no-bytes (holds-read (tested .before .before))
     (leb-true _ _ (by-verdict (tested .tested .ensures 2) (c .enum-told3 .given .1)))
 
 -- bytes are left after the holds
 more-bytes : (c : tie.After-enum-told2) →
     let held = c .before .before .before .before in
-    held .held .given .0 .0 < length (now (held .before .before .before .before .before .args .sheet))
+    end held < length (now (begun held .args .sheet))
 more-bytes c =
     let tested = c .before .before in
     let held = tested .before .before in
-    leb-false (length (now (held .before .before .before .before .before .args .sheet))) (held .held .given .0 .0)
+    leb-false (length (now (begun held .args .sheet))) (end held)
     (by-verdict (tested .tested .ensures 2) (c .enum-told2 .given .1))
 
 read-steps-requires : tie.Need-read-steps-requires
 read-steps-requires c κs =
     let held = c .before .before .before .before .before .before in
-    steps-asked (held .before .before .before .before .before .pre) (held .held .given .0 .0)
+    steps-asked (begun held .pre) (end held)
 
 returns-3 : tie.Need-returns-3
 returns-3 c =
     let steps = c .before .before in
-    let held = steps .before .before .before .before .before .before .before in
-    let read = held .before .before in
-    let start = read .before .before .before in
-    let serials = read .read-holds .last .1 .1 .1 .0 in
-    let end = held .held .given .0 .0 in
-    let lines = rw (held .held .given .1) at (read .read-holds .ensures .0) in
-    steps-broken (start .pre) serials end lines (rw (c .enum-told4 .given .1) at (steps .read-steps .ensures))
+    steps-broken (holds-read (steps .before .before .before .before .before .before .before))
+    (rw (c .enum-told4 .given .1) at (steps .read-steps .ensures))
 
 returns-4 : tie.Need-returns-4
 returns-4 c =
     let ordered = c .before .before in
-    let told = ordered .before .before in
-    let steps = told .before .before in
-    let held = steps .before .before .before .before .before .before .before in
-    let read = held .before .before in
-    let start = read .before .before .before in
-    let serials = read .read-holds .last .1 .1 .1 .0 in
-    let end = held .held .given .0 .0 in
-    let lines = rw (held .held .given .1) at (read .read-holds .ensures .0) in
-    let rows = steps .read-steps .last .1 .1 .0 in
-    let read-all = rw (told .read .given .1) at (steps .read-steps .ensures) in
-    lines-reversed (start .pre) serials end lines rows read-all
-    (by-verdict (ordered .lines-ordered .ensures) (c .enum-told6 .given .1))
+    lines-reversed (steps-read (ordered .before .before)) (ordered .lines-ordered .ensures) (c .enum-told6 .given .1)
 
 book-read-requires : tie.Need-book-read-requires
 book-read-requires c κs =
     let passed = c .before .before .before in
     let ordered = passed .before .before in
-    let told = ordered .before .before in
-    let steps = told .before .before in
-    let held = steps .before .before .before .before .before .before .before in
-    let read = held .before .before in
-    let start = read .before .before .before in
-    let serials = read .read-holds .last .1 .1 .1 .0 in
-    let end = held .held .given .0 .0 in
-    let lines = rw (held .held .given .1) at (read .read-holds .ensures .0) in
-    let rows = steps .read-steps .last .1 .1 .0 in
-    let read-all = rw (told .read .given .1) at (steps .read-steps .ensures) in
-    record {
-      good = start .pre .good;
-      held = record { few = start .pre .head .range .holds .most; long = read .read-holds .ensures .1 };
-      steps = start .pre .head .range .steps .most;
-      straight = any-reversed (start .pre) serials end lines rows read-all
-          ∙ by-verdict (ordered .lines-ordered .ensures) (passed .enum-told5 .given .1);
-    }
+    lines-read (steps-read (ordered .before .before)) (ordered .lines-ordered .ensures) (passed .enum-told5 .given .1)
 
 returns-5 : tie.Need-returns-5
 returns-5 c =
-    let passed = c .before .before .before .before in
-    let ordered = passed .before .before in
-    let told = ordered .before .before in
-    let steps = told .before .before in
-    let held = steps .before .before .before .before .before .before .before in
-    let read = held .before .before in
-    let start = read .before .before .before in
-    let serials = read .read-holds .last .1 .1 .1 .0 in
-    let end = held .held .given .0 .0 in
-    let lines = rw (held .held .given .1) at (read .read-holds .ensures .0) in
-    let rows = steps .read-steps .last .1 .1 .0 in
-    let read-all = rw (told .read .given .1) at (steps .read-steps .ensures) in
-    lines-handled (start .pre) serials end lines rows read-all (c .book-read .ensures)
+    let ordered = c .before .before .before .before .before .before in
+    lines-handled (steps-read (ordered .before .before)) (c .book-read .ensures)
 
 pub book-spec : {M : Type 1} → statement M
 book-spec =

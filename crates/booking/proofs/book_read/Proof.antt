@@ -1,62 +1,78 @@
 -- `book_read` meets its contract.
+use mathlib.Core.List.{List}
+use denote.Ref.{now}
 use borrow.Author.Tests.{leb-false}
 use borrow.Author.Needs.{needs}
-use Rattle.verdicts.proofs.Laws.{by-verdict}
-use Rattle.judging.proofs.Laws.{book-missing, book-unplain, book-untimely}
+use Rattle.logic.specs.Formula.{plain}
+use Rattle.logic.specs.Interval.{has}
+use Rattle.ledger.specs.Ledger.{formula}
+use Rattle.ledger.specs.Checks.{Check, checks}
+use Rattle.ledger.specs.Statements.{_▸_}
+use Rattle.verdicts.proofs.Laws.{by-verdict, shown}
+use Rattle.call_contracts.proofs.Laws.{refused}
+use Rattle.judging.specs.Booking.{Past}
 use Rattle.booking.proofs.book_read.Statement.{statement}
 use Rattle.booking.proofs.book_read.Tie as tie
+
+-- the way back to the start from where the formula is there, and is plain
+abbrev present : tie.After-enum-told → tie.Start
+present c = c .before .before .before .before
+
+abbrev plainly : tie.After-enum-told3 → tie.Start
+plainly c = present (c .before .before .before .before)
+
+-- the checks before `rest` have passed
+abbrev PastAt : tie.Start → List Check → Type 0
+PastAt s rest = Past (now (s .args .till)) (s .args .head) (now (s .args .serials)) (now (s .args .rows)) rest
 
 present-requires : tie.Need-present-requires
 present-requires c κs = c .before .pre .good
 
 returns : tie.Need-returns
 returns c =
-    let present = c .before .before in
-    book-missing _ _ _ _ (present .before .before .pre)
-    (by-verdict (present .present .ensures) (c .enum-told2 .given .1))
+    let start = c .before .before .before .before in
+    refused (start .pre .good) (start .pre .so-far)
+    (shown (c .before .before .present .ensures) (c .enum-told2 .given .1))
+
+-- 10 has passed
+abbrev past-10 : (c : tie.After-enum-told) → (rest : List Check) × PastAt (present c) rest
+past-10 c = (_, present c .pre .so-far ▸ shown (c .before .before .present .ensures) (c .enum-told .given .1))
 
 plainly-requires : tie.Need-plainly-requires
 plainly-requires c κs =
     let there = c .before in
-    let present = there .before .before in (
-      present .before .before .pre .good,
-      leb-false _ _ (by-verdict (present .present .ensures) (there .enum-told .given .1)),
-    )
+    let found = by-verdict (there .before .before .present .ensures) (there .enum-told .given .1) in
+    (present there .pre .good, leb-false _ _ found)
 
 returns-2 : tie.Need-returns-2
 returns-2 c =
-    let plainly = c .before .before in
-    let there = plainly .before .before in
-    let present = there .before .before in
-    book-unplain _ _ _ _ (present .before .before .pre)
-    (by-verdict (present .present .ensures) (there .enum-told .given .1))
-    (by-verdict (plainly .plainly .ensures) (c .enum-told4 .given .1))
+    let there = c .before .before .before .before in
+    refused (present there .pre .good) (past-10 there .1)
+    (shown (c .before .before .plainly .ensures) (c .enum-told4 .given .1))
+
+-- and 20
+abbrev past-20 : (c : tie.After-enum-told3) → (rest : List Check) × PastAt (plainly c) rest
+past-20 c = (
+  _,
+  past-10 (c .before .before .before .before) .1
+      ▸ shown (c .before .before .plainly .ensures) (c .enum-told3 .given .1),
+)
 
 returns-3 : tie.Need-returns-3
 returns-3 c =
-    let timely = c .before .before in
-    let plain = timely .before in
-    let plainly = plain .before .before in
-    let there = plainly .before .before in
-    let present = there .before .before in
-    book-untimely _ _ _ _ (present .before .before .pre)
-    (by-verdict (present .present .ensures) (there .enum-told .given .1))
-    (by-verdict (plainly .plainly .ensures) (plain .enum-told3 .given .1))
-    (by-verdict (timely .timely .ensures) (c .enum-told6 .given .1))
+    let plain = c .before .before .before in
+    refused (plainly plain .pre .good) (past-20 plain .1)
+    (shown (c .before .before .timely .ensures) (c .enum-told6 .given .1))
 
 book-holds-requires : tie.Need-book-holds-requires
 book-holds-requires c κs =
     let now = c .before in
-    let timely = now .before .before in
-    let plain = timely .before in
-    let plainly = plain .before .before in
-    let there = plainly .before .before in
-    let present = there .before .before in
+    let plain = now .before .before .before in
+    let there = plain .before .before .before .before in
     record {
-      lines = present .before .before .pre;
-      there = by-verdict (present .present .ensures) (there .enum-told .given .1);
-      plainly = by-verdict (plainly .plainly .ensures) (plain .enum-told3 .given .1);
-      timely = by-verdict (timely .timely .ensures) (now .enum-told5 .given .1);
+      lines = plainly plain .pre;
+      there = by-verdict (there .before .before .present .ensures) (there .enum-told .given .1);
+      so-far = past-20 plain .1 ▸ shown (now .before .before .timely .ensures) (now .enum-told5 .given .1);
     }
 
 pub book-read-spec : {M : Type 1} → statement M

@@ -8,12 +8,12 @@ add-row-requires : tie.Need-add-row-requires
 add-row-requires c κs =
     let balanced = c .before .before .before in
     let plain = balanced .before .before in
-    word-added _ _ (plain .before .before .pre) (plain .row-plain .ensures) (balanced .row-balanced .ensures)
+    word-added (plain .before .before .pre) (plain .row-plain .ensures) (balanced .row-balanced .ensures)
 
 returns : tie.Need-returns
 returns c =
     let plain = c .before .before .before .before .before .before in
-    word-done _ _ (plain .before .before .pre) _ _ (c .before .before .formula-count .ensures) (c .add-row .ensures)
+    word-done (plain .before .before .pre) (c .before .before .formula-count .ensures) (c .add-row .ensures)
 
 pub add-spec : {M : Type 1} → statement M
 add-spec =
