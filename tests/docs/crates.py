@@ -99,11 +99,11 @@ def named(name, names):
         crates.update(re.findall(r"Rattle·([a-z0-9_]+)", text))
         if path.endswith(".rt"):
             text = plain(text)
-            crates.update(word for word in re.findall(r"(?<![\w:])([a-z0-9_]+)::", text))
             brought = re.findall(r"^use (\w+)(?:::\w+)*::(\w+);", text, re.M)
             modules = {last: crate for crate, last in brought}
+            crates.update(word for word in re.findall(r"(?<![\w:])([a-z0-9_]+)::", text) if word not in modules)
             for before, middle, own in re.findall(r"(?<![\w:])(?:(\w+)::)?(?:(\w+)::)?(\w+)\(", text):
-                crate = before if before in names else modules.get(before or own)
+                crate = modules.get(before or own) or (before if before in names else None)
                 if crate:
                     calls.add((crate, own))
     return (crates - {name}) & (set(names) | KIT), calls
@@ -209,7 +209,7 @@ class Calls:
     def of(self, at):
         found = []
         for before, own in re.findall(r"(?<![\w:])(?:(\w+)::(?:\w+::)*)?(\w+)\(", self.bodies[at].text):
-            crate = before if before in self.crates else self.brought[at].get(before or own, at[0])
+            crate = self.brought[at].get(before or own) or (before if before in self.crates else at[0])
             if (crate, own) in self.bodies and (crate, own) not in found:
                 found.append((crate, own))
         return found
