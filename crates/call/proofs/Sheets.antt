@@ -10,8 +10,8 @@ use Rattle.request.specs.Read.{requestOf}
 use Rattle.steps.specs.declared.Row.{Row}
 use Rattle.store.specs.Store.{lineOf, Canonical}
 use Rattle.store.proofs.Lines.{line-of-row, row-canonical}
-use Rattle.reader.specs.declared.First.{First}
-use Rattle.reader.specs.First.{WordIs, LineIs}
+use Rattle.read_heads.specs.declared.First.{First}
+use Rattle.read_heads.specs.First.{WordIs, LineIs}
 
 -- 1 has passed, and the first line has been read
 pub record Begun (b : List ℕ) (f : First) : Type 0 where

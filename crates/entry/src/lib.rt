@@ -2,7 +2,7 @@
 // with a length, and the caller lends 1,536 numbers to work on and four for the answer.
 use ledger::Answer;
 use store::Store;
-use tables::StepRows;
+use step_rows::StepRows;
 ghost use Rattle.ledger.specs.Ledger.{empty};
 ghost use Rattle.store.specs.Store.{Good, StandsFor};
 ghost use Rattle.entry.specs.Entered.{Entered};

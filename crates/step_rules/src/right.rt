@@ -19,7 +19,7 @@ ghost use Rattle.steps.specs.Plans.{when, is, premise};
 pub fn or(d: u64, x: Row) -> Plan
     ensures { λ r. ⌜ r ≡ when (is x "o") (when (isEmpty d) Plan.Closed) ⌝ }
 {
-    plans::when(
+    step_plans::when(
         (x.letter == letters::ONE) & labels::is_empty(d),
         Plan::Closed,
     )
@@ -31,7 +31,7 @@ pub fn gr(d: u64, x: Row) -> Plan
 {
     let i = x.first;
     let j = x.second;
-    plans::when(
+    step_plans::when(
         (x.letter == letters::SUPERSET) & (labels::is_empty(d) & intervals::contains(i, j)),
         Plan::Closed,
     )
@@ -41,13 +41,13 @@ pub fn gr(d: u64, x: Row) -> Plan
 pub fn p1(d: u64, x: Row, i: Interval) -> Plan
     ensures { λ r. ⌜ r ≡ when (is x "p") (Plan.One (premise d (Goal.Holds (x .a) i) Fresh.Nothing)) ⌝ }
 {
-    plans::goal(x.letter == letters::PLUS, d, x.a, i)
+    step_plans::goal(x.letter == letters::PLUS, d, x.a, i)
 }
 
 pub fn p2(d: u64, x: Row, i: Interval) -> Plan
     ensures { λ r. ⌜ r ≡ when (is x "p") (Plan.One (premise d (Goal.Holds (x .b) i) Fresh.Nothing)) ⌝ }
 {
-    plans::goal(x.letter == letters::PLUS, d, x.b, i)
+    step_plans::goal(x.letter == letters::PLUS, d, x.b, i)
 }
 
 // "!, D empty, then the part."
@@ -55,7 +55,7 @@ pub fn br(d: u64, x: Row, i: Interval) -> Plan
     ensures { λ r. ⌜ r ≡ when (is x "b") (when (isEmpty d)
         (Plan.One (premise d (Goal.Holds (x .a) i) Fresh.Nothing))) ⌝ }
 {
-    plans::goal((x.letter == letters::BANG) & labels::is_empty(d), d, x.a, i)
+    step_plans::goal((x.letter == letters::BANG) & labels::is_empty(d), d, x.a, i)
 }
 
 // "A@J becomes A at J."
@@ -63,14 +63,14 @@ pub fn hr(d: u64, x: Row) -> Plan
     ensures { λ r. ⌜ r ≡ when (is x "h") (Plan.One (premise d (Goal.Holds (x .a) (x .first)) Fresh.Nothing)) ⌝ }
 {
     let j = x.first;
-    plans::goal(x.letter == letters::AT, d, x.a, j)
+    step_plans::goal(x.letter == letters::AT, d, x.a, j)
 }
 
 // "⟨K⟩A becomes K affirms A."
 pub fn sr(d: u64, x: Row, i: Interval) -> Plan
     ensures { λ r. ⌜ r ≡ when (is x "s") (Plan.One (premise d (Goal.Affirms (x .b) i (x .a)) Fresh.Nothing)) ⌝ }
 {
-    plans::one(
+    step_plans::one(
         x.letter == letters::SAYS,
         d,
         Goal::Affirms(x.b, i, x.a),
@@ -83,7 +83,7 @@ pub fn wr(d: u64, x: Row, i: Interval) -> Plan
     ensures { λ r. ⌜ r ≡ when (is x "w") (Plan.Two (premise d (Goal.Holds (x .a) i) Fresh.Nothing)
         (premise d (Goal.Holds (x .b) i) Fresh.Nothing)) ⌝ }
 {
-    plans::goals(x.letter == letters::WITH, d, x.a, d, x.b, i)
+    step_plans::goals(x.letter == letters::WITH, d, x.a, d, x.b, i)
 }
 
 // "⊗; left from the share, right from the rest of D."
@@ -93,7 +93,7 @@ pub fn tr(d: u64, x: Row, i: Interval, share: u64) -> Plan
         (premise (without d share) (Goal.Holds (x .b) i) Fresh.Nothing))) ⌝ }
 {
     let rest = labels::without(d, share);
-    plans::goals(
+    step_plans::goals(
         (x.letter == letters::TENSOR) & labels::subset(share, d),
         share,
         x.a,
@@ -111,7 +111,7 @@ pub fn ax(d: u64, x: Row, i: Interval, k: u32, h: Hypothesis, y: Row) -> Plan
 {
     let j = h.interval;
     let same = (y.letter == letters::ATOM) & ((y.a == x.a) & (y.b == x.b));
-    plans::when(
+    step_plans::when(
         (x.letter == letters::ATOM) & (labels::is_just(d, k) & (same & intervals::contains(j, i))),
         Plan::Closed,
     )

@@ -10,14 +10,14 @@ use lib.Seq.{take-all, take-suc, take-take, take-add, length-take-le}
 use Rattle.ledger.specs.Ledger.{empty}
 use Rattle.store.specs.Store.{ledgerOf}
 use Rattle.ledger.specs.Calls.{Reply, told, call, after, answers}
-use Rattle.print.specs.Printed.{line, printed, longest, Room}
-use Rattle.print.proofs.Writing.{wrote-as}
+use Rattle.stream_print.specs.Printed.{line, printed, longest, Room}
+use Rattle.stream_print.proofs.Writing.{wrote-as}
 use Rattle.stream.specs.declared.Place.{Place}
 use Rattle.stream.specs.declared.Taken.{Taken}
-use Rattle.sheets.specs.Sheets.{split, oneMore, most}
-use Rattle.sheets.specs.Ends.{EndsAt, NoEnd}
-use Rattle.sheets.specs.Keeping.{Kept}
-use Rattle.sheets.proofs.Splits.{cut}
+use Rattle.stream_sheets.specs.Sheets.{split, oneMore, most}
+use Rattle.stream_sheets.specs.Ends.{EndsAt, NoEnd}
+use Rattle.stream_sheets.specs.Keeping.{Kept}
+use Rattle.stream_sheets.proofs.Splits.{cut}
 use Rattle.stream.specs.Stream.{Said, Ready, Stands, Took, TookSome, Ended}
 use Rattle.stream.proofs.Streams.{stands-kept, stands-ended, said-text}
 

@@ -8,10 +8,10 @@ use Rattle.ledger.specs.declared.Answer.{Answer}
 use Rattle.ledger.specs.Ledger.{Ledger, empty}
 use Rattle.ledger.specs.Calls.{Reply, told, call, after, answers}
 use Rattle.store.specs.Store.{ledgerOf}
-use Rattle.print.specs.Printed.{line, printed}
-use Rattle.sheets.specs.Sheets.{Split, start, splitFrom, split, emptyLine, lineBegins, most}
-use Rattle.sheets.specs.Keeping.{Kept}
-use Rattle.sheets.proofs.Splits.{split-append, cut, keep-cut, run, closes}
+use Rattle.stream_print.specs.Printed.{line, printed}
+use Rattle.stream_sheets.specs.Sheets.{Split, start, splitFrom, split, emptyLine, lineBegins, most}
+use Rattle.stream_sheets.specs.Keeping.{Kept}
+use Rattle.stream_sheets.proofs.Splits.{split-append, cut, keep-cut, run, closes}
 use Rattle.stream.specs.declared.Place.{Place}
 use Rattle.stream.specs.Stream.{Said, Stands}
 

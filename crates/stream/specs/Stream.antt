@@ -9,8 +9,8 @@ use Rattle.store.specs.Store.{ledgerOf, Good}
 use Rattle.ledger.specs.Calls.{told, call, after, answers}
 use Rattle.stream.specs.declared.Place.{Place}
 use Rattle.stream.specs.declared.Taken.{Taken}
-use Rattle.sheets.specs.Sheets.{most, split, sheetsOf}
-use Rattle.print.specs.Printed.{line, printed, longest, Room, Wrote}
+use Rattle.stream_sheets.specs.Sheets.{most, split, sheetsOf}
+use Rattle.stream_print.specs.Printed.{line, printed, longest, Room, Wrote}
 
 -- the sheet b answered, and its line put after the first `at` bytes of o
 pub record Said (l b o : List ℕ) (at : ℕ) (l′ o′ : List ℕ) (r : ℕ) : Type 0 where

@@ -1,13 +1,13 @@
 // A stream of bytes, taken piece by piece (document 01, "Kiosk"): each of its sheets is answered where it ends
-// (sheets/specs/Sheets.antt).
-use sheets::End;
+// (stream_sheets/specs/Sheets.antt).
+use stream_sheets::End;
 use store::Store;
-use tables::StepRows;
+use step_rows::StepRows;
 ghost use mathlib.Core.List.{_++_};
 ghost use Prim.Native.Nat.{_<_};
 ghost use lib.ListN.{length, take};
 ghost use Rattle.store.specs.Store.{Good};
-ghost use Rattle.print.specs.Printed.{longest, Room};
+ghost use Rattle.stream_print.specs.Printed.{longest, Room};
 ghost use Rattle.stream.specs.Stream.{Said, Ready, Took, TookSome, Ended};
 
 // How many bytes of the sheet are held, whether a line begins, and how many bytes of text wait to be written.
@@ -30,7 +30,7 @@ fn answer(till: &mut Store, rows: &mut StepRows, sheet: &[u8], text: &mut [u8], 
         (now (till .exit)) (now (text .exit)) r ⌝ }
 {
     let a = call::call(till, sheet, rows);
-    print::put_answer(text, at, a)
+    stream_print::put_answer(text, at, a)
 }
 
 // Answers the sheet whose first bytes are held and whose last are these. One of which none are held is answered where
@@ -50,7 +50,7 @@ fn answer_ended(
     if place.held == 0 {
         return answer(till, rows, bytes, text, place.text);
     }
-    let held = sheets::keep(begun, place.held, bytes);
+    let held = stream_sheets::keep(begun, place.held, bytes);
     answer(till, rows, &begun[..held], text, place.text)
 }
 
@@ -68,7 +68,7 @@ fn take_sheet(
     ensures { λ r. ⌜ TookSome (now (till .entry)) (now (begun .entry)) (now (text .entry)) place (now (piece .entry))
         (now (till .exit)) (now (begun .exit)) (now (text .exit)) r ⌝ }
 {
-    let end = sheets::sheet_end(piece, place.fresh);
+    let end = stream_sheets::sheet_end(piece, place.fresh);
     match end {
         End::At(e) => {
             let written = answer_ended(till, rows, begun, text, place, &piece[..e]);
@@ -82,7 +82,7 @@ fn take_sheet(
             }
         }
         End::Open(fresh) => {
-            let held = sheets::keep(begun, place.held, piece);
+            let held = stream_sheets::keep(begun, place.held, piece);
             Taken {
                 place: Place {
                     held,

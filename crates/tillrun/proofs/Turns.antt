@@ -12,14 +12,14 @@ use lib.Seq.{length-take-le}
 use Rattle.ledger.specs.Ledger.{empty}
 use Rattle.ledger.specs.Calls.{after, answers}
 use Rattle.store.specs.Store.{StandsFor}
-use Rattle.print.specs.Printed.{printed, longest}
-use Rattle.sheets.specs.Sheets.{splitFrom, most}
+use Rattle.stream_print.specs.Printed.{printed, longest}
+use Rattle.stream_sheets.specs.Sheets.{splitFrom, most}
 use Rattle.stream.specs.declared.Place.{Place}
 use Rattle.stream.specs.Stream.{Stands, Took, Ended}
-use Rattle.console.specs.declared.Input.{Input}
-use Rattle.console.specs.declared.Output.{Output}
+use Rattle.stream_console.specs.declared.Input.{Input}
+use Rattle.stream_console.specs.declared.Output.{Output}
 use Rattle.tillrun.specs.declared.Turn.{Turn}
-use Rattle.console.specs.Console.{unread, unwritten, Received, Sent, Stopped, mostReads}
+use Rattle.stream_console.specs.Console.{unread, unwritten, Received, Sent, Stopped, mostReads}
 use Rattle.tillrun.specs.Program.{Turned, Through, Going, Played}
 
 pub turned : {l k o : List ℕ} {t : Turn} {l′ k′ o′ x′ : List ℕ} {q : Place} {i : Input} {u : Output} {n : ℕ}

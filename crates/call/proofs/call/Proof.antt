@@ -5,7 +5,7 @@ use lib.ListN.{length}
 use borrow.Author.Tests.{ltb-false}
 use borrow.Author.Needs.{needs}
 use Rattle.request.specs.Range.{maxBytes}
-use Rattle.verdicts.proofs.Laws.{by-verdict}
+use Rattle.call_checks.proofs.Laws.{by-verdict}
 use Rattle.call_contracts.proofs.Laws.{called-long, called-broken, called-read}
 use Rattle.call.proofs.Sheets.{Begun, line-as, word-canonical, word-reads}
 use Rattle.call.proofs.call.Statement.{statement}

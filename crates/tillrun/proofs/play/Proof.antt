@@ -7,7 +7,7 @@ use lib.ListN.{length}
 use borrow.Author.Needs.{needs}
 use Rattle.request.specs.Range.{maxBytes}
 use Rattle.stream.proofs.Pieces.{ready-for}
-use Rattle.console.specs.Console.{mostReads, Stopped, GoesOn}
+use Rattle.stream_console.specs.Console.{mostReads, Stopped, GoesOn}
 use Rattle.tillrun.specs.Program.{Going}
 use Rattle.tillrun.proofs.Turns.{going-start, going-on, fewer, played-cut, played-whole}
 use Rattle.tillrun.proofs.play.Statement.{statement}

@@ -3,7 +3,7 @@ use mathlib.Core.Path.{_∙_}
 use native.Mathlib.Omega.{arith}
 use Rattle.labels.proofs.Sets.{member-below}
 use Rattle.steps.specs.Plans.{when}
-use Rattle.plans.proofs.Tests.{holds, fails}
+use Rattle.step_plans.proofs.Tests.{holds, fails}
 use borrow.Author.Needs.{needs}
 use Rattle.step_rules.proofs.left.cp.Statement.{statement}
 use Rattle.step_rules.proofs.left.cp.Tie as tie

@@ -1,0 +1,15 @@
+-- `room` meets its contract.
+use Rattle.call_checks.proofs.Laws.{reworded, room-free}
+use borrow.Author.Needs.{needs}
+use Rattle.call_checks.proofs.room.Statement.{statement}
+use Rattle.call_checks.proofs.room.Tie as tie
+
+pub room-spec : {M : Type 1} → statement M
+room-spec =
+    tie.close
+    (tie.spec
+    (λ c κs. search needs)
+    (λ c. room-free (c .before .live-count .ensures) (c .if1 .taken))
+    (λ c. search needs)
+    (λ c κs. search needs)
+    (λ c. reworded (c .tested .ensures 22) (simp (c .before .before .live-count .ensures))))
