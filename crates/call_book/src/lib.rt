@@ -1,4 +1,4 @@
-// Booking (document 01: book): its checks in the paper's order, up to 31, from where crate settling goes on.
+// Booking (document 01: book): its checks in the paper's order, up to 31, from where crate `call_book_steps` goes on.
 use read_rest::HoldsRead;
 use read_rest::StepsRead;
 use read_rest::read_holds;

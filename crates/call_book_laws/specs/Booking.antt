@@ -1,5 +1,5 @@
--- A booking on its way through the checks: what has been found before each function of `booking` and
--- `settling`.
+-- A booking on its way through the checks: what has been found before each function of `call_book` and
+-- `call_book_steps`.
 use mathlib.Core.Path.{_≡_}
 use mathlib.Core.List.{List, [], _∷_}
 use mathlib.Core.Option.{some}

@@ -1,4 +1,4 @@
-// What the floor staff asked for. Each function here does nothing: its `ensures` is a demand, and that it is proved is
+// What the floor staff asked for: the three demands. Each function here does nothing: its `ensures` is a demand, and that it is proved is
 // the point. The statements are in specs/Demands.antt and specs/Effects.antt, the proofs in proofs/.
 
 ghost use Prim.Native.Nat.{ℕ};

@@ -1,4 +1,4 @@
--- What the functions ask of a row, here and in crate `weights`.
+-- What the functions ask of a row, here and in crate `formula_weights`.
 use mathlib.Core.List.{List}
 use Prim.Native.Nat.{ℕ}
 use Rattle.steps.specs.declared.Row.{Row}

@@ -1,5 +1,4 @@
-// The reader of requests (document 01: sheets): what the bytes say, in one pass, by positions, up to the lines after a
-// booking's head. This file has the types of the answers; requests.rt reads the first line.
+// The first line of a request (document 01: a sheet), read by positions: a whole request, or the head of a booking. This file has the types of the answers; requests.rt reads the first line.
 pub mod requests;
 
 use logic::Interval;

@@ -1,4 +1,4 @@
-// The rules: what a step does at a sequent, as a plan. Nothing here calls itself.
+// One match over the step's number: what a step does at a sequent, as a plan. Nothing here calls itself.
 use logic::Interval;
 use request::ranges;
 use step_rules::left;

@@ -1,4 +1,4 @@
-// A premise begins: it takes its new labels.
+// What a premise takes as it begins: its new labels.
 use request::ranges;
 use steps::Fresh;
 use steps::Goal;

@@ -1,6 +1,6 @@
 // The ledger's state (document 01: the till) in one array of numbers, which the caller keeps and lends to every call.
 // The crate `store_cells` knows where each number stands; specs/Store.antt says which ledger an array is, and what
-// holds of every store. Here the array is started and read; `formula_rows` and `credentials` change it.
+// holds of every store. Here the array is started and read; `store_formulas` and `store_credentials` change it.
 use ledger::Credential;
 use steps::Row;
 use steps::letters;
