@@ -1,5 +1,5 @@
 -- Formula lines by their letter: what follows it, as a row.
-use mathlib.Core.Path.{_≡_, refl, ap, _∙_}
+use mathlib.Core.Path.{_≡_, refl, sym, ap, _∙_}
 use mathlib.Core.List.{List, [], _∷_}
 use mathlib.Core.Option.{Option, none, some}
 use mathlib.Core.Logic.{inl, inr}
@@ -129,6 +129,17 @@ module _ (s : List ℕ) (i : ℕ) where
             ),
           ),
         ))
+
+    -- a letter x, a comma and two numbers, by what the code reads of them
+    pub numbers-line : (x m n : ℕ) (make : ℕ → ℕ → Line) {o : Option (Row × List ℕ)} → getD s i 0 ≡ x
+        → getD s (i + 1) 0 ≡ 44
+        → ((b : List ℕ) → readLine (λ ts. formulaLine ((x ∷ []) ∷ ts)) b
+        ≡ readLine (number (0 ‥ m) >>= (λ j. number (0 ‥ n) >>= (λ k. return (make j k)))) b)
+        → ((j k : ℕ) → rowOf (make j k) ≡ lettered x j k)
+        → o ≡ twoFields (getD s i 0) m n (drop (i + 2) s) → o ≡ rowed (readLine formulaLine (drop i s))
+    numbers-line x m n make q comma reads rows e =
+        e ∙ sym (ap rowed (letter-fields x q comma ∙ reads _)
+        ∙ numbers-row _ m n make (λ j k. rows j k ∙ ap (λ l. lettered l j k) (sym q)) _)
 
     -- no letter of a formula line
     letter-none : Others (getD s i 0) letters → (ts : List (List ℕ)) → formulaLine ((getD s i 0 ∷ []) ∷ ts) ≡ none

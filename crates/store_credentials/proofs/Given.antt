@@ -1,5 +1,5 @@
 -- What giving a credential does to the ledger that a store stands for. Of the array only the laws of rows in
--- cells/proofs and credential_cells/proofs are used.
+-- store_cells/proofs are used.
 use mathlib.Core.Path.{_≡_, ap, _∙_}
 use mathlib.Core.List.{List, [], _∷_, _++_}
 use mathlib.Core.Option.{Option, some}

@@ -1,5 +1,5 @@
 -- What a credential that leaves does to the ledger that a store stands for. Of the array only the laws of rows in
--- cells/proofs and credential_cells/proofs are used.
+-- store_cells/proofs are used.
 use mathlib.Core.Path.{_≡_, refl, ap, _∙_}
 use mathlib.Core.List.{List}
 use mathlib.Core.Option.{some}

@@ -23,46 +23,6 @@ remove-requires c κs =
     let a = c .before .before in
     member-below _ 64 _ (omega arith) (holds (a .before .has .ensures) (a .if1 .left))
 
-returns-2 : tie.Need-returns-2
-unfolding planOf left
-returns-2 c =
-    let b = c .before .before .before .before in
-    let a = b .before .before .before in
-    rw (numbered (a .before .before .args .s) (c .before .match .keys1), holds (a .before .has .ensures) (a .if1 .left))
-    (simp (c .ol .ensures, b .remove .ensures, b .before .row-at .ensures, b .before .before .held-at .ensures))
-
-returns-3 : tie.Need-returns-3
-unfolding planOf left
-returns-3 c =
-    let b = c .before .before .before .before in
-    let a = b .before .before .before in
-    rw (numbered (a .before .before .args .s) (c .before .match .keys2), holds (a .before .has .ensures) (a .if1 .left))
-    (simp (c .w1 .ensures, b .remove .ensures, b .before .row-at .ensures, b .before .before .held-at .ensures))
-
-returns-4 : tie.Need-returns-4
-unfolding planOf left
-returns-4 c =
-    let b = c .before .before .before .before in
-    let a = b .before .before .before in
-    rw (numbered (a .before .before .args .s) (c .before .match .keys3), holds (a .before .has .ensures) (a .if1 .left))
-    (simp (c .w2 .ensures, b .remove .ensures, b .before .row-at .ensures, b .before .before .held-at .ensures))
-
-returns-5 : tie.Need-returns-5
-unfolding planOf left
-returns-5 c =
-    let b = c .before .before .before .before in
-    let a = b .before .before .before in
-    rw (numbered (a .before .before .args .s) (c .before .match .keys4), holds (a .before .has .ensures) (a .if1 .left))
-    (simp (c .bl .ensures, b .remove .ensures, b .before .row-at .ensures, b .before .before .held-at .ensures))
-
-returns-6 : tie.Need-returns-6
-unfolding planOf left
-returns-6 c =
-    let b = c .before .before .before .before in
-    let a = b .before .before .before in
-    rw (numbered (a .before .before .args .s) (c .before .match .keys5), holds (a .before .has .ensures) (a .if1 .left))
-    (simp (c .hl .ensures, b .remove .ensures, b .before .row-at .ensures, b .before .before .held-at .ensures))
-
 returns-7 : tie.Need-returns-7
 unfolding planOf affirmed left
 returns-7 c =
@@ -83,22 +43,6 @@ returns-8 c =
       b .before .row-at .ensures,
       b .before .before .held-at .ensures,
     ))
-
-returns-9 : tie.Need-returns-9
-unfolding planOf left
-returns-9 c =
-    let b = c .before .before .before .before in
-    let a = b .before .before .before in
-    rw (numbered (a .before .before .args .s) (c .before .match .keys7), holds (a .before .has .ensures) (a .if1 .left))
-    (simp (c .tl .ensures, b .remove .ensures, b .before .row-at .ensures, b .before .before .held-at .ensures))
-
-returns-10 : tie.Need-returns-10
-unfolding planOf left
-returns-10 c =
-    let b = c .before .before .before .before in
-    let a = b .before .before .before in
-    rw (numbered (a .before .before .args .s) (c .before .match .keys8), holds (a .before .has .ensures) (a .if1 .left))
-    (simp (c .pl .ensures, b .remove .ensures, b .before .row-at .ensures, b .before .before .held-at .ensures))
 
 returns-11 : tie.Need-returns-11
 unfolding planOf left
@@ -129,10 +73,40 @@ returns-12 c =
     (simp (c .ul .ensures, b .remove .ensures, b .before .row-at .ensures, b .before .before .held-at .ensures))
 
 pub at-left-spec : {M : Type 1} → statement M
+unfolding planOf left
 at-left-spec =
     tie.close
     (tie.spec (λ c κs. search needs) returns held-at-requires (λ c κs. search needs) remove-requires
     (λ c κs. search needs) (λ c κs. search needs) (λ c κs. search needs) (λ c κs. search needs)
     (λ c κs. search needs) (λ c. search needs) (λ c. search needs) (λ c κs. search needs) (λ c κs. search needs)
-    (λ c κs. search needs) (λ c κs. search needs) (λ c κs. search needs) (λ c κs. search needs) returns-2 returns-3
-    returns-4 returns-5 returns-6 returns-7 returns-8 returns-9 returns-10 returns-11 returns-12)
+    (λ c κs. search needs) (λ c κs. search needs) (λ c κs. search needs) (λ c κs. search needs)
+    (λ c. let b = c .before .before .before .before in
+    let a = b .before .before .before in
+    rw (numbered (a .before .before .args .s) (c .before .match .keys1), holds (a .before .has .ensures) (a .if1 .left))
+    (simp (c .ol .ensures, b .remove .ensures, b .before .row-at .ensures, b .before .before .held-at .ensures)))
+    (λ c. let b = c .before .before .before .before in
+    let a = b .before .before .before in
+    rw (numbered (a .before .before .args .s) (c .before .match .keys2), holds (a .before .has .ensures) (a .if1 .left))
+    (simp (c .w1 .ensures, b .remove .ensures, b .before .row-at .ensures, b .before .before .held-at .ensures)))
+    (λ c. let b = c .before .before .before .before in
+    let a = b .before .before .before in
+    rw (numbered (a .before .before .args .s) (c .before .match .keys3), holds (a .before .has .ensures) (a .if1 .left))
+    (simp (c .w2 .ensures, b .remove .ensures, b .before .row-at .ensures, b .before .before .held-at .ensures)))
+    (λ c. let b = c .before .before .before .before in
+    let a = b .before .before .before in
+    rw (numbered (a .before .before .args .s) (c .before .match .keys4), holds (a .before .has .ensures) (a .if1 .left))
+    (simp (c .bl .ensures, b .remove .ensures, b .before .row-at .ensures, b .before .before .held-at .ensures)))
+    (λ c. let b = c .before .before .before .before in
+    let a = b .before .before .before in
+    rw (numbered (a .before .before .args .s) (c .before .match .keys5), holds (a .before .has .ensures) (a .if1 .left))
+    (simp (c .hl .ensures, b .remove .ensures, b .before .row-at .ensures, b .before .before .held-at .ensures)))
+    returns-7 returns-8
+    (λ c. let b = c .before .before .before .before in
+    let a = b .before .before .before in
+    rw (numbered (a .before .before .args .s) (c .before .match .keys7), holds (a .before .has .ensures) (a .if1 .left))
+    (simp (c .tl .ensures, b .remove .ensures, b .before .row-at .ensures, b .before .before .held-at .ensures)))
+    (λ c. let b = c .before .before .before .before in
+    let a = b .before .before .before in
+    rw (numbered (a .before .before .args .s) (c .before .match .keys8), holds (a .before .has .ensures) (a .if1 .left))
+    (simp (c .pl .ensures, b .remove .ensures, b .before .row-at .ensures, b .before .before .held-at .ensures)))
+    returns-11 returns-12)

@@ -7,4 +7,5 @@ use Rattle.step_plans.proofs.assuming.Tie as tie
 pub assuming-spec : {M : Type 1} → statement M
 assuming-spec =
     tie.close
-    (tie.spec (λ c κs. search needs) (λ c κs. search needs) (λ c. c .premise .ensures ∙ simp (c .before .held .ensures)))
+    (tie.spec (λ c κs. search needs) (λ c κs. search needs)
+    (λ c. c .premise .ensures ∙ simp (c .before .held .ensures)))

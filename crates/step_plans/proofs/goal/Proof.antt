@@ -7,4 +7,5 @@ use Rattle.step_plans.proofs.goal.Tie as tie
 pub goal-spec : {M : Type 1} → statement M
 goal-spec =
     tie.close
-    (tie.spec (λ c κs. search needs) (λ c κs. search needs) (λ c. c .when .ensures ∙ simp (c .before .proving .ensures)))
+    (tie.spec (λ c κs. search needs) (λ c κs. search needs)
+    (λ c. c .when .ensures ∙ simp (c .before .proving .ensures)))

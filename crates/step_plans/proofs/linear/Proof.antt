@@ -7,4 +7,5 @@ use Rattle.step_plans.proofs.linear.Tie as tie
 pub linear-spec : {M : Type 1} → statement M
 linear-spec =
     tie.close
-    (tie.spec (λ c κs. search needs) (λ c κs. search needs) (λ c. c .when .ensures ∙ simp (c .before .assuming .ensures)))
+    (tie.spec (λ c κs. search needs) (λ c κs. search needs)
+    (λ c. c .when .ensures ∙ simp (c .before .assuming .ensures)))

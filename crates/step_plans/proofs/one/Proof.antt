@@ -7,4 +7,5 @@ use Rattle.step_plans.proofs.one.Tie as tie
 pub one-spec : {M : Type 1} → statement M
 one-spec =
     tie.close
-    (tie.spec (λ c κs. search needs) (λ c κs. search needs) (λ c. c .when .ensures ∙ simp (c .before .premise .ensures)))
+    (tie.spec (λ c κs. search needs) (λ c κs. search needs)
+    (λ c. c .when .ensures ∙ simp (c .before .premise .ensures)))

@@ -1,5 +1,5 @@
 -- `formula_line` meets its contract: a line by its letter.
-use mathlib.Core.Path.{sym, ap, _∙_}
+use mathlib.Core.Path.{refl, sym, ap, _∙_}
 use Prim.Native.Char.{code}
 use native.Mathlib.Omega.{arith}
 use borrow.Author.Needs.{needs}
@@ -9,12 +9,12 @@ use Rattle.request.specs.Reader.{named, choose}
 use Rattle.request.specs.Request.{Line}
 use Rattle.request.specs.Read.{part, parts, formulaLine}
 use Rattle.ledger.specs.Table.{lettered}
-use Rattle.read_formulas.specs.Line.{rowed}
-use Rattle.read_formulas.proofs.Letters.{one-row, numbers-row, at-row, superset-row}
-use Rattle.read_formulas.proofs.Letters.{letter-short, letter-fields, letter-one, letter-one-bare, letter-bare}
-use Rattle.read_formulas.proofs.Letters.{letter-other, row-told}
-use Rattle.read_formulas.proofs.formulas.formula_line.Statement.{statement}
-use Rattle.read_formulas.proofs.formulas.formula_line.Tie as tie
+use Rattle.forms.specs.Line.{rowed}
+use Rattle.forms.proofs.Letters.{one-row, numbers-line, at-row, superset-row}
+use Rattle.forms.proofs.Letters.{letter-short, letter-fields, letter-one, letter-one-bare, letter-bare}
+use Rattle.forms.proofs.Letters.{letter-other, row-told}
+use Rattle.forms.proofs.formulas.formula_line.Statement.{statement}
+use Rattle.forms.proofs.formulas.formula_line.Tie as tie
 
 pub formula-line-spec : {M : Type 1} → statement M
 unfolding rowed formulaLine choose named sameBytes bytes part parts andThen
@@ -47,11 +47,8 @@ formula-line-spec =
     (λ c κs. search needs)
     (λ c κs. search needs)
     (λ c. let d = c .before .before .before .before in
-    c .two-fields .ensures
-    ∙ sym (ap rowed (letter-fields _ _ (d .before .before .if1 .left) (code "a") (c .before .match .keys1)
-    (c .before .before .if4 .left))
-    ∙ numbers-row _ (predicate .last) (session .last) Line.atom
-    (λ i j. ap (λ l. lettered l i j) (sym (c .before .match .keys1))) _))
+    numbers-line _ _ (d .before .before .if1 .left) (code "a") (predicate .last) (session .last) Line.atom
+    (c .before .match .keys1) (c .before .before .if4 .left) (λ b. refl) (λ i j. refl) (c .two-fields .ensures))
     (λ c. let d = c .before .before .before .before in
     c .one-field .ensures
     ∙ sym (ap rowed (letter-fields _ _ (d .before .before .if1 .left) (code "b") (c .before .match .keys2)
@@ -68,40 +65,22 @@ formula-line-spec =
     (c .before .before .if4 .left))
     ∙ at-row _ (c .before .match .keys4) _))
     (λ c. let d = c .before .before .before .before in
-    c .two-fields2 .ensures
-    ∙ sym (ap rowed (letter-fields _ _ (d .before .before .if1 .left) (code "s") (c .before .match .keys5)
-    (c .before .before .if4 .left))
-    ∙ numbers-row _ (principal .last) (formulaNumber .last) Line.says
-    (λ i j. ap (λ l. lettered l i j) (sym (c .before .match .keys5))) _))
+    numbers-line _ _ (d .before .before .if1 .left) (code "s") (principal .last) (formulaNumber .last) Line.says
+    (c .before .match .keys5) (c .before .before .if4 .left) (λ b. refl) (λ i j. refl) (c .two-fields2 .ensures))
     (λ c. let d = c .before .before .before .before in
-    c .two-fields3 .ensures
-    ∙ sym (ap rowed (letter-fields _ _ (d .before .before .if1 .left) (code "l") (c .before .match .keys6)
-    (c .before .before .if4 .left))
-    ∙ numbers-row _ (formulaNumber .last) (formulaNumber .last) Line.lolli
-    (λ i j. ap (λ l. lettered l i j) (sym (c .before .match .keys6))) _))
+    numbers-line _ _ (d .before .before .if1 .left) (code "l") (formulaNumber .last) (formulaNumber .last) Line.lolli
+    (c .before .match .keys6) (c .before .before .if4 .left) (λ b. refl) (λ i j. refl) (c .two-fields3 .ensures))
     (λ c. let d = c .before .before .before .before in
-    c .two-fields4 .ensures
-    ∙ sym (ap rowed (letter-fields _ _ (d .before .before .if1 .left) (code "p") (c .before .match .keys7)
-    (c .before .before .if4 .left))
-    ∙ numbers-row _ (formulaNumber .last) (formulaNumber .last) Line.plus
-    (λ i j. ap (λ l. lettered l i j) (sym (c .before .match .keys7))) _))
+    numbers-line _ _ (d .before .before .if1 .left) (code "p") (formulaNumber .last) (formulaNumber .last) Line.plus
+    (c .before .match .keys7) (c .before .before .if4 .left) (λ b. refl) (λ i j. refl) (c .two-fields4 .ensures))
     (λ c. let d = c .before .before .before .before in
-    c .two-fields5 .ensures
-    ∙ sym (ap rowed (letter-fields _ _ (d .before .before .if1 .left) (code "t") (c .before .match .keys8)
-    (c .before .before .if4 .left))
-    ∙ numbers-row _ (formulaNumber .last) (formulaNumber .last) Line.tensor
-    (λ i j. ap (λ l. lettered l i j) (sym (c .before .match .keys8))) _))
+    numbers-line _ _ (d .before .before .if1 .left) (code "t") (formulaNumber .last) (formulaNumber .last) Line.tensor
+    (c .before .match .keys8) (c .before .before .if4 .left) (λ b. refl) (λ i j. refl) (c .two-fields5 .ensures))
     (λ c. let d = c .before .before .before .before in
-    c .two-fields6 .ensures
-    ∙ sym (ap rowed (letter-fields _ _ (d .before .before .if1 .left) (code "u") (c .before .match .keys9)
-    (c .before .before .if4 .left))
-    ∙ numbers-row _ (formulaNumber .last) (formulaNumber .last) Line.implies
-    (λ i j. ap (λ l. lettered l i j) (sym (c .before .match .keys9))) _))
+    numbers-line _ _ (d .before .before .if1 .left) (code "u") (formulaNumber .last) (formulaNumber .last) Line.implies
+    (c .before .match .keys9) (c .before .before .if4 .left) (λ b. refl) (λ i j. refl) (c .two-fields6 .ensures))
     (λ c. let d = c .before .before .before .before in
-    c .two-fields7 .ensures
-    ∙ sym (ap rowed (letter-fields _ _ (d .before .before .if1 .left) (code "w") (c .before .match .keys10)
-    (c .before .before .if4 .left))
-    ∙ numbers-row _ (formulaNumber .last) (formulaNumber .last) Line.with
-    (λ i j. ap (λ l. lettered l i j) (sym (c .before .match .keys10))) _))
+    numbers-line _ _ (d .before .before .if1 .left) (code "w") (formulaNumber .last) (formulaNumber .last) Line.with
+    (c .before .match .keys10) (c .before .before .if4 .left) (λ b. refl) (λ i j. refl) (c .two-fields7 .ensures))
     (λ c. let d = c .before .before .before .before in
     sym (ap rowed (letter-other _ _ (d .before .if1 .left) (c .match .rest, c .before .before .if2 .left)))))
