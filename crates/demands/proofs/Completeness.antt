@@ -38,7 +38,7 @@ use Rattle.ledger.specs.Statements.{SoFar, _▸_}
 use Rattle.ledger.proofs.Answers.{some-inj, first-passes, heard}
 use Rattle.ledger.proofs.Credentials.{take-out, any-none, Alive, held-length}
 use Rattle.ledger.specs.Bounds.{Rises, Bounded}
-use Rattle.ledger.proofs.Firsts.{first-fails, if-false, if-true, stopped-at, none-stops, not-true, reads}
+use Rattle.ledger.proofs.Firsts.{first-fails, if-false, if-true, stopped-at, none-stops, not-true, past-form}
 use Rattle.demands.specs.Demands.{hyp, startLabels, booking, StepsComplete, May, PastSteps, Completeness}
 use Rattle.demands.proofs.Demand1.{demand-1, call-accepts}
 use Rattle.demands.proofs.Start.{unrolls, start}
@@ -106,7 +106,7 @@ module _ (t : Ledger) (b : Booking) (r : BookingInRange b) (p : Passing t b) whe
   unfolding bytes checks full
   so-far =
       let m = p .may in
-      reads t bytes (write-short (book b) r) (write-read (book b) r)
+      past-form t bytes (write-short (book b) r) (write-read (book b) r)
       ▸ if-false 3 _ (p .straight)
       ▸ if-false 10 _ (m .there)
       ▸ if-false 20 _ (not-true _ (m .plain))

@@ -12,7 +12,7 @@ use Rattle.request.proofs.Requests.{read-in-range}
 use Rattle.ledger.specs.Ledger.{Ledger, held}
 use Rattle.ledger.specs.Checks.{Check, dead, readChecks, checksOf}
 use Rattle.ledger.specs.Statements.{Pass}
-use Rattle.ledger.proofs.Answers.{some-none, passed-bytes, stepsIn, Row, rows}
+use Rattle.ledger.proofs.Answers.{some-none, passed-bytes, stepsIn, TableRow, table-rows}
 use Rattle.ledger.proofs.Credentials.{any-none, held-all}
 use Rattle.ledger.proofs.Passed.{PassedRead, passed-read, passed-book}
 use Rattle.ledger.specs.Bounds.{Bounded}
@@ -52,13 +52,13 @@ pass-only [] p = tt
 pass-only (none ∷ cs) p = (tt, pass-only cs (p .1))
 pass-only (some f ∷ cs) p = absurd (some-none (p .0))
 
-other-passes : {s : Check} → s ≡ none → (c : Check) → Row s c → OnlySteps c → c ≡ none
+other-passes : {s : Check} → s ≡ none → (c : Check) → TableRow s c → OnlySteps c → c ≡ none
 other-passes p c (inl e) o = e ∙ p
 other-passes p none (inr x) o = refl
 other-passes p (some f) (inr (inl l, z)) o = absurd (omega (arith, o .0))
 other-passes p (some f) (inr (inr l, z)) o = absurd (omega (arith, o .1))
 
-others-pass : {s : Check} → s ≡ none → (cs : List Check) → Every (Row s) cs → Every OnlySteps cs → Pass cs
+others-pass : {s : Check} → s ≡ none → (cs : List Check) → Every (TableRow s) cs → Every OnlySteps cs → Pass cs
 others-pass p [] r o = tt
 others-pass p (c ∷ cs) r o = (other-passes p c (r .0) (o .0), others-pass p cs (r .1) (o .1))
 
@@ -73,7 +73,7 @@ exactness t reached bytes b e =
       accepted = (
         λ a. let p = d .0 a in
             (pass-only (checksOf t bytes) p, x .0 (passed-book t b (passed t bytes b e p .rest) .closes)),
-        λ h. d .1 (others-pass (ap (stepsIn t) e ∙ x .1 (h .1)) (checksOf t bytes) (rows t bytes) (h .0)),
+        λ h. d .1 (others-pass (ap (stepsIn t) e ∙ x .1 (h .1)) (checksOf t bytes) (table-rows t bytes) (h .0)),
       );
       stopped = steps-refused t tabled cs few (b .formula) (b .interval) (b .steps);
     }

@@ -119,29 +119,29 @@ stepsIn t (some (withdraw n)) = none
 stepsIn t (some (book b)) = steps t (held (t .live) (b .holds)) (b .formula) (b .interval) (b .steps)
 stepsIn t (some (tally s m)) = none
 
--- a row of the table: the check s, or one that answers no step and another number than 40 to 42
+-- a row of the table of checks: s, or a check that answers no step and another number than 40 to 42
 abbrev pub Other : Check → Type 0
 Other none = Unit {0}
 Other (some f) = ((f .number < 40) ⊎ (42 < f .number)) × (f .step ≡ 0)
 
-abbrev pub Row : Check → Check → Type 0
-Row s c = (c ≡ s) ⊎ Other c
+abbrev pub TableRow : Check → Check → Type 0
+TableRow s c = (c ≡ s) ⊎ Other c
 
-itself : (s : Check) → Row s s
+itself : (s : Check) → TableRow s s
 itself s = inl refl
 
-low : (s : Check) (n : ℕ) (b : Bool) → ltb n 40 ≡ true → Row s (n if b)
+low : (s : Check) (n : ℕ) (b : Bool) → ltb n 40 ≡ true → TableRow s (n if b)
 unfolding _if_
 low s n true h = inr (inl (ltb-true n 40 h), refl)
 low s n false h = inr tt
 
-high : (s : Check) (n : ℕ) (b : Bool) → ltb 42 n ≡ true → Row s (n if b)
+high : (s : Check) (n : ℕ) (b : Bool) → ltb 42 n ≡ true → TableRow s (n if b)
 unfolding _if_
 high s n true h = inr (inr (ltb-true 42 n h), refl)
 high s n false h = inr tt
 
--- every check is a row, s the check of the steps
-checks-rows : (t : Ledger) (r : Request) → Every (Row (stepsIn t (some r))) (checks t r)
+-- every check is such a row, s that of the steps. Which rows there are is not said here: they are found
+checks-rows : (t : Ledger) (r : Request) → Every (TableRow (stepsIn t (some r))) (checks t r)
 unfolding checks
 checks-rows t (word l) = search (low, high, itself)
 checks-rows t (issue Linear n i) = search (low, high, itself)
@@ -150,13 +150,13 @@ checks-rows t (withdraw n) = search (low, high, itself)
 checks-rows t (book b) = search (low, high, itself)
 checks-rows t (tally s m) = tt
 
-read-rows : (t : Ledger) (o : Option Request) → Every (Row (stepsIn t o)) (readChecks t o)
+read-rows : (t : Ledger) (o : Option Request) → Every (TableRow (stepsIn t o)) (readChecks t o)
 read-rows t none = tt
 read-rows t (some r) = search (low, high, checks-rows t r)
 
-pub rows : (t : Ledger) (b : List ℕ) → Every (Row (stepsIn t (requestOf b))) (checksOf t b)
+pub table-rows : (t : Ledger) (b : List ℕ) → Every (TableRow (stepsIn t (requestOf b))) (checksOf t b)
 unfolding checksOf
-rows t b = search (low, high, read-rows t (requestOf b))
+table-rows t b = search (low, high, read-rows t (requestOf b))
 
 steps-in-proper : (t : Ledger) (o : Option Request) → Proper (stepsIn t o)
 steps-in-proper t none = tt
@@ -166,7 +166,7 @@ steps-in-proper t (some (withdraw n)) = tt
 steps-in-proper t (some (book b)) = steps-proper t _ _ _ _
 steps-in-proper t (some (tally s m)) = tt
 
-row-proper : {s : Check} → Proper s → (c : Check) → Row s c → Proper c
+row-proper : {s : Check} → Proper s → (c : Check) → TableRow s c → Proper c
 row-proper p c (inl e) = subst Proper (sym e) p
 row-proper p none (inr o) = tt
 row-proper p (some f) (inr (inl l, z)) =
@@ -175,7 +175,7 @@ row-proper p (some f) (inr (inr l, z)) =
     record { early = λ h. z; late = λ h. z; step = λ g h. absurd (omega arith) }
 
 all-proper : (t : Ledger) (b : List ℕ) → Every Proper (checksOf t b)
-all-proper t b = every-map (row-proper (steps-in-proper t (requestOf b))) (checksOf t b) (rows t b)
+all-proper t b = every-map (row-proper (steps-in-proper t (requestOf b))) (checksOf t b) (table-rows t b)
 
 first-proper : (cs : List Check) {f : Refusal} → Every Proper cs → first cs ≡ some f → Stepped (f .number) (f .step)
 unfolding first

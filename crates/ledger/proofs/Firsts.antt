@@ -95,10 +95,11 @@ call-none t b l e =
     ap (λ (o : Option Refusal). decide t o (requestOf b))
     (stopped-at {all = checksOf t b} (from-start ▸ if-false 1 _ (le-ltb _ _ l)) (if-true 2 _ (ap isNone e)))
 
-pub reads : (t : Ledger) (b : List ℕ) {r : Request} → length b ≤ maxBytes → requestOf b ≡ some r
+-- bytes that have a form pass 1 and 2
+pub past-form : (t : Ledger) (b : List ℕ) {r : Request} → length b ≤ maxBytes → requestOf b ≡ some r
     → SoFar (checksOf t b) (readChecks t (some r))
 unfolding checksOf
-reads t b l e =
+past-form t b l e =
     subst (λ (o : Option Request). SoFar (checksOf t b) (readChecks t o)) e
     (from-start ▸ if-false 1 _ (le-ltb _ _ l) ▸ if-false 2 _ (ap isNone e))
 
@@ -106,5 +107,5 @@ pub call-read : (t : Ledger) (b : List ℕ) (r : Request) → length b ≤ maxBy
     → call t b ≡ handle t r
 unfolding call
 call-read t b r l e =
-    ap (λ (f : Option Refusal). decide t f (requestOf b)) (so-first (reads t b l e))
+    ap (λ (f : Option Refusal). decide t f (requestOf b)) (so-first (past-form t b l e))
     ∙ ap (decide t (first (readChecks t (some r)))) e

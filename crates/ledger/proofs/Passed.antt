@@ -1,4 +1,4 @@
--- What an accepted request has passed, check by check. Only this file counts places in the lists of checks.
+-- What an accepted request has passed, check by check. Only here are the lists of a request's checks taken apart.
 use mathlib.Core.Path.{_≡_, refl, sym}
 use mathlib.Core.Option.{Option, none, some}
 use mathlib.Core.Bool.{true, false}
