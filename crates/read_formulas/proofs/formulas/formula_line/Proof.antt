@@ -9,12 +9,12 @@ use Rattle.request.specs.Reader.{named, choose}
 use Rattle.request.specs.Request.{Line}
 use Rattle.request.specs.Read.{part, parts, formulaLine}
 use Rattle.ledger.specs.Table.{lettered}
-use Rattle.forms.specs.Line.{rowed}
-use Rattle.forms.proofs.Letters.{one-row, numbers-line, at-row, superset-row}
-use Rattle.forms.proofs.Letters.{letter-short, letter-fields, letter-one, letter-one-bare, letter-bare}
-use Rattle.forms.proofs.Letters.{letter-other, row-told}
-use Rattle.forms.proofs.formulas.formula_line.Statement.{statement}
-use Rattle.forms.proofs.formulas.formula_line.Tie as tie
+use Rattle.read_formulas.specs.Line.{rowed}
+use Rattle.read_formulas.proofs.Letters.{one-row, numbers-line, at-row, superset-row}
+use Rattle.read_formulas.proofs.Letters.{letter-short, letter-fields, letter-one, letter-one-bare, letter-bare}
+use Rattle.read_formulas.proofs.Letters.{letter-other, row-told}
+use Rattle.read_formulas.proofs.formulas.formula_line.Statement.{statement}
+use Rattle.read_formulas.proofs.formulas.formula_line.Tie as tie
 
 pub formula-line-spec : {M : Type 1} → statement M
 unfolding rowed formulaLine choose named sameBytes bytes part parts andThen
