@@ -22,8 +22,8 @@ use Rattle.ledger.specs.Checks.{verdict, steps}
 use Rattle.store_cells.specs.Layout.{rowAt}
 use Rattle.store.specs.Store.{ledgerOf, Good}
 use Rattle.store.proofs.Views.{rows-are}
-use Rattle.step_rows.specs.Held.{labelCells, labelPlace, heldAt, putHeld}
-use Rattle.step_rows.specs.Lines.{stepsFrom}
+use Rattle.step_rows.specs.LabelRows.{labelCells, labelPlace, labelAt, putLabel}
+use Rattle.step_rows.specs.StepRows.{stepsFrom}
 use Rattle.step_rows.proofs.LabelTable.{heldTable, held-good}
 use Rattle.step_checker.specs.declared.Checked.{Checked}
 use Rattle.step_checker.specs.Cycle.{refusalOf, Answers}
@@ -33,20 +33,20 @@ use Rattle.ledger.proofs.Credentials.{any-none, held-all}
 use Rattle.step_rows.proofs.StepRows.{length-from}
 use Rattle.read_heads.specs.declared.Head.{Head}
 use Rattle.call_holds.specs.declared.Sides.{Sides}
-use Rattle.call_book_laws.specs.Booking.{Steppable}
+use Rattle.call_book_laws.specs.BookingFound.{Steppable}
 use Rattle.call_book_laws.proofs.Same.{Shown, shownOutcome, puts-shown, puts-stay, check-shown}
 
 -- what a label stands for in the array, as the definition's table
 writes : (t : List ℕ) (n : ℕ) (h : Hypothesis) → heldTable .Good t → n < maxLabels
-    → heldAt (putHeld t n h) ≡ writeLabel (heldAt t) n h
+    → labelAt (putLabel t n h) ≡ writeLabel (labelAt t) n h
 writes t n h g l i k = go (eqb k n) refl i
   where
     go : (b : Bool) → eqb k n ≡ b
-        → heldAt (putHeld t n h) k ≡ elim b as (λ z. Hypothesis) [ true ↦ h | false ↦ heldAt t k ]
-    go true e = ap (heldAt (putHeld t n h)) (eqb-true k n e) ∙ heldTable .reads t n h g l
+        → labelAt (putLabel t n h) k ≡ elim b as (λ z. Hypothesis) [ true ↦ h | false ↦ labelAt t k ]
+    go true e = ap (labelAt (putLabel t n h)) (eqb-true k n e) ∙ heldTable .reads t n h g l
     go false e = heldTable .keeps t n k h g (eqb-false k n e)
 
-shown : Shown heldAt putHeld readLabel writeLabel heldAt
+shown : Shown labelAt putLabel readLabel writeLabel labelAt
 shown = record {
   Good = heldTable .Good;
   stays = heldTable .stays;
@@ -61,14 +61,14 @@ zeros = replicate labelCells 0
 zero-at : (k : ℕ) → getD zeros k 0 ≡ 0
 zero-at k = replicate-is 0 labelCells k
 
-no-labels : heldAt zeros ≡ noLabels
-unfolding heldAt
+no-labels : labelAt zeros ≡ noLabels
+unfolding labelAt
 no-labels i k = record {
   formula = zero-at (labelPlace k) i;
   interval = record { from = zero-at (labelPlace k + 1) i; to = zero-at (labelPlace k + 2) i };
 }
 
-verdict-told : (o : Outcome (List ℕ)) → verdict (shownOutcome heldAt o) ≡ verdict o
+verdict-told : (o : Outcome (List ℕ)) → verdict (shownOutcome labelAt o) ≡ verdict o
 unfolding verdict
 verdict-told (done ss t n) = refl
 verdict-told (stopped c n) = refl
@@ -79,8 +79,8 @@ zeros-good = held-good zeros (length-replicate {A = ℕ} labelCells 0)
 module _ (l : List ℕ) (cs : List Credential) (n : ℕ) (i : Interval) (ss : List Step) where
   pub steps-judged : {total next : ℕ} {table table′ : List ℕ} {q : Sequent} {r : Checked} → Good l
       → length ss ≡ total → length cs ≡ next → length cs ≤ maxLabels
-      → puts putHeld zeros 0 (map hypothesis cs) ≡ table → bookingSequent cs n i ≡ q
-      → Answers (checkOf (rowAt l) heldAt putHeld total ss table next q) r table′
+      → puts putLabel zeros 0 (map hypothesis cs) ≡ table → bookingSequent cs n i ≡ q
+      → Answers (checkOf (rowAt l) labelAt putLabel total ss table next q) r table′
       → steps (ledgerOf l) cs n i ss ≡ refusalOf r
   unfolding steps shown
   steps-judged {total} {next} {table} {table′} {q} {r} g t m few e s a =
@@ -91,14 +91,14 @@ module _ (l : List ℕ) (cs : List Credential) (n : ℕ) (i : Interval) (ss : Li
       (omega (arith, length-map cs hypothesis)))
       ∙ rw (rows-are l g, t, m, s, e) (ap verdict (check-shown shown (rowAt l) total ss table next q
       (subst (heldTable .Good) e (puts-stay shown zeros 0 (map hypothesis cs) zeros-good))))
-      ∙ verdict-told (checkOf (rowAt l) heldAt putHeld total ss table next q)
+      ∙ verdict-told (checkOf (rowAt l) labelAt putLabel total ss table next q)
       ∙ sym (a .same)
 
 -- the same for a booking on its way, with what the code has at hand
 pub steps-told : {l : List ℕ} {h : Head} {serials rows table table′ : List ℕ} {s : Sides} {q : Sequent} {r x : Checked}
     → Steppable l h serials rows table s
     → q ≡ sequent (s .unrestricted) (s .linear) (Holds (h .formula) (h .interval))
-    → Answers (checkOf (rowAt l) heldAt putHeld (h .steps) (stepsFrom rows 0 (h .steps)) table (h .holds) q) r table′
+    → Answers (checkOf (rowAt l) labelAt putLabel (h .steps) (stepsFrom rows 0 (h .steps)) table (h .holds) q) r table′
     → r ≡ x
     → steps (ledgerOf l) (held (ledgerOf l .live) (take (h .holds) serials)) (h .formula) (h .interval)
     (stepsFrom rows 0 (h .steps)) ≡ refusalOf x

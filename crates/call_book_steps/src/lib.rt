@@ -1,22 +1,22 @@
 // The end of a booking (document 01: book), once its holds are found: its steps are judged, 22 and 23 are tried, and an
 // accepted one takes effect.
-use step_checker::Checked;
+use call_checks::Verdict;
 use call_holds::Sides;
 use ledger::Answer;
 use read_heads::Head;
 use request::Kind;
-use steps::Goal;
-use steps::Sequent;
-use store::Store;
+use step_checker::Checked;
 use step_rows::LabelRows;
 use step_rows::Serials;
 use step_rows::StepRows;
-use call_checks::Verdict;
+use steps::Goal;
+use steps::Sequent;
+use store::Store;
 ghost use mathlib.Core.Path.{_≡_};
 ghost use Rattle.step_premises.specs.Begin.{sequent};
 ghost use Rattle.step_checker.specs.Cycle.{refusalOf, refusedBy};
 ghost use Rattle.call_contracts.specs.Called.{Handled};
-ghost use Rattle.call_book_laws.specs.Booking.{bookingAt, Steppable};
+ghost use Rattle.call_book_laws.specs.BookingFound.{bookingAt, Steppable};
 
 // The sequent of the first step: the goal from the holds.
 fn opening(head: Head, sides: Sides) -> Sequent
@@ -44,19 +44,19 @@ fn refusal(c: Checked) -> Answer
 
 // 40 to 42 step by step, 22, 23; then the linear holds go and the goal comes as one linear credential.
 pub fn book_steps(
-    till: &mut Store,
+    store: &mut Store,
     head: Head,
     serials: &Serials,
     rows: &StepRows,
     table: &mut LabelRows,
     sides: Sides,
 ) -> Answer
-    requires { ⌜ Steppable (now till) head (now serials) (now rows) (now table) sides ⌝ }
-    ensures { λ r. ⌜ Handled (now (till .entry)) (bookingAt head (now (serials .entry)) (now (rows .entry))) r
-        (now (till .exit)) ⌝ }
+    requires { ⌜ Steppable (now store) head (now serials) (now rows) (now table) sides ⌝ }
+    ensures { λ r. ⌜ Handled (now (store .entry)) (bookingAt head (now (serials .entry)) (now (rows .entry))) r
+        (now (store .exit)) ⌝ }
 {
     let checked = step_checker::check(
-        till,
+        store,
         rows,
         table,
         head.steps,
@@ -66,16 +66,16 @@ pub fn book_steps(
     let Checked::Closed = checked else {
         return refusal(checked);
     };
-    let room = call_checks::room(till, sides.linears);
+    let room = call_checks::check_room(store, sides.linears);
     let Verdict::Passed = room else {
         return Answer::Refused(22, 0);
     };
-    let unused = call_checks::unused(till);
+    let unused = call_checks::check_unused(store);
     let Verdict::Passed = unused else {
         return Answer::Refused(23, 0);
     };
-    let serial = store::next_serial(till);
-    call_holds::spend(till, serials, head.holds);
-    store_credentials::give(till, Kind::Linear, head.formula, head.interval);
+    let serial = store::next_serial(store);
+    call_holds::spend(store, serials, head.holds);
+    store_credentials::give(store, Kind::Linear, head.formula, head.interval);
     Answer::Accepted(serial)
 }

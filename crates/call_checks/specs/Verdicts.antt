@@ -21,10 +21,10 @@ pub record Tells (n : ℕ) (v : Verdict) (b : Bool) : Type 0 where
   pub check : checked n v ≡ (n if b)
 
 -- the verdict on an issue's formula: plain for a linear credential (20), balanced for an unrestricted one (21)
-abbrev pub unfair : Kind → Formula → Bool
-unfair Linear a = not (plain a)
-unfair Unrestricted a = not (balanced a)
+abbrev pub unissuable : Kind → Formula → Bool
+unissuable Linear a = not (plain a)
+unissuable Unrestricted a = not (balanced a)
 
-abbrev pub unfairNumber : Kind → ℕ
-unfairNumber Linear = 20
-unfairNumber Unrestricted = 21
+abbrev pub unissuableNumber : Kind → ℕ
+unissuableNumber Linear = 20
+unissuableNumber Unrestricted = 21

@@ -1,3 +1,3 @@
-pub mod Serials
+pub mod HoldSerials
 pub mod Holding
 pub mod Spending

@@ -8,7 +8,7 @@ use Rattle.logic.specs.Multiset.{Every}
 use Rattle.request.specs.declared.Kind.the-variants.{Linear, Unrestricted}
 use Rattle.ledger.specs.declared.Credential.{Credential}
 use Rattle.ledger.specs.Ledger.{Ledger, withoutSerial, held, spend}
-use Rattle.ledger.specs.Checks.{any, dead, twice}
+use Rattle.ledger.specs.Checks.{anyOf, dead, twice}
 use Rattle.ledger.specs.Calls.{withLive}
 use Rattle.ledger.proofs.Credentials.{Alive, Apart, any-none, twice-apart, spend-first, alive-after}
 use Rattle.store_lookup.specs.declared.Found.{Found}
@@ -55,7 +55,7 @@ module _ (t : Ledger) (ns : List ℕ) where
     pub alive : Every (Alive live) (drop k ns)
     pub apart : Apart (drop k ns)
 
-  pub first-spent : (l : List ℕ) → Good l → ledgerOf l ≡ t → any (dead t) ns ≡ false → twice ns ≡ false → Spending 0 l
+  pub first-spent : (l : List ℕ) → Good l → ledgerOf l ≡ t → anyOf (dead t) ns ≡ false → twice ns ≡ false → Spending 0 l
   first-spent l g e a b = record {
     live = t .live;
     stands = record { good = g; ledger = e };

@@ -10,9 +10,9 @@ use Rattle.labels.specs.Labels.{insert}
 use Rattle.steps.specs.Check.{puts}
 use Rattle.ledger.specs.declared.Credential.{Credential}
 use Rattle.ledger.specs.Ledger.{Ledger, isKind, held, linearCount, spend}
-use Rattle.ledger.specs.Checks.{any, dead, twice, hypothesis, labelsOf}
+use Rattle.ledger.specs.Checks.{anyOf, dead, twice, hypothesis, labelsOf}
 use Rattle.store.specs.Store.{ledgerOf, Good}
-use Rattle.step_rows.specs.Held.{maxHolds, putHeld}
+use Rattle.step_rows.specs.LabelRows.{maxHolds, putLabel}
 use Rattle.call_holds.specs.declared.Sides.{Sides}
 use Rattle.call_holds.specs.declared.Held.{Held}
 use Rattle.call_holds.specs.declared.Held.the-variants.{Dead, Live}
@@ -27,14 +27,14 @@ spent cs n = spend cs (held cs (n ∷ []))
 
 -- the serials ns are all live, and their credentials have taken labels 0, 1, .. in order in the table
 pub record AllHeld (t : Ledger) (ns table : List ℕ) (s : Sides) (table′ : List ℕ) : Type 0 where
-  pub alive : any (dead t) ns ≡ false
+  pub alive : anyOf (dead t) ns ≡ false
   pub unrestricted : labelsOf Unrestricted 0 (held (t .live) ns) 0 ≡ s .unrestricted
   pub linear : labelsOf Linear 0 (held (t .live) ns) 0 ≡ s .linear
   pub linears : linearCount (held (t .live) ns) ≡ s .linears
-  pub shown : puts putHeld table 0 (map hypothesis (held (t .live) ns)) ≡ table′
+  pub shown : puts putLabel table 0 (map hypothesis (held (t .live) ns)) ≡ table′
 
 abbrev pub HeldIs : Ledger → List ℕ → List ℕ → Held → List ℕ → Type 0
-HeldIs t ns table Dead table′ = any (dead t) ns ≡ true
+HeldIs t ns table Dead table′ = anyOf (dead t) ns ≡ true
 HeldIs t ns table (Live s) table′ = AllHeld t ns table s table′
 
 -- `count` serials in the array lent
@@ -46,5 +46,5 @@ pub record Serials (serials : List ℕ) (count : ℕ) : Type 0 where
 pub record Spendable (l serials : List ℕ) (count : ℕ) : Type 0 where
   pub good : Good l
   pub held : Serials serials count
-  pub alive : any (dead (ledgerOf l)) (take count serials) ≡ false
+  pub alive : anyOf (dead (ledgerOf l)) (take count serials) ≡ false
   pub apart : twice (take count serials) ≡ false

@@ -1,19 +1,19 @@
 // The holds of a booking: the credentials (document 01: the coupons) that its hold lines name by serial.
 use ledger::Credential;
-use store_lookup::Found;
 use request::Kind;
-use steps::Hypothesis;
-use store::Store;
 use step_rows::LabelRows;
 use step_rows::Serials;
-use step_rows::held::put_held;
+use step_rows::label_rows::put_label;
+use steps::Hypothesis;
+use store::Store;
+use store_lookup::Found;
 ghost use mathlib.Core.Path.{_≡_};
 ghost use Prim.Native.Nat.{_≤_, _<_};
 ghost use lib.Dec.{eqb};
 ghost use lib.ListN.{take, drop};
 ghost use Rattle.request.specs.Range.{labelCount};
 ghost use Rattle.ledger.specs.Ledger.{byKind, held, spend as spendOf};
-ghost use Rattle.ledger.specs.Checks.{any, twice as twiceOf, hypothesis as hypothesisOf};
+ghost use Rattle.ledger.specs.Checks.{anyOf, twice as twiceOf, hypothesis as hypothesisOf};
 ghost use Rattle.ledger.specs.Calls.{withLive};
 ghost use Rattle.store.specs.Store.{ledgerOf, Good, StandsFor};
 ghost use Rattle.call_holds.specs.Holds.{joined, spent, Serials, Spendable, HeldIs};
@@ -76,9 +76,9 @@ fn hypothesis(c: Credential) -> Hypothesis
 }
 
 // 24 for all holds: their credentials take labels 0, 1, .. in order.
-pub fn hold_all(till: &Store, serials: &Serials, count: u32, table: &mut LabelRows) -> Held
-    requires { ⌜ Good (now till) × Serials (now serials) count ⌝ }
-    ensures { λ r. ⌜ HeldIs (ledgerOf (now (till .entry))) (take count (now (serials .entry))) (now (table .entry)) r
+pub fn hold_all(store: &Store, serials: &Serials, count: u32, table: &mut LabelRows) -> Held
+    requires { ⌜ Good (now store) × Serials (now serials) count ⌝ }
+    ensures { λ r. ⌜ HeldIs (ledgerOf (now (store .entry))) (take count (now (serials .entry))) (now (table .entry)) r
         (now (table .exit)) ⌝ }
 {
     let mut unrestricted: u64 = 0;
@@ -86,12 +86,12 @@ pub fn hold_all(till: &Store, serials: &Serials, count: u32, table: &mut LabelRo
     let mut linears: u32 = 0;
     let mut k: u32 = 0;
     while k < count {
-        let found = store_lookup::find(till, serials[k as usize]);
+        let found = store_lookup::find(store, serials[k as usize]);
         let Found::At(_, c) = found else {
             return Held::Dead;
         };
         let kind = c.kind;
-        put_held(table, k, hypothesis(c));
+        put_label(table, k, hypothesis(c));
         unrestricted = unrestricted_with(unrestricted, k, kind);
         linear = linear_with(linear, k, kind);
         linears = linears + one_linear(kind);
@@ -107,7 +107,7 @@ pub fn hold_all(till: &Store, serials: &Serials, count: u32, table: &mut LabelRo
 // Whether n is among the serials from a place on.
 fn again(serials: &Serials, count: u32, from: u32, n: u32) -> bool
     requires { ⌜ Serials (now serials) count ⌝ }
-    ensures { λ r. ⌜ r ≡ any (eqb n) (drop from (take count (now (serials .entry)))) ⌝ }
+    ensures { λ r. ⌜ r ≡ anyOf (eqb n) (drop from (take count (now (serials .entry)))) ⌝ }
 {
     let mut k = from;
     while k < count {
@@ -135,32 +135,32 @@ pub fn twice(serials: &Serials, count: u32) -> bool
 }
 
 // A hold leaves if it is linear.
-fn spend_one(till: &mut Store, serial: u32)
-    requires { ⌜ Good (now till) ⌝ }
-    ensures { λ _. ⌜ StandsFor (now (till .exit)) (withLive (ledgerOf (now (till .entry)))
-        (spent (ledgerOf (now (till .entry)) .live) serial)) ⌝ }
+fn spend_one(store: &mut Store, serial: u32)
+    requires { ⌜ Good (now store) ⌝ }
+    ensures { λ _. ⌜ StandsFor (now (store .exit)) (withLive (ledgerOf (now (store .entry)))
+        (spent (ledgerOf (now (store .entry)) .live) serial)) ⌝ }
 {
-    let found = store_lookup::find(till, serial);
+    let found = store_lookup::find(store, serial);
     let Found::At(at, c) = found else {
         return;
     };
     let kind = c.kind;
     match kind {
-        Kind::Linear => store_credentials::remove(till, at),
+        Kind::Linear => store_credentials::remove(store, at),
         Kind::Unrestricted => {}
     }
 }
 
 // "removes the single-use holds"
-pub fn spend(till: &mut Store, serials: &Serials, count: u32)
-    requires { ⌜ Spendable (now till) (now serials) count ⌝ }
-    ensures { λ _. ⌜ StandsFor (now (till .exit)) (withLive (ledgerOf (now (till .entry)))
-        (spendOf (ledgerOf (now (till .entry)) .live)
-        (held (ledgerOf (now (till .entry)) .live) (take count (now (serials .entry)))))) ⌝ }
+pub fn spend(store: &mut Store, serials: &Serials, count: u32)
+    requires { ⌜ Spendable (now store) (now serials) count ⌝ }
+    ensures { λ _. ⌜ StandsFor (now (store .exit)) (withLive (ledgerOf (now (store .entry)))
+        (spendOf (ledgerOf (now (store .entry)) .live)
+        (held (ledgerOf (now (store .entry)) .live) (take count (now (serials .entry)))))) ⌝ }
 {
     let mut k: u32 = 0;
     while k < count {
-        spend_one(till, serials[k as usize]);
+        spend_one(store, serials[k as usize]);
         k += 1;
     }
 }

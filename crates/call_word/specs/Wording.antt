@@ -11,14 +11,14 @@ use Rattle.request.specs.Request.{Line, word}
 use Rattle.steps.specs.declared.Row.{Row}
 use Rattle.ledger.specs.Table.{form, names}
 use Rattle.ledger.specs.Ledger.{Ledger, formula}
-use Rattle.ledger.specs.Checks.{Check, _if_, any, maxSize, maxFormulas, missing, oversize, sameLine, readChecks}
+use Rattle.ledger.specs.Checks.{Check, _if_, anyOf, maxSize, maxFormulas, missing, oversize, sameLine, readChecks}
 use Rattle.ledger.specs.Statements.{SoFar}
 use Rattle.store.specs.Store.{lineOf, ledgerOf, Good, Canonical}
 
 -- the checks of a line whose names are there
 abbrev pub fitChecks : Ledger → Line → List Check
 fitChecks t l =
-    (12 if oversize t l) ∷ (13 if any (sameLine l) (t .lines)) ∷ (14 if leb maxFormulas (length (t .lines))) ∷ []
+    (12 if oversize t l) ∷ (13 if anyOf (sameLine l) (t .lines)) ∷ (14 if leb maxFormulas (length (t .lines))) ∷ []
 
 -- those before `rest` have passed
 abbrev pub Past : List ℕ → Row → List Check → Type 0
@@ -28,7 +28,7 @@ Past l r rest = SoFar (readChecks (ledgerOf l) (some (word (lineOf r)))) rest
 pub record Named (l : List ℕ) (r : Row) : Type 0 where
   pub good : Good l
   pub canonical : Canonical r
-  pub there : any (missing (ledgerOf l)) (names (lineOf r)) ≡ false
+  pub there : anyOf (missing (ledgerOf l)) (names (lineOf r)) ≡ false
   pub so-far : Past l r (fitChecks (ledgerOf l) (lineOf r))
 
 -- all have passed; z is the formula's size

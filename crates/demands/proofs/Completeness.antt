@@ -18,22 +18,22 @@ use Rattle.logic.proofs.Multisets.{every-out, every-map}
 use Rattle.request.specs.Range.{serial, steps as stepCount}
 use Rattle.request.specs.Request.{Step, Booking, book, stepIntervals, stepsIntervals, intervals}
 use Rattle.request.specs.Write.{write}
-use Rattle.request.specs.InRange.{_∈_, BookingInRange, StepInRange}
+use Rattle.request.specs.InRange.{_inRange_, BookingInRange, StepInRange}
 use Rattle.request.proofs.Requests.{write-read, write-short}
 use Rattle.steps.specs.declared.Sequent.{Sequent}
 use Rattle.steps.specs.declared.Goal.the-variants.{Holds}
 use Rattle.steps.specs.Check.{maxLabels, done, premiseOf, finished, checkOf}
-use Rattle.steps.specs.Letters.{letterOf}
+use Rattle.steps.specs.StepLetters.{letterOf}
 use Rattle.steps.specs.Limits.{Writable}
-use Rattle.steps.proofs.Tables.{label-table}
+use Rattle.steps.proofs.LabelTables.{label-table}
 use Rattle.steps.proofs.Steps.{passing}
 use Rattle.ledger.specs.declared.Credential.{Credential}
 use Rattle.ledger.specs.Ledger.{Ledger, row, find, isNone, held, linearCount}
-use Rattle.ledger.specs.Checks.{LabelTable, _if_, first, any, dead, noRoom, usedUp}
+use Rattle.ledger.specs.Checks.{LabelTable, _if_, first, anyOf, dead, noRoom, usedUp}
 use Rattle.ledger.specs.Checks.{readLabel}
 use Rattle.ledger.specs.Checks.{writeLabel}
 use Rattle.ledger.specs.Checks.{verdict, steps, checks, checksOf}
-use Rattle.ledger.specs.Calls.{Told, ok, accept, says}
+use Rattle.ledger.specs.Calls.{Told, ok, accept, toldOf}
 use Rattle.ledger.specs.Statements.{SoFar, _▸_}
 use Rattle.ledger.proofs.Answers.{some-inj, first-passes, heard}
 use Rattle.ledger.proofs.Credentials.{take-out, any-none, Alive, held-length}
@@ -76,10 +76,10 @@ rises-least : (lo : ℕ) (cs : List Credential) → Rises lo cs → Every (λ c.
 rises-least lo [] r = tt
 rises-least lo (c ∷ cs) r = let l = r .0 in (omega arith, rises-least (c .serial) cs (r .1))
 
-live-in-range : (t : Ledger) → Bounded t → (n : ℕ) → Alive (t .live) n → n ∈ serial
+live-in-range : (t : Ledger) → Bounded t → (n : ℕ) → Alive (t .live) n → n inRange serial
 live-in-range t b n a = go (find (t .live) n) refl a
   where
-    go : (o : Option Credential) → find (t .live) n ≡ o → isNone o ≡ false → n ∈ serial
+    go : (o : Option Credential) → find (t .live) n ≡ o → isNone o ≡ false → n inRange serial
     go none e q = absurd (no-truth (sym q))
     go (some c) e q =
         let out = take-out (t .live) n e in
@@ -90,7 +90,7 @@ live-in-range t b n a = go (find (t .live) n) refl a
 -- A booking that passes every check up to 42
 
 record Passing (t : Ledger) (b : Booking) : Type 0 where
-  straight : any reversed (intervals (book b)) ≡ false
+  straight : anyOf reversed (intervals (book b)) ≡ false
   may : May t (b .now) (b .formula) (b .interval) (b .holds)
   closes : steps t (held (t .live) (b .holds)) (b .formula) (b .interval) (b .steps) ≡ none
 
@@ -115,51 +115,51 @@ module _ (t : Ledger) (b : Booking) (r : BookingInRange b) (p : Passing t b) whe
       ▸ if-false 31 _ (m .apart)
       ▸ p .closes
 
-  refused : {n : ℕ} → first (checksOf t bytes) ≡ some (record { number = n; step = 0 }) → says t bytes ≡ Told.no n 0
+  refused : {n : ℕ} → first (checksOf t bytes) ≡ some (record { number = n; step = 0 }) → toldOf t bytes ≡ Told.no n 0
   refused e = demand-1 t bytes .refused _ 0 .1 (first-fails (checksOf t bytes) e)
 
-  accepted : first (checksOf t bytes) ≡ none → says t bytes ≡ ok (t .next ∷ [])
+  accepted : first (checksOf t bytes) ≡ none → toldOf t bytes ≡ ok (t .next ∷ [])
   unfolding bytes accept
   accepted e =
       let c = call-accepts t bytes (demand-1 t bytes .accepted .1 (first-passes (checksOf t bytes) e)) in
       ap heard (c .2 ∙ ap (accept t) (some-inj (sym (c .1) ∙ write-read (book b) r)))
 
-  past : PastSteps t (says t bytes)
+  past : PastSteps t (toldOf t bytes)
   past = go full refl (usedUp t) refl
     where
-      go : (x : Bool) → full ≡ x → (y : Bool) → usedUp t ≡ y → PastSteps t (says t bytes)
+      go : (x : Bool) → full ≡ x → (y : Bool) → usedUp t ≡ y → PastSteps t (toldOf t bytes)
       go true e y q = inr (inl (refused (stopped-at so-far (if-true 22 _ e))))
       go false e true q = inr (inr (refused (stopped-at (so-far ▸ if-false 22 _ e) (if-true 23 _ q))))
       go false e false q = inl (accepted (none-stops (so-far ▸ if-false 22 _ e ▸ if-false 23 _ q)))
 
 -- The booking that it makes, down to bytes
 
-any-append : (xs ys : List Interval) → any reversed xs ≡ false → any reversed ys ≡ false
-    → any reversed (xs ++ ys) ≡ false
-unfolding any
+any-append : (xs ys : List Interval) → anyOf reversed xs ≡ false → anyOf reversed ys ≡ false
+    → anyOf reversed (xs ++ ys) ≡ false
+unfolding anyOf
 any-append [] ys x y = y
 any-append (i ∷ xs) ys x y = go (reversed i) x (λ e. any-append xs ys e y)
   where
-    go : (b : Bool) → (b || any reversed xs) ≡ false
-        → (any reversed xs ≡ false → any reversed (xs ++ ys) ≡ false) → (b || any reversed (xs ++ ys)) ≡ false
+    go : (b : Bool) → (b || anyOf reversed xs) ≡ false
+        → (anyOf reversed xs ≡ false → anyOf reversed (xs ++ ys) ≡ false) → (b || anyOf reversed (xs ++ ys)) ≡ false
     go true e ih = absurd (no-truth (sym e))
     go false e ih = ih e
 
-ordered-straight : (is : List Interval) → Every Ordered is → any reversed is ≡ false
-unfolding any
+ordered-straight : (is : List Interval) → Every Ordered is → anyOf reversed is ≡ false
+unfolding anyOf
 ordered-straight [] o = refl
 ordered-straight (i ∷ is) o = rw (ordered-decides i .1 (o .0)) (ordered-straight is (o .1))
 
-steps-straight : (ss : List Step) → Every Writable ss → any reversed (stepsIntervals ss) ≡ false
-unfolding stepsIntervals any
+steps-straight : (ss : List Step) → Every Writable ss → anyOf reversed (stepsIntervals ss) ≡ false
+unfolding stepsIntervals anyOf
 steps-straight [] w = refl
 steps-straight (s ∷ ss) w =
     any-append (stepIntervals s) (stepsIntervals ss) (ordered-straight (stepIntervals s) (w .0 .1))
     (steps-straight ss (w .1))
 
 booking-straight : (b : Booking) → Ordered (b .interval) → Every Writable (b .steps)
-    → any reversed (intervals (book b)) ≡ false
-unfolding intervals any
+    → anyOf reversed (intervals (book b)) ≡ false
+unfolding intervals anyOf
 booking-straight b o w = rw (ordered-decides (b .interval) .1 o) (steps-straight (b .steps) w)
 
 has-most : (i : Interval) (m : ℕ) → has i m ≡ true → m ≤ i .to
@@ -170,7 +170,7 @@ writable-in-range : (ss : List Step) → Every Writable ss → Every StepInRange
 writable-in-range ss = every-map (λ s w. w .0) ss
 
 in-range : (t : Ledger) → Bounded t → (b : Booking) → May t (b .now) (b .formula) (b .interval) (b .holds)
-    → length (b .steps) ∈ stepCount → Every Writable (b .steps) → BookingInRange b
+    → length (b .steps) inRange stepCount → Every Writable (b .steps) → BookingInRange b
 in-range t bd b m count w = record {
   now = record { least = omega arith; most = omega (arith, has-most (b .interval) (b .now) (m .inside), m .ranged) };
   formula = record {

@@ -38,7 +38,7 @@ use Rattle.ledger.proofs.Firsts.{none-stops, handle-passes, no-intervals, call-
 use Rattle.ledger.proofs.Walk.{Keeps, walk}
 use Rattle.ledger.proofs.Credentials.{linearly, only-sum, splits}
 use Rattle.ledger.proofs.Bounds.{same-table}
-use Rattle.ledger.proofs.Passed.{Fair, passed-word, passed-issue, passed-withdraw, PassedBook, passed-book}
+use Rattle.ledger.proofs.Passed.{FitsKind, passed-word, passed-issue, passed-withdraw, PassedBook, passed-book}
 use Rattle.demands.specs.Demands.{hyp, hypsOf, Demand3}
 use Rattle.steps.specs.Limits.{Writable}
 use Rattle.demands.proofs.Demand2.{few-held, writable-steps, steps-derive}
@@ -59,9 +59,9 @@ weigh : (t : Ledger) (h : History) (s : ℕ) (cs : List Credential) → Every (R
     → Weighs s (hypsOf t Unrestricted cs) (hypsOf t Linear cs) (sum (linearly (seatsAndPlacesIn t s)) cs)
 unfolding sum hypsOf
 weigh t h s [] r = record { balanced = tt; even = tt; taken = refl; added = refl }
-weigh t h s (c ∷ cs) r = go (c .kind) (r .0 .fair) (weigh t h s cs (r .1))
+weigh t h s (c ∷ cs) r = go (c .kind) (r .0 .fits) (weigh t h s cs (r .1))
   where
-    go : (k : Kind) → Fair k (formula t (c .formula))
+    go : (k : Kind) → FitsKind k (formula t (c .formula))
         → Weighs s (hypsOf t Unrestricted cs) (hypsOf t Linear cs) (sum (linearly (seatsAndPlacesIn t s)) cs)
         → Weighs s
         (elim (byKind k false true) as (λ z. List Hyp)
@@ -121,7 +121,7 @@ accept-keeps : Keeps note Agrees
 unfolding accept
 accept-keeps t h b (word l) e p a = word-keeps t h l a (passed-word t l (p .rest) .there)
 accept-keeps t h b (issue k n i) e p a =
-    let q = passed-issue t k n i (p .rest) in issue-keeps t h k n i a (q .there) (q .fair)
+    let q = passed-issue t k n i (p .rest) in issue-keeps t h k n i a (q .there) (q .fits)
 accept-keeps t h b (withdraw n) e p a =
     let q = passed-withdraw t n (p .rest) in withdraw-keeps t h n (q .credential) (q .found) a
 accept-keeps t h b (book x) e p a =

@@ -1,8 +1,8 @@
 // The entry for C (include/oysterbrim.h): the till is a block of 8,148 numbers that the caller keeps, a sheet is bytes
 // with a length, and the caller lends 1,536 numbers to work on and four for the answer.
 use ledger::Answer;
-use store::Store;
 use step_rows::StepRows;
+use store::Store;
 ghost use Rattle.ledger.specs.Ledger.{empty};
 ghost use Rattle.store.specs.Store.{Good, StandsFor};
 ghost use Rattle.entry.specs.Entered.{Entered};

@@ -9,19 +9,19 @@ use lib.Dec.{ltb, leb}
 use lib.ListN.{length}
 use borrow.Author.Tests.{lt-ltb, le-ltb, le-leb, lt-leb, leb-false}
 use Rattle.logic.specs.Formula.{Formula, size, plain}
-use Rattle.logic.specs.Counts.{all}
+use Rattle.logic.specs.Counts.{allOf}
 use Rattle.logic.specs.Multiset.{sum}
 use Rattle.logic.proofs.Multisets.{every-map}
 use Rattle.steps.specs.declared.Row.{Row}
 use Rattle.ledger.specs.Table.{form, names}
 use Rattle.ledger.specs.Ledger.{Ledger, formula}
-use Rattle.ledger.specs.Checks.{any, missing}
+use Rattle.ledger.specs.Checks.{anyOf, missing}
 use Rattle.ledger.proofs.Credentials.{any-none}
 use Rattle.ledger.specs.Bounds.{There}
 use Rattle.store.specs.Store.{lineOf, ledgerOf, Canonical}
 use Rattle.formula_parts.specs.declared.Parts.{Parts}
 use Rattle.formula_parts.specs.Parts.{among, plains, partsOf, numbers}
-use Rattle.formula_parts.proofs.Rows.{sizeRow, plainRow, parts-row, size-row, plain-row}
+use Rattle.formula_parts.proofs.PartsOfRows.{sizeRow, plainRow, parts-row, size-row, plain-row}
 use Rattle.formula_facts.specs.Facts.{Formable}
 
 there-not : (i n : ℕ) → ltb i n ≡ not (leb n i)
@@ -36,8 +36,8 @@ not-or true y = refl
 not-or false y = refl
 
 -- all are below the count, or some is missing
-all-there : (t : Ledger) (ns : List ℕ) → all (λ i. ltb i (length (t .lines))) ns ≡ not (any (missing t) ns)
-unfolding all any
+all-there : (t : Ledger) (ns : List ℕ) → allOf (λ i. ltb i (length (t .lines))) ns ≡ not (anyOf (missing t) ns)
+unfolding allOf anyOf
 all-there t [] = refl
 all-there t (i ∷ ns) = rw (not-or, there-not i (length (t .lines)), all-there t ns)
 
@@ -47,7 +47,7 @@ unfolding plainRow
 other-letter T r c e = sym (plain-row T (lineOf r) ∙ rw (c, e))
 
 -- where none is missing, all are there
-pub none-missing : (t : Ledger) (ns : List ℕ) → any (missing t) ns ≡ false → There t ns
+pub none-missing : (t : Ledger) (ns : List ℕ) → anyOf (missing t) ns ≡ false → There t ns
 none-missing t ns e = every-map (λ k q. leb-false _ _ q) ns (any-none (missing t) ns e)
 
 module _ (r : Row) (p q : Parts) (e : numbers p ≡ partsOf r) (g : p ≡ q) where
@@ -58,11 +58,11 @@ module _ (r : Row) (p q : Parts) (e : numbers p ≡ partsOf r) (g : p ≡ q) whe
   parts-names c = parts-are ∙ ap partsOf (sym c) ∙ parts-row (lineOf r)
 
   pub all-below : (l : List ℕ) (n : ℕ) → n ≡ length (ledgerOf l .lines) → Canonical r
-      → all (λ i. ltb i n) (numbers q) ≡ not (any (missing (ledgerOf l)) (names (lineOf r)))
+      → allOf (λ i. ltb i n) (numbers q) ≡ not (anyOf (missing (ledgerOf l)) (names (lineOf r)))
   all-below l n h c =
       rw h
       (all-there (ledgerOf l) (numbers q)
-      ∙ ap (λ (ns : List ℕ). not (any (missing (ledgerOf l)) ns)) (parts-names c))
+      ∙ ap (λ (ns : List ℕ). not (anyOf (missing (ledgerOf l)) ns)) (parts-names c))
 
   module _ (l : List ℕ) (f : Formable l r) where
     pub parts-there : There (ledgerOf l) (numbers q)
@@ -74,6 +74,6 @@ module _ (r : Row) (p q : Parts) (e : numbers p ≡ partsOf r) (g : p ≡ q) whe
     parts-size = sym (size-row (formula (ledgerOf l)) (lineOf r) ∙ rw (f .canonical, parts-are))
 
     pub parts-plain : among (r .letter) plains ≡ true
-        → all (λ k. plain (formula (ledgerOf l) k)) (numbers q) ≡ plain (form (formula (ledgerOf l)) (lineOf r))
+        → allOf (λ k. plain (formula (ledgerOf l) k)) (numbers q) ≡ plain (form (formula (ledgerOf l)) (lineOf r))
     unfolding plainRow
     parts-plain k = sym (plain-row (formula (ledgerOf l)) (lineOf r) ∙ rw (f .canonical, parts-are, k))

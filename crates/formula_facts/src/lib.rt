@@ -7,14 +7,14 @@ ghost use mathlib.Core.Bool.{not};
 ghost use Rattle.logic.specs.Formula.{size, plain};
 ghost use Rattle.ledger.specs.Table.{form, names};
 ghost use Rattle.ledger.specs.Ledger.{formula};
-ghost use Rattle.ledger.specs.Checks.{any, missing};
+ghost use Rattle.ledger.specs.Checks.{anyOf, missing};
 ghost use Rattle.store.specs.Store.{lineOf, ledgerOf, Canonical};
 ghost use Rattle.formula_facts.specs.Facts.{Formable};
 
 // Whether the ledger has every formula that the row names.
 pub fn names_there(store: &Store, row: Row) -> bool
     requires { ⌜ Canonical row ⌝ }
-    ensures { λ r. ⌜ r ≡ not (any (missing (ledgerOf (now (store .entry)))) (names (lineOf row))) ⌝ }
+    ensures { λ r. ⌜ r ≡ not (anyOf (missing (ledgerOf (now (store .entry)))) (names (lineOf row))) ⌝ }
 {
     let n = store::formula_count(store);
     match formula_parts::parts_of(row) {

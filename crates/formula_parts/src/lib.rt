@@ -6,7 +6,7 @@ ghost use mathlib.Core.Path.{_≡_};
 ghost use Rattle.logic.specs.Interval.{reversed};
 ghost use Rattle.request.specs.Request.{Line, lineIntervals};
 ghost use Rattle.ledger.specs.Table.{rowOf};
-ghost use Rattle.ledger.specs.Checks.{any};
+ghost use Rattle.ledger.specs.Checks.{anyOf};
 ghost use Rattle.formula_parts.specs.Parts.{among, plains, partsOf, numbers};
 
 // "Predicate 1 is seat, 2 place"
@@ -52,7 +52,7 @@ pub fn plain_letter(letter: u32) -> bool
 
 // Whether an interval of a formula line is reversed (refusal 3), from its row: one that a line has not is none.
 pub fn reversed_row(x: Row) -> bool
-    ensures { λ r. ⌜ ((l : Line) → rowOf l ≡ x → r ≡ any reversed (lineIntervals l)) ⌝ }
+    ensures { λ r. ⌜ ((l : Line) → rowOf l ≡ x → r ≡ anyOf reversed (lineIntervals l)) ⌝ }
 {
     intervals::reversed(x.first) | intervals::reversed(x.second)
 }

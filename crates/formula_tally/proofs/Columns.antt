@@ -19,7 +19,7 @@ use Rattle.ledger.specs.Table.{form, nth, build, formulas}
 use Rattle.ledger.specs.Ledger.{Ledger, formula}
 use Rattle.ledger.specs.Checks.{maxSize, maxFormulas}
 use Rattle.ledger.specs.Bounds.{lineAt}
-use Rattle.ledger.proofs.Tables.{formulas-length, formula-snoc}
+use Rattle.ledger.proofs.FormulaTable.{formulas-length, formula-snoc}
 use Rattle.formula_tally.specs.Column.{early, Column}
 
 module _ (t : Ledger) where

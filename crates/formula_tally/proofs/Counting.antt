@@ -22,10 +22,10 @@ use Rattle.store_cells.specs.Layout.{rowAt}
 use Rattle.store.specs.Store.{ledgerOf, Good}
 use Rattle.store.proofs.Views.{row-is}
 use Rattle.formula_parts.specs.Parts.{partsOf}
-use Rattle.formula_parts.proofs.Rows.{parts-row}
+use Rattle.formula_parts.proofs.PartsOfRows.{parts-row}
 use Rattle.formula_tally.specs.Column.{entry, early, placeUnit, entryMost, Countable}
 use Rattle.formula_tally.specs.Tally.{both, atomBoth, bothRow, atomOf, Blank, Counted}
-use Rattle.formula_tally.proofs.Limits.{both-le}
+use Rattle.formula_tally.proofs.CountLimits.{both-le}
 use Rattle.formula_tally.proofs.Columns.{column-start, column-next, early-small}
 
 -- an atom's seats and places

@@ -1,4 +1,4 @@
-pub mod Limits
+pub mod CountLimits
 pub mod Columns
 pub mod Counting
 pub mod Tallies

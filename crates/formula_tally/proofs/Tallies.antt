@@ -23,11 +23,11 @@ use Rattle.store.specs.Store.{ledgerOf, Good}
 use Rattle.store.proofs.Tabs.{length-tab, tab-snoc}
 use Rattle.store.proofs.Live.{live-sum}
 use Rattle.formula_tally.specs.Column.{entry, seatsMost, placeUnit, entryMost}
-use Rattle.formula_tally.specs.Tally.{both, Counted, Shares}
-use Rattle.formula_tally.specs.declared.Share.{Share}
+use Rattle.formula_tally.specs.Tally.{both, Counted, Adds}
+use Rattle.formula_tally.specs.declared.Addend.{Addend}
 use Rattle.ledger.proofs.Credentials.{only-sum}
 use Rattle.formula_tally.proofs.Columns.{early-all}
-use Rattle.formula_tally.proofs.Limits.{count-le}
+use Rattle.formula_tally.proofs.CountLimits.{count-le}
 use Rattle.formula_tally.proofs.Counting.{counted-small}
 
 -- Sums
@@ -102,7 +102,7 @@ module _ (t : Ledger) (s : ℕ) where
       go Unrestricted = omega arith
 
 -- what a credential adds, by how the code finds it
-pub shares-none : (c : Credential) (m : ℕ) {n : ℕ} → n ≡ 0 → Shares c m n (record { all = 0; inside = 0 })
+pub shares-none : (c : Credential) (m : ℕ) {n : ℕ} → n ≡ 0 → Adds c m n (record { all = 0; inside = 0 })
 shares-none c m {n} e = record { all = none (c .kind); inside = sym (only-zero (has (c .interval) m)) }
   where
     none : (k : Kind) → 0 ≡ byKind k n 0
@@ -110,9 +110,9 @@ shares-none c m {n} e = record { all = none (c .kind); inside = sym (only-zero (
     none Unrestricted = refl
 
 pub shares-some : (m n : ℕ) {c d : Credential} {v w : ℕ} → c ≡ d → v ≡ byKind (c .kind) n 0
-    → w ≡ only (has (c .interval) m) v → Shares d m n (record { all = v; inside = w })
+    → w ≡ only (has (c .interval) m) v → Adds d m n (record { all = v; inside = w })
 shares-some m n {v = v} {w = w} e p q =
-    subst (λ (x : Credential). Shares x m n (record { all = v; inside = w })) e (record { all = p; inside = q })
+    subst (λ (x : Credential). Adds x m n (record { all = v; inside = w })) e (record { all = p; inside = q })
 
 -- a and b are the sums over the first i rows: of all, and of those whose interval has the minute
 pub record Tallying (l : List ℕ) (s m i a b : ℕ) : Type 0 where
@@ -134,7 +134,7 @@ module _ (l : List ℕ) (s m : ℕ) where
 
   module _ (g : Good l) where
     module _ (xs : List ℕ) (k : Counted l s (length (ledgerOf l .lines)) xs) where
-      pub entry-small : {c : Credential} {e : ℕ} {r : Share} (n : ℕ) → e ≡ entry xs n → Shares c m e r
+      pub entry-small : {c : Credential} {e : ℕ} {r : Addend} (n : ℕ) → e ≡ entry xs n → Adds c m e r
           → r .all ≤ entryMost
       entry-small {c} {e} {r} n x h = go (c .kind) (h .all)
         where
@@ -142,8 +142,8 @@ module _ (l : List ℕ) (s m : ℕ) where
           go Linear y = omega (arith, counted-small l s g (length (ledgerOf l .lines)) xs (omega arith) k n)
           go Unrestricted y = omega arith
 
-      pub tally-next : {c : Credential} {i a b e : ℕ} {r : Share} → c ≡ credentialAt l i → e ≡ entry xs (c .formula)
-          → Shares (credentialAt l i) m e r → Tallying l s m i a b
+      pub tally-next : {c : Credential} {i a b e : ℕ} {r : Addend} → c ≡ credentialAt l i → e ≡ entry xs (c .formula)
+          → Adds (credentialAt l i) m e r → Tallying l s m i a b
           → Tallying l s m (i + 1) (a + r .all) (b + r .inside)
       tally-next {c} {i} {a} {b} {e} {r} ec ee h t =
           let d = credentialAt l i in

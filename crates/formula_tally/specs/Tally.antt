@@ -19,7 +19,7 @@ use Rattle.store_cells.specs.Layout.{rowAt}
 use Rattle.store.specs.Store.{ledgerOf}
 use Rattle.formula_parts.specs.Parts.{partsOf}
 use Rattle.formula_tally.specs.declared.Figures.{Figures}
-use Rattle.formula_tally.specs.declared.Share.{Share}
+use Rattle.formula_tally.specs.declared.Addend.{Addend}
 use Rattle.formula_tally.specs.Column.{Column, placeUnit}
 
 -- seats and places of session s, counted in one number: places in steps of `placeUnit`
@@ -51,7 +51,7 @@ abbrev pub Counted : List ℕ → ℕ → ℕ → List ℕ → Type 0
 Counted l s i xs = Column (ledgerOf l) (both s) 0 i xs
 
 -- what a credential adds where its formula counts n, and so much of it as its interval has minute m for
-pub record Shares (c : Credential) (m n : ℕ) (s : Share) : Type 0 where
+pub record Adds (c : Credential) (m n : ℕ) (s : Addend) : Type 0 where
   pub all : s .all ≡ byKind (c .kind) n 0
   pub inside : s .inside ≡ only (has (c .interval) m) (s .all)
 

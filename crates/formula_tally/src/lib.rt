@@ -14,7 +14,7 @@ ghost use Rattle.ledger.specs.Ledger.{byKind};
 ghost use Rattle.ledger.specs.Calls.{only};
 ghost use Rattle.store_cells.specs.Layout.{rowCount, credentialAt};
 ghost use Rattle.store.specs.Store.{ledgerOf, Good};
-ghost use Rattle.formula_tally.specs.Tally.{Blank, NoneBefore, Counted, Shares, Tallied};
+ghost use Rattle.formula_tally.specs.Tally.{Blank, NoneBefore, Counted, Adds, Tallied};
 
 const PLACE_UNIT: u64 = column::PLACE_UNIT as u64;
 
@@ -27,7 +27,7 @@ pub struct Figures {
 }
 
 // What one credential adds: all that its formula counts, and so much of it as the interval has the minute for.
-struct Share {
+struct Addend {
     all: u32,
     inside: u32,
 }
@@ -87,18 +87,18 @@ fn when_has(interval: Interval, minute: u32, n: u32) -> u32
 
 // What the credential of a row adds to a tally, where its formula counts `both`. Most formulas are of other sessions
 // and count nothing, so that is asked before the credential is read.
-fn share_of(store: &Store, i: u32, minute: u32, both: u32) -> Share
+fn addend_of(store: &Store, i: u32, minute: u32, both: u32) -> Addend
     requires { ⌜ Good (now store) × (i < rowCount (now store)) ⌝ }
-    ensures { λ r. ⌜ Shares (credentialAt (now (store .entry)) i) minute both r ⌝ }
+    ensures { λ r. ⌜ Adds (credentialAt (now (store .entry)) i) minute both r ⌝ }
 {
     if both == 0 {
-        return Share { all: 0, inside: 0 };
+        return Addend { all: 0, inside: 0 };
     }
     let c = store::credential_at(store, i);
     let kind = c.kind;
     let all = when_linear(kind, both);
     let inside = when_has(c.interval, minute, all);
-    Share { all, inside }
+    Addend { all, inside }
 }
 
 // The tally of a session at a minute: seats and places are added up in one number, places in steps of `PLACE_UNIT`,
@@ -116,7 +116,7 @@ pub fn tally(store: &Store, session: u32, minute: u32) -> Figures
     while i < n {
         let c = store::credential_at(store, i);
         let both = column::known(&counts, c.formula);
-        let added = share_of(store, i, minute, both);
+        let added = addend_of(store, i, minute, both);
         all += added.all as u64;
         inside += added.inside as u64;
         i += 1;

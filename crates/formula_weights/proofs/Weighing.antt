@@ -11,7 +11,7 @@ use borrow.Author.Tests.{eq-eqb, ne-eqb}
 use Rattle.logic.specs.Choice.{pick}
 use Rattle.logic.specs.Formula.{Formula, atom, one, tensor, with, plus, lolli, implies, bang, at, says, superset}
 use Rattle.logic.specs.Formula.{size}
-use Rattle.logic.specs.Counts.{up, down, even, sessionsOf, all}
+use Rattle.logic.specs.Counts.{up, down, even, sessionsOf, allOf}
 use Rattle.logic.specs.Multiset.{sum, Every}
 use Rattle.logic.proofs.Tests.{bit-le}
 use Rattle.request.specs.Request.{Line}
@@ -22,13 +22,13 @@ use Rattle.ledger.specs.Bounds.{There, lineAt}
 use Rattle.store_cells.specs.Layout.{rowAt}
 use Rattle.store.specs.Store.{lineOf, ledgerOf, Good}
 use Rattle.store.proofs.Views.{row-is}
-use Rattle.store.proofs.Lines.{line-of-row}
+use Rattle.store.proofs.LinesOfRows.{line-of-row}
 use Rattle.formula_parts.specs.declared.Parts.{Parts}
 use Rattle.formula_parts.specs.Parts.{partsOf, numbers}
 use Rattle.formula_facts.specs.Facts.{Formable}
 use Rattle.formula_facts.proofs.Named.{parts-are, parts-there, parts-size}
 use Rattle.formula_weights.specs.declared.Weight.{Weight}
-use Rattle.formula_weights.specs.Weights.{weightOf, aloneWeight, underWeight, joinedWeight, Light}
+use Rattle.formula_weights.specs.RowWeights.{weightOf, aloneWeight, underWeight, joinedWeight, Light}
 
 -- by the parts' weights, and by their sessions
 abbrev pub weighed : ℕ → Row → List Weight → Weight
@@ -154,33 +154,33 @@ module _ {l : List ℕ} {t n : ℕ} (p : Part l t n) {r : Row} (e : r ≡ rowAt 
       let m = p .there .0 .bounded .sizes n in
       subst Light (sym (part-weight s h)) (record { up = omega (arith, b, m); down = omega (arith, b, m) })
 
-  pub part-sessions : (f : ℕ → Bool) {b : Bool} → b ≡ all f (sessionsOf (form (formula (ledgerOf l)) (lineOf r)))
-      → b ≡ all f (sessionsOf (formula (ledgerOf l) n))
-  part-sessions f h = h ∙ ap (λ (a : Formula). all f (sessionsOf a)) part-is
+  pub part-sessions : (f : ℕ → Bool) {b : Bool} → b ≡ allOf f (sessionsOf (form (formula (ledgerOf l)) (lineOf r)))
+      → b ≡ allOf f (sessionsOf (formula (ledgerOf l) n))
+  part-sessions f h = h ∙ ap (λ (a : Formula). allOf f (sessionsOf a)) part-is
 
 -- a test of the sessions, from its answers for the parts'
 module _ (f : ℕ → Bool) where
-  all-append : (xs ys : List ℕ) → all f (xs ++ ys) ≡ (all f xs && all f ys)
-  unfolding all
+  all-append : (xs ys : List ℕ) → allOf f (xs ++ ys) ≡ (allOf f xs && allOf f ys)
+  unfolding allOf
   all-append [] ys = refl
   all-append (x ∷ xs) ys = go (f x) (all-append xs ys)
     where
-      go : (b : Bool) → all f (xs ++ ys) ≡ (all f xs && all f ys)
-          → (b && all f (xs ++ ys)) ≡ ((b && all f xs) && all f ys)
+      go : (b : Bool) → allOf f (xs ++ ys) ≡ (allOf f xs && allOf f ys)
+          → (b && allOf f (xs ++ ys)) ≡ ((b && allOf f xs) && allOf f ys)
       go true e = e
       go false e = refl
 
-  pub all-atom : (r : Row) → r .letter ≡ code "a" → f (r .b) ≡ all f (gathered r [])
-  unfolding all
+  pub all-atom : (r : Row) → r .letter ≡ code "a" → f (r .b) ≡ allOf f (gathered r [])
+  unfolding allOf
   all-atom r e = rw (eq-eqb _ _ e) (sym (and-true (f (r .b))))
 
-  pub all-other : (r : Row) → (r .letter ≡ code "a" → ⊥) → true ≡ all f (gathered r [])
-  unfolding all
+  pub all-other : (r : Row) → (r .letter ≡ code "a" → ⊥) → true ≡ allOf f (gathered r [])
+  unfolding allOf
   all-other r n = rw (ne-eqb _ _ n) refl
 
-  module _ (xs ys : List ℕ) {x : Bool} (e : x ≡ all f xs) where
-    pub all-left : x ≡ false → false ≡ all f (xs ++ ys)
+  module _ (xs ys : List ℕ) {x : Bool} (e : x ≡ allOf f xs) where
+    pub all-left : x ≡ false → false ≡ allOf f (xs ++ ys)
     all-left q = sym (all-append xs ys ∙ rw (sym e, q))
 
-    pub all-right : x ≡ true → {y : Bool} → y ≡ all f ys → y ≡ all f (xs ++ ys)
+    pub all-right : x ≡ true → {y : Bool} → y ≡ allOf f ys → y ≡ allOf f (xs ++ ys)
     all-right q h = h ∙ sym (all-append xs ys ∙ rw (sym e, q))

@@ -1,1 +1,1 @@
-pub mod Weights
+pub mod RowWeights

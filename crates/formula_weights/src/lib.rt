@@ -6,12 +6,13 @@ use steps::letters;
 use store::Store;
 ghost use mathlib.Core.Path.{_≡_};
 ghost use Rattle.logic.specs.Weight.{counted};
-ghost use Rattle.logic.specs.Counts.{all, sessionsOf, balanced};
+ghost use Rattle.logic.specs.Counts.{allOf, sessionsOf, balanced};
 ghost use Rattle.ledger.specs.Table.{form};
 ghost use Rattle.ledger.specs.Ledger.{formula};
 ghost use Rattle.store.specs.Store.{lineOf, ledgerOf};
 ghost use Rattle.formula_facts.specs.Facts.{Formable};
-ghost use Rattle.formula_weights.specs.Weights.{weightOf, fairFor, aloneWeight, underWeight, joinedWeight, Light};
+ghost use Rattle.formula_weights.specs.RowWeights.{weightOf, neutralFor, aloneWeight, underWeight, joinedWeight};
+ghost use Rattle.formula_weights.specs.RowWeights.{Light};
 
 // A formula's weight for a session: what it adds (up) and what it takes away (down); and whether it is well weighed.
 struct Weight {
@@ -120,33 +121,33 @@ fn weigh(store: &Store, row: Row, session: u32) -> Weight
 }
 
 // Whether the row's formula weighs 0 and is well weighed for the session.
-fn fair(store: &Store, row: Row, session: u32) -> bool
+fn neutral(store: &Store, row: Row, session: u32) -> bool
     requires { ⌜ Formable (now store) row ⌝ }
-    ensures { λ r. ⌜ r ≡ fairFor (form (formula (ledgerOf (now (store .entry)))) (lineOf row)) session ⌝ }
+    ensures { λ r. ⌜ r ≡ neutralFor (form (formula (ledgerOf (now (store .entry)))) (lineOf row)) session ⌝ }
 {
     let w = weigh(store, row, session);
     (w.up == w.down) & w.even
 }
 
 // Whether the formula of `row` does so for every session that stands in the formula of `part`.
-fn fair_within(store: &Store, row: Row, part: Row) -> bool
+fn neutral_within(store: &Store, row: Row, part: Row) -> bool
     requires { ⌜ Formable (now store) row × Formable (now store) part ⌝ }
-    ensures { λ r. ⌜ r ≡ all (fairFor (form (formula (ledgerOf (now (store .entry)))) (lineOf row)))
+    ensures { λ r. ⌜ r ≡ allOf (neutralFor (form (formula (ledgerOf (now (store .entry)))) (lineOf row)))
         (sessionsOf (form (formula (ledgerOf (now (store .entry)))) (lineOf part))) ⌝ }
 {
     match formula_parts::parts_of(part) {
         Parts::Nothing => {
             if part.letter == letters::ATOM {
-                return fair(store, row, part.b);
+                return neutral(store, row, part.b);
             }
             true
         }
-        Parts::One(i) => fair_within(store, row, store::line_at(store, i)),
+        Parts::One(i) => neutral_within(store, row, store::line_at(store, i)),
         Parts::Two(i, j) => {
-            if !fair_within(store, row, store::line_at(store, i)) {
+            if !neutral_within(store, row, store::line_at(store, i)) {
                 return false;
             }
-            fair_within(store, row, store::line_at(store, j))
+            neutral_within(store, row, store::line_at(store, j))
         }
     }
 }
@@ -156,5 +157,5 @@ pub fn row_balanced(store: &Store, row: Row) -> bool
     requires { ⌜ Formable (now store) row ⌝ }
     ensures { λ r. ⌜ r ≡ balanced (form (formula (ledgerOf (now (store .entry)))) (lineOf row)) ⌝ }
 {
-    fair_within(store, row, row)
+    neutral_within(store, row, row)
 }

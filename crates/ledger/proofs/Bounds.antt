@@ -25,7 +25,7 @@ use Rattle.ledger.specs.Statements.{Pass}
 use Rattle.ledger.proofs.Walk.{walk}
 use Rattle.ledger.proofs.Credentials.{take-out, splits}
 use Rattle.ledger.specs.Bounds.{Tabled, There, Rises, Below, Bounded, AlwaysBounded}
-use Rattle.ledger.proofs.Tables.{formula-snoc, line-tabled}
+use Rattle.ledger.proofs.FormulaTable.{formula-snoc, line-tabled}
 use Rattle.ledger.proofs.Passed.{passed-word, passed-issue, passed-withdraw, passed-book}
 
 one-more : (cs : List Credential) (c : Credential) {n : ℕ} → length cs < n → length (cs ++ (c ∷ [])) ≤ n

@@ -13,7 +13,7 @@ use Rattle.request.specs.Read.{requestOf}
 use Rattle.ledger.specs.declared.Answer.the-variants.{Refused}
 use Rattle.ledger.specs.Ledger.{Ledger, isNone}
 use Rattle.logic.specs.Interval.{reversed}
-use Rattle.ledger.specs.Checks.{Refusal, Check, _if_, any, first, checks, readChecks, checksOf}
+use Rattle.ledger.specs.Checks.{Refusal, Check, _if_, anyOf, first, checks, readChecks, checksOf}
 use Rattle.ledger.specs.Calls.{reply, accept, decide, handle, call}
 use Rattle.ledger.specs.Statements.{Pass, FirstFails, here, later, SoFar, from-start, _▸_}
 use Rattle.ledger.proofs.Answers.{some-none, some-inj}
@@ -78,8 +78,8 @@ handle-passes t r h = ap (λ (o : Option Refusal). decide t o (some r)) h
 
 -- a request that has no interval passes the checks of intervals
 pub no-intervals : (t : Ledger) (r : Request) → intervals r ≡ [] → SoFar (readChecks t (some r)) (checks t r)
-unfolding any
-no-intervals t r e = from-start ▸ if-false 3 _ (ap (any reversed) e)
+unfolding anyOf
+no-intervals t r e = from-start ▸ if-false 3 _ (ap (anyOf reversed) e)
 
 -- bytes, by their length and what they read as
 

@@ -19,7 +19,7 @@ use Rattle.request.proofs.Requests.{write-read, write-short}
 use Rattle.ledger.specs.declared.Credential.{Credential}
 use Rattle.ledger.specs.Table.{build, formulas}
 use Rattle.ledger.specs.Ledger.{Ledger, isNone, find, withoutSerial}
-use Rattle.ledger.specs.Checks.{any, _if_, first, checks, readChecks}
+use Rattle.ledger.specs.Checks.{anyOf, _if_, first, checks, readChecks}
 use Rattle.ledger.specs.Calls.{Reply, withLive, accept, call, after}
 use Rattle.ledger.specs.Cases.{AnsweredFrom}
 use Rattle.ledger.specs.LastSerials.{idle, IdleGiven, given, LastSerialsPlay}
@@ -54,7 +54,7 @@ only-gone c = rw (eq-eqb (c .serial) (c .serial) refl, withoutSerial)
 
 round : (n : ℕ) → 1 ≤ n → n ≤ serial .last
     → call (call (idle n) (write issued) .ledger) (write (withdraw n)) .ledger ≡ idle (n + 1)
-unfolding accept checks first any _if_ plain intervals reversed build formulas
+unfolding accept checks first anyOf _if_ plain intervals reversed build formulas
 round n h l =
     let t = accept (idle n) issued .ledger in
     ap (λ (d : Reply). call (d .ledger) (write (withdraw n)) .ledger)

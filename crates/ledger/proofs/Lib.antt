@@ -3,7 +3,7 @@ pub mod Firsts
 pub mod Credentials
 pub mod Passed
 pub mod Walk
-pub mod Tables
+pub mod FormulaTable
 pub mod Bounds
 pub mod Compute
 pub mod Sessions

@@ -19,7 +19,7 @@ use Rattle.request.specs.Request.{Line, Booking, Request, word, issue, withdraw
 use Rattle.ledger.specs.declared.Credential.{Credential}
 use Rattle.ledger.specs.Table.{form, names}
 use Rattle.ledger.specs.Ledger.{Ledger, formula, find, isNone, held, linearCount}
-use Rattle.ledger.specs.Checks.{any, maxSize, maxFormulas, maxLive, missing, sameLine, dead, twice, steps}
+use Rattle.ledger.specs.Checks.{anyOf, maxSize, maxFormulas, maxLive, missing, sameLine, dead, twice, steps}
 use Rattle.ledger.specs.Checks.{checks, readChecks}
 use Rattle.ledger.specs.Statements.{Pass}
 use Rattle.ledger.proofs.Answers.{if-none}
@@ -28,21 +28,21 @@ use Rattle.ledger.specs.Bounds.{There}
 
 -- the checks of a request that is read
 pub record PassedRead (t : Ledger) (r : Request) : Type 0 where
-  pub straight : any reversed (intervals r) ≡ false
+  pub straight : anyOf reversed (intervals r) ≡ false
   pub rest : Pass (checks t r)
 
 pub passed-read : (t : Ledger) (r : Request) → Pass (readChecks t (some r)) → PassedRead t r
 passed-read t r (straight, rest) = record { straight = if-none 3 _ straight; rest = rest }
 
 -- linear credentials are plain, unrestricted ones balanced
-abbrev pub Fair : Kind → Formula → Type 0
-Fair Linear a = plain a ≡ true
-Fair Unrestricted a = Balanced a
+abbrev pub FitsKind : Kind → Formula → Type 0
+FitsKind Linear a = plain a ≡ true
+FitsKind Unrestricted a = Balanced a
 
 pub record PassedWord (t : Ledger) (l : Line) : Type 0 where
   pub there : There t (names l)
   pub small : size (form (formula t) l) ≤ maxSize
-  pub new : any (sameLine l) (t .lines) ≡ false
+  pub new : anyOf (sameLine l) (t .lines) ≡ false
   pub room : length (t .lines) < maxFormulas
 
 pub passed-word : (t : Ledger) (l : Line) → Pass (checks t (word l)) → PassedWord t l
@@ -56,21 +56,21 @@ passed-word t l (there, (small, (new, (room, end)))) = record {
 
 pub record PassedIssue (t : Ledger) (k : Kind) (n : ℕ) : Type 0 where
   pub there : n < length (t .lines)
-  pub fair : Fair k (formula t n)
+  pub fits : FitsKind k (formula t n)
   pub room : length (t .live) - 0 < maxLive
   pub unused : t .next ≤ serial .last
 
 pub passed-issue : (t : Ledger) (k : Kind) (n : ℕ) (i : Interval) → Pass (checks t (issue k n i)) → PassedIssue t k n
 unfolding checks
-passed-issue t Linear n i (there, (fair, (room, (unused, end)))) = record {
+passed-issue t Linear n i (there, (fits, (room, (unused, end)))) = record {
   there = leb-false _ _ (if-none 10 _ there);
-  fair = not-false _ (if-none 20 _ fair);
+  fits = not-false _ (if-none 20 _ fits);
   room = leb-false _ _ (if-none 22 _ room);
   unused = ltb-false _ _ (if-none 23 _ unused);
 }
-passed-issue t Unrestricted n i (there, (fair, (room, (unused, end)))) = record {
+passed-issue t Unrestricted n i (there, (fits, (room, (unused, end)))) = record {
   there = leb-false _ _ (if-none 10 _ there);
-  fair = balanced-test (formula t n) .0 (not-false _ (if-none 21 _ fair));
+  fits = balanced-test (formula t n) .0 (not-false _ (if-none 21 _ fits));
   room = leb-false _ _ (if-none 22 _ room);
   unused = ltb-false _ _ (if-none 23 _ unused);
 }
@@ -91,7 +91,7 @@ pub record PassedBook (t : Ledger) (b : Booking) : Type 0 where
   pub there : b .formula < length (t .lines)
   pub plain : plain (formula t (b .formula)) ≡ true
   pub inside : has (b .interval) (b .now) ≡ true
-  pub alive : any (dead t) (b .holds) ≡ false
+  pub alive : anyOf (dead t) (b .holds) ≡ false
   pub apart : twice (b .holds) ≡ false
   pub closes : steps t (held (t .live) (b .holds)) (b .formula) (b .interval) (b .steps) ≡ none
   pub room : length (t .live) - linearCount (held (t .live) (b .holds)) < maxLive

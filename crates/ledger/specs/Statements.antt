@@ -5,7 +5,7 @@ use mathlib.Core.Option.{none, some}
 use Prim.Native.Nat.{ℕ, _≤_, _<_}
 use Rattle.ledger.specs.Ledger.{Ledger}
 use Rattle.ledger.specs.Checks.{Refusal, Check}
-use Rattle.ledger.specs.Calls.{Told, ok, call, says}
+use Rattle.ledger.specs.Calls.{Told, ok, call, toldOf}
 
 -- every check passes
 abbrev pub Pass : List Check → Type 0
@@ -37,4 +37,4 @@ pub record RefusalLeaves (t : Ledger) (bytes : List ℕ) (n k : ℕ) : Type 0 wh
   pub step : 40 ≤ n → n ≤ 42 → 1 ≤ k
 
 abbrev pub Refusals : Type 0
-Refusals = (t : Ledger) (bytes : List ℕ) (n k : ℕ) → says t bytes ≡ Told.no n k → RefusalLeaves t bytes n k
+Refusals = (t : Ledger) (bytes : List ℕ) (n k : ℕ) → toldOf t bytes ≡ Told.no n k → RefusalLeaves t bytes n k

@@ -14,8 +14,8 @@ use Rattle.request.specs.Text.{andThen, reads, decimalDigit, decimal, numberIn}
 use Rattle.request.proofs.Gives.{Gives, nothing, just, given, gives-then, gives-so, gives-if}
 use Rattle.read_fields.specs.Field.{ends, Stop, fieldTo, more, within, moreIn}
 use Rattle.read_fields.proofs.Then.{by-test}
-use Rattle.read_fields.proofs.Fields.{field-end, field-stop, field-on, field-no, field-short, field-bad}
-use Rattle.read_fields.proofs.Fields.{digit-inside}
+use Rattle.read_fields.proofs.FieldBytes.{field-end, field-stop, field-on, field-no, field-short, field-bad}
+use Rattle.read_fields.proofs.FieldBytes.{digit-inside}
 
 -- Digits
 

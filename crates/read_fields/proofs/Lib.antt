@@ -1,6 +1,6 @@
 pub mod Then
 pub mod Bytes
-pub mod Fields
+pub mod FieldBytes
 pub mod Decimals
-pub mod Sets
-pub mod Words
+pub mod LabelSets
+pub mod Prefixes

@@ -48,8 +48,8 @@ unfolding andThen
 then-pair o g h k = then-then o _ k ∙ then-same o (λ a. then-then (g a) _ k)
 
 -- what an answer r of the code tells, where it is known to be q
-pub told : {A B : Type 0} (tell : A → B) {r q : A} {o : B} → tell r ≡ o → r ≡ q → o ≡ tell q
-told tell e h = sym e ∙ ap tell h
+pub seen : {A B : Type 0} (tell : A → B) {r q : A} {o : B} → tell r ≡ o → r ≡ q → o ≡ tell q
+seen tell e h = sym e ∙ ap tell h
 
 pub then-some : {A B : Type 0} {o : Option A} {a : A} (k : A → Option B) → o ≡ some a → andThen o k ≡ k a
 unfolding andThen

@@ -1,4 +1,4 @@
 pub mod Cut
 pub mod Shapes
-pub mod Tables
-mod Letters
+pub mod WordTables
+mod FormulaLetters

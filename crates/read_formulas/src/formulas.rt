@@ -14,7 +14,8 @@ ghost use Rattle.request.specs.Range.{maxBytes};
 ghost use Rattle.request.specs.Read.{formulaLine};
 ghost use Rattle.ledger.specs.Table.{lettered as letteredOf};
 ghost use Rattle.read_fields.specs.Field.{Stop};
-ghost use Rattle.read_formulas.specs.Line.{readLine, intervalTo, oneField, twoFields, atFields, supersetFields, rowed};
+ghost use Rattle.read_formulas.specs.Line.{readLine, intervalTo, oneField, twoFields, atFields, supersetFields};
+ghost use Rattle.read_formulas.specs.Line.{rowed};
 ghost use Rattle.read_formulas.specs.Line.{spanOf, formulaOf, TwoAsked};
 
 // `from,to`, which the byte `stop` ends.

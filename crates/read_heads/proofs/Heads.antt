@@ -17,7 +17,7 @@ use Rattle.request.specs.Reader.{return, _>>=_, next, named, choose, whole, end
 use Rattle.request.specs.Request.{Line, Request, word, issue, withdraw, tally}
 use Rattle.request.specs.Read.{number, interval, kind, formulaLine, firstLine, bookLine, rest, alone, booking}
 use Rattle.request.specs.Read.{requestOf, Head as FirstLine}
-use Rattle.request.specs.InRange.{_∈_, IntervalInRange}
+use Rattle.request.specs.InRange.{_inRange_, IntervalInRange}
 use Rattle.request.proofs.Gives.{Gives, nothing, just, given, gives-then}
 use Rattle.request.proofs.Digits.{number-only}
 use Rattle.steps.specs.declared.Row.{Row}
@@ -31,7 +31,7 @@ use Rattle.read_fields.proofs.Bytes.{here, past}
 use Rattle.read_heads.proofs.Split.{lines-several, request-first}
 use Rattle.read_formulas.proofs.Cut.{line-same, line-map, gives-pick, cut-stop}
 use Rattle.read_formulas.proofs.Shapes.{number-shape, interval-shape, both-last, both-more}
-use Rattle.read_formulas.proofs.Tables.{Table, inside, word-found, no-word, then-comma}
+use Rattle.read_formulas.proofs.WordTables.{Table, inside, word-found, no-word, then-comma}
 
 -- A line that is the whole request
 
@@ -161,14 +161,14 @@ first-none b d e f g h =
 
 -- A number that was read is in its range
 
-field-gives : (stop : ℕ) (r : Range) (b : List ℕ) → Gives (λ x. x .0 ∈ r) (fieldTo stop (numberIn r) b)
+field-gives : (stop : ℕ) (r : Range) (b : List ℕ) → Gives (λ x. x .0 inRange r) (fieldTo stop (numberIn r) b)
 unfolding fieldTo
 field-gives stop r b = gives-then (cut-stop b) (λ p h. gives-pick (eqb (p .1) stop)
     (λ q. gives-then (number-only r (p .0)) (λ n i. just (i .0))) (λ q. nothing))
 
 pub field-range : (stop : ℕ) (r : Range) (b : List ℕ) {n : ℕ} {c : List ℕ} → fieldTo stop (numberIn r) b ≡ some (n, c)
-    → n ∈ r
-field-range stop r b e = given {P = λ x. x .0 ∈ r} (field-gives stop r b) e
+    → n inRange r
+field-range stop r b e = given {P = λ x. x .0 inRange r} (field-gives stop r b) e
 
 pub interval-range : (stop : ℕ) (b : List ℕ) {w : Interval} {c : List ℕ} → intervalTo stop b ≡ some (w, c)
     → IntervalInRange w

@@ -11,7 +11,7 @@ use Rattle.request.specs.Text.{bytes, andThen, lines}
 use Rattle.request.specs.Reader.{Reader, return, _>>=_, whole}
 use Rattle.request.specs.Request.{Line, Request, word, issue, withdraw, tally}
 use Rattle.request.specs.Read.{number, interval, firstLine, rest, alone, booking, Head as FirstLine}
-use Rattle.request.specs.InRange.{_∈_, IntervalInRange}
+use Rattle.request.specs.InRange.{_inRange_, IntervalInRange}
 use Rattle.steps.specs.declared.Row.{Row}
 use Rattle.ledger.specs.Table.{rowOf}
 use Rattle.read_heads.specs.declared.Head.{Head}
@@ -42,11 +42,11 @@ bookingFrom h b =
     andThen (lines b) (whole (rest (booking (h .now) (h .formula) (h .interval) (h .holds) (h .steps))))
 
 pub record HeadInRange (h : Head) : Type 0 where
-  pub now : h .now ∈ minute
-  pub formula : h .formula ∈ formulaNumber
+  pub now : h .now inRange minute
+  pub formula : h .formula inRange formulaNumber
   pub interval : IntervalInRange (h .interval)
-  pub holds : h .holds ∈ holds
-  pub steps : h .steps ∈ steps
+  pub holds : h .holds inRange holds
+  pub steps : h .steps inRange steps
 
 -- a formula line, as a row
 pub record WordIs (q : Option Request) (x : Row) : Type 0 where

@@ -1,4 +1,5 @@
-// The first line of a request (document 01: a sheet), read by positions: a whole request, or the head of a booking. This file has the types of the answers; requests.rt reads the first line.
+// The first line of a request (document 01: a sheet), read by positions: a whole request, or the head of a booking.
+// This file has the types of the answers; requests.rt reads the line.
 pub mod requests;
 
 use logic::Interval;

@@ -2,14 +2,14 @@
 use crate::First;
 use crate::FirstRead;
 use crate::Head;
-use read_formulas::FormulaLine;
-use read_formulas::Span;
-use read_formulas::formulas::formula_line;
-use read_formulas::formulas::interval;
 use read_fields::Decimal;
 use read_fields::Prefix;
 use read_fields::number;
 use read_fields::past;
+use read_formulas::FormulaLine;
+use read_formulas::Span;
+use read_formulas::formulas::formula_line;
+use read_formulas::formulas::interval;
 use request::Kind;
 use request::ranges;
 ghost use Prim.Native.Nat.{_≤_};

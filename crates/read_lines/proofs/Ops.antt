@@ -17,7 +17,7 @@ use Rattle.request.specs.Request.{Step}
 use Rattle.request.specs.Read.{number, labelSet, interval, labelled, stepLine, holdLine}
 use Rattle.step_rows.specs.declared.StepRow.{StepRow}
 use Rattle.logic.specs.Interval.{noInterval}
-use Rattle.step_rows.specs.Lines.{half, stepRow, stepOf}
+use Rattle.step_rows.specs.StepRows.{half, stepRow, stepOf}
 use Rattle.read_fields.specs.Field.{fieldTo, strip}
 use Rattle.read_formulas.specs.Line.{readLine, lookup, intervalTo}
 use Rattle.read_lines.specs.Step.{ops, opOf, labelReader, stepReader}
@@ -25,9 +25,9 @@ use Rattle.read_fields.proofs.Then.{then-same, by-test}
 use Rattle.read_fields.proofs.Bytes.{here3}
 use Rattle.read_formulas.proofs.Cut.{line-same, line-none, whole-none}
 use Rattle.read_formulas.proofs.Shapes.{Shape, next-shape, number-shape, interval-shape, both-last}
-use Rattle.read_formulas.proofs.Tables.{inside, then-comma, word-found, no-word, onward, word-line, word-short}
-use Rattle.read_formulas.proofs.Tables.{onward-comma, onward-bare, onward-end, onward-on}
-use Rattle.read_formulas.proofs.Tables.{Others, no-key, choose-lookup}
+use Rattle.read_formulas.proofs.WordTables.{inside, then-comma, word-found, no-word, onward, word-line, word-short}
+use Rattle.read_formulas.proofs.WordTables.{onward-comma, onward-bare, onward-end, onward-on}
+use Rattle.read_formulas.proofs.WordTables.{Others, no-key, choose-lookup}
 
 -- one field alone
 alone-shape : {A : Type 0} {r : Reader A} {p : ℕ → List ℕ → Option (A × List ℕ)} → Shape r p

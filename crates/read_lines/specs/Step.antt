@@ -11,7 +11,7 @@ use Rattle.request.specs.Request.{Step}
 use Rattle.request.specs.Read.{number, labelSet, interval, labelled}
 use Rattle.logic.specs.Interval.{noInterval}
 use Rattle.logic.specs.Choice.{pick}
-use Rattle.step_rows.specs.Lines.{stepRow, stepOf}
+use Rattle.step_rows.specs.StepRows.{stepRow, stepOf}
 use Rattle.read_formulas.specs.Line.{lookup}
 use Rattle.read_lines.specs.declared.HoldLine.{HoldLine}
 use Rattle.read_lines.specs.declared.HoldLine.the-variants.{Serial, Broken as NoHold}

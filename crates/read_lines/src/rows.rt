@@ -1,12 +1,12 @@
 // Step lines as rows.
 use crate::StepLine;
 use crate::words;
-use read_formulas::Span;
-use read_formulas::formulas::interval;
 use read_fields::Decimal;
 use read_fields::Labels;
 use read_fields::label_set;
 use read_fields::number;
+use read_formulas::Span;
+use read_formulas::formulas::interval;
 use request::ranges;
 use step_rows::StepRow;
 use step_rows::lines::HALF;
@@ -18,7 +18,7 @@ ghost use Rattle.logic.specs.Interval.{noInterval};
 ghost use Rattle.request.specs.Range.{maxBytes};
 ghost use Rattle.request.specs.Read.{stepLine};
 ghost use Rattle.read_formulas.specs.Line.{readLine};
-ghost use Rattle.step_rows.specs.Lines.{stepRow};
+ghost use Rattle.step_rows.specs.StepRows.{stepRow};
 ghost use Rattle.read_lines.specs.Step.{opOf, stepReader, labelReader, stepLineOf};
 
 // The number of the step whose word is the two letters; 22 for no step.

@@ -10,16 +10,16 @@ use borrow.Author.Tests.{eq-eqb, ne-eqb}
 use Rattle.logic.specs.Interval.{reversed}
 use Rattle.request.specs.Request.{stepsIntervals}
 use Rattle.request.specs.Read.{stepLine}
-use Rattle.ledger.specs.Checks.{any}
+use Rattle.ledger.specs.Checks.{anyOf}
 use Rattle.step_rows.specs.declared.StepRow.{StepRow}
-use Rattle.step_rows.specs.Lines.{maxSteps, stepCells, stepOf, putStepRow, stepsFrom}
+use Rattle.step_rows.specs.StepRows.{maxSteps, stepCells, stepOf, putStepRow, stepsFrom}
 use Rattle.step_rows.proofs.StepRows.{length-put, steps-next}
 use Rattle.logic.specs.Choice.{pick}
 use Rattle.read_formulas.specs.Line.{readLine}
 use Rattle.read_fields.proofs.Then.{then-some, then-no}
 use Rattle.read_rest.proofs.Several.{prefixed, lines-begin, lines-end, lines-turn, lines-broken}
 use Rattle.read_rest.proofs.Reversals.{reversals-next}
-use Rattle.read_rest.specs.Booking.{readLines, allLines, turned, StepsAre}
+use Rattle.read_rest.specs.LinesRead.{readLines, allLines, rowReversed, StepsAre}
 
 -- k of the lines are read, n of them with a reversed interval; the next begins at a position
 pub record Reading (s : List ℕ) (count : ℕ) (t : List ℕ) (at k n : ℕ) : Type 0 where
@@ -27,11 +27,11 @@ pub record Reading (s : List ℕ) (count : ℕ) (t : List ℕ) (at k n : ℕ) : 
   pub small : n ≤ k
   pub place : at < 4294967296
   pub long : length t ≡ stepCells
-  pub turns : any reversed (stepsIntervals (stepsFrom t 0 k)) ≡ ltb 0 n
+  pub turns : anyOf reversed (stepsIntervals (stepsFrom t 0 k)) ≡ ltb 0 n
   pub lines : readLines count stepLine s ≡ prefixed (stepsFrom t 0 k) (readLines (count - k) stepLine (drop at s))
 
 pub first-reading : (s : List ℕ) (count : ℕ) (t : List ℕ) → length t ≡ stepCells → Reading s count t 0 0 0
-unfolding stepsFrom stepsIntervals any
+unfolding stepsFrom stepsIntervals anyOf
 first-reading s count t h = record {
   among = omega arith;
   small = omega arith;
@@ -50,7 +50,7 @@ module _ {s : List ℕ} {count : ℕ} {t : List ℕ} {at k n : ℕ} (h : Reading
   -- one more
   pub next-reading : (r : StepRow) (i m : ℕ) (u : List ℕ) → k < count → count ≤ maxSteps
       → readLine stepLine (drop at s) ≡ some (stepOf r, drop i s) → u ≡ putStepRow t k r
-      → m ≡ pick (turned r) 1 0 → m ≤ 1 → i < 4294967296 → Reading s count u i (k + 1) (n + m)
+      → m ≡ pick (rowReversed r) 1 0 → m ≤ 1 → i < 4294967296 → Reading s count u i (k + 1) (n + m)
   next-reading r i m u l f e p q b w =
       let g = steps-next t k r (omega (arith, h .long)) in
       record {

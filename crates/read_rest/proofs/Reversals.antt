@@ -11,17 +11,17 @@ use lib.Seq.{getD-take}
 use borrow.Author.Tests.{eqb-true, eqb-false, lt-ltb, ltb-true, ltb-false}
 use Rattle.logic.specs.Interval.{reversed}
 use Rattle.request.specs.Request.{Step, stepIntervals, stepsIntervals}
-use Rattle.ledger.specs.Checks.{any}
+use Rattle.ledger.specs.Checks.{anyOf}
 use Rattle.step_rows.specs.declared.StepRow.{StepRow}
-use Rattle.step_rows.specs.Lines.{makers, implies, stepOf}
+use Rattle.step_rows.specs.StepRows.{makers, implies, stepOf}
 use Rattle.logic.specs.Choice.{pick}
 use Rattle.read_fields.proofs.Then.{by-test}
-use Rattle.read_rest.specs.Booking.{turned}
+use Rattle.read_rest.specs.LinesRead.{rowReversed}
 
-any-append : {A : Type 0} (f : A → Bool) (xs ys : List A) → any f (xs ++ ys) ≡ (any f xs || any f ys)
-unfolding any
+any-append : {A : Type 0} (f : A → Bool) (xs ys : List A) → anyOf f (xs ++ ys) ≡ (anyOf f xs || anyOf f ys)
+unfolding anyOf
 any-append f [] ys = refl
-any-append f (x ∷ xs) ys = by-test (f x) (λ e. rw (any, e)) (λ e. rw (any, e) (any-append f xs ys))
+any-append f (x ∷ xs) ys = by-test (f x) (λ e. rw (anyOf, e)) (λ e. rw (anyOf, e) (any-append f xs ys))
 
 steps-append : (xs ys : List Step) → stepsIntervals (xs ++ ys) ≡ stepsIntervals xs ++ stepsIntervals ys
 unfolding stepsIntervals
@@ -54,17 +54,17 @@ its-interval op h r = by-test (eqb op 20) (λ e. rw (eqb-true op 20 e)) (λ e.
     by-test (eqb op 21) (λ f. rw (eqb-true op 21 f)) (λ f.
     rw (List·getD-eq-default makers implies {n = op} (omega (arith, eqb-false op 20 e, eqb-false op 21 f)))))
 
-step-turned : (r : StepRow) → any reversed (stepIntervals (stepOf r)) ≡ turned r
-unfolding any reversed turned stepOf
-step-turned r = by-test (ltb (r .op) 20)
+step-reversed : (r : StepRow) → anyOf reversed (stepIntervals (stepOf r)) ≡ rowReversed r
+unfolding anyOf reversed rowReversed stepOf
+step-reversed r = by-test (ltb (r .op) 20)
     (λ e. rw (no-intervals (r .op) (ltb-true (r .op) 20 e) r, e))
     (λ e. rw (its-interval (r .op) (ltb-false (r .op) 20 e) r, e) (or-false (reversed (r .interval))))
 
 -- one step more, with the number of those before it whose interval is reversed
-pub reversals-next : (ss : List Step) (r : StepRow) (n : ℕ) → any reversed (stepsIntervals ss) ≡ ltb 0 n
-    → any reversed (stepsIntervals (ss ++ (stepOf r ∷ []))) ≡ ltb 0 (n + pick (turned r) 1 0)
+pub reversals-next : (ss : List Step) (r : StepRow) (n : ℕ) → anyOf reversed (stepsIntervals ss) ≡ ltb 0 n
+    → anyOf reversed (stepsIntervals (ss ++ (stepOf r ∷ []))) ≡ ltb 0 (n + pick (rowReversed r) 1 0)
 unfolding stepsIntervals
 reversals-next ss r n e =
-    rw (steps-append ss (stepOf r ∷ []), any-append reversed (stepsIntervals ss) _, e, append-nil, step-turned r)
-    (by-test (turned r) (λ q. rw q (or-true (ltb 0 n) ∙ sym (lt-ltb 0 (n + 1) (omega arith))))
+    rw (steps-append ss (stepOf r ∷ []), any-append reversed (stepsIntervals ss) _, e, append-nil, step-reversed r)
+    (by-test (rowReversed r) (λ q. rw q (or-true (ltb 0 n) ∙ sym (lt-ltb 0 (n + 1) (omega arith))))
     (λ q. rw q (or-false (ltb 0 n) ∙ ap (ltb 0) (sym (add-zero n)))))

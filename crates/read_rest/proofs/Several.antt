@@ -20,7 +20,7 @@ use Rattle.read_formulas.specs.Line.{readLine}
 use Rattle.read_heads.specs.First.{bookingFrom}
 use Rattle.read_fields.proofs.Then.{then-then, then-same, then-some, then-no, then-pair}
 use Rattle.read_heads.proofs.Split.{lines-then, lines-several}
-use Rattle.read_rest.specs.Booking.{readLines, allLines, booked, BookingLines}
+use Rattle.read_rest.specs.LinesRead.{readLines, allLines, booked, BookingLines}
 
 -- lines before others
 unfoldable pub prefixed : {A : Type 0} → List A → Option (List A × List ℕ) → Option (List A × List ℕ)

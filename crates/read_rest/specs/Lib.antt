@@ -1,1 +1,1 @@
-pub mod Booking
+pub mod LinesRead

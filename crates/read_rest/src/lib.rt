@@ -12,10 +12,10 @@ ghost use Prim.Native.Nat.{_≤_};
 ghost use lib.ListN.{length, drop};
 ghost use Rattle.request.specs.Read.{holdLine, stepLine};
 ghost use Rattle.logic.specs.Choice.{pick};
-ghost use Rattle.step_rows.specs.Held.{maxHolds};
-ghost use Rattle.step_rows.specs.Lines.{maxSteps, stepCells};
-ghost use Rattle.read_rest.specs.Booking.{LinesAsked, readLines, holdsOf, turned, allLines, StepsIs};
-ghost use Rattle.read_rest.specs.Booking.{BookingLines};
+ghost use Rattle.step_rows.specs.LabelRows.{maxHolds};
+ghost use Rattle.step_rows.specs.StepRows.{maxSteps, stepCells};
+ghost use Rattle.read_rest.specs.LinesRead.{LinesAsked, readLines, holdsOf, rowReversed, allLines, StepsIs};
+ghost use Rattle.read_rest.specs.LinesRead.{BookingLines};
 
 // The hold lines of a booking were read, and the position after them.
 pub enum HoldsRead {
@@ -63,7 +63,7 @@ pub fn read_holds(s: &[u8], at: u32, count: u32, serials: &mut Serials) -> Holds
 
 // 1 for a step whose interval is reversed, else 0.
 fn turns(r: StepRow) -> u32
-    ensures { λ n. ⌜ (n ≡ pick (turned r) 1 0) × (n ≤ 1) ⌝ }
+    ensures { λ n. ⌜ (n ≡ pick (rowReversed r) 1 0) × (n ≤ 1) ⌝ }
 {
     if r.op < 20 {
         return 0;

@@ -14,7 +14,7 @@ use Rattle.logic.proofs.Tests.{and-decides, le-decides}
 use Rattle.request.specs.Range.{Range}
 use Rattle.request.specs.Text.{andThen, reads, decimalDigit, hexDigit, decimal, numberIn, labelSetIn}
 use Rattle.request.specs.Write.{written, digits, hexByte, hexWritten, hexDigits}
-use Rattle.request.specs.InRange.{_∈_, LabelSet}
+use Rattle.request.specs.InRange.{_inRange_, LabelSet}
 use Rattle.request.proofs.Gives.{Gives, nothing, just, gives-then, gives-so, gives-if}
 
 -- all bytes from lo on
@@ -253,11 +253,11 @@ digits-plain = by-digits (λ n. Plain 48 (digits n))
 
 -- A number of a range
 
-pub number-back : (r : Range) (n : ℕ) → n ∈ r → numberIn r (digits n) ≡ some n
+pub number-back : (r : Range) (n : ℕ) → n inRange r → numberIn r (digits n) ≡ some n
 unfolding numberIn andThen
 number-back r n h = rw (decimal-digits n, is-between (r .first) (r .last) n (h .least) (h .most), numberIn, andThen)
 
-pub number-only : (r : Range) (t : List ℕ) → Gives (λ n. (n ∈ r) × (digits n ≡ t)) (numberIn r t)
+pub number-only : (r : Range) (t : List ℕ) → Gives (λ n. (n inRange r) × (digits n ≡ t)) (numberIn r t)
 unfolding numberIn
 number-only r t =
     gives-then (decimal-only t) (λ n e.

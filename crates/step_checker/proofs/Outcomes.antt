@@ -13,9 +13,9 @@ use Rattle.steps.specs.Check.{Outcome as Result}
 use Rattle.steps.specs.Plans.{planOf}
 use Rattle.ledger.specs.Checks.{verdict}
 use Rattle.store_cells.specs.Layout.{rowAt}
-use Rattle.step_rows.specs.Held.{heldAt, putHeld}
+use Rattle.step_rows.specs.LabelRows.{labelAt, putLabel}
 use Rattle.step_rows.specs.declared.StepRow.{StepRow}
-use Rattle.step_rows.specs.Lines.{stepRowAt, stepOf, stepAt, stepsFrom}
+use Rattle.step_rows.specs.StepRows.{stepRowAt, stepOf, stepAt, stepsFrom}
 use Rattle.step_rows.proofs.StepRows.{length-from}
 use Rattle.step_premises.specs.declared.Begun.{Begun}
 use Rattle.step_premises.specs.declared.Begun.the-variants.{Full, Begins}
@@ -24,7 +24,7 @@ use Rattle.step_checker.specs.declared.Outcome.the-variants.{Done, Stopp
 use Rattle.step_checker.specs.declared.Checked.{Checked}
 use Rattle.step_checker.specs.declared.Checked.the-variants.{Closed as IsClosed, Stopped as IsStopped}
 use Rattle.step_premises.specs.Begin.{toldBegun}
-use Rattle.step_checker.specs.Cycle.{Setting, linesLeft, told, judge, PremiseChecked, StepChecked, Answers}
+use Rattle.step_checker.specs.Cycle.{Setting, linesLeft, resultOf, judge, PremiseChecked, StepChecked, Answers}
 
 -- a premise that begins with no label left, or with a sequent
 is-full : {b : Begun} (t₁ : List ℕ) {x : Beginning (List ℕ)} → b ≡ Full → toldBegun b t₁ ≡ x → x ≡ full
@@ -48,23 +48,23 @@ module _ {e : Setting} {left next : ℕ} {t : List ℕ} {R : ℕ} {p : Plan} whe
   is-closed x = record { same = λ f _. simp x; fewer = omega arith }
 
   pub one-full : {s : Premise} {b : Begun} (t₁ : List ℕ) {t′ : List ℕ} → p ≡ One s → b ≡ Full
-      → toldBegun b t₁ ≡ begin putHeld t next R s → StepChecked e left next t R p (Stopped 41 (e .total - left)) t′
+      → toldBegun b t₁ ≡ begin putLabel t next R s → StepChecked e left next t R p (Stopped 41 (e .total - left)) t′
   unfolding follow judged
   one-full t₁ x v w = record { same = λ f _. simp (x, is-full t₁ v w); fewer = omega arith }
 
   pub one : {s : Premise} {b : Begun} {q : Sequent} {n : ℕ} {t₁ t′ : List ℕ} {r : Outcome} → p ≡ One s → b ≡ Begins q n
-      → toldBegun b t₁ ≡ begin putHeld t next R s → PremiseChecked e left n t₁ q r t′
+      → toldBegun b t₁ ≡ begin putLabel t next R s → PremiseChecked e left n t₁ q r t′
       → StepChecked e left next t R p r t′
   unfolding follow judged
   one x v w m = record { same = λ f h. simp (x, is-begun v w) (m .same f h); fewer = m .fewer }
 
   pub first-full : {s s₂ : Premise} {b : Begun} (t₁ : List ℕ) {t′ : List ℕ} → p ≡ Two s s₂ → b ≡ Full
-      → toldBegun b t₁ ≡ begin putHeld t next R s → StepChecked e left next t R p (Stopped 41 (e .total - left)) t′
+      → toldBegun b t₁ ≡ begin putLabel t next R s → StepChecked e left next t R p (Stopped 41 (e .total - left)) t′
   unfolding follow judged onward
   first-full t₁ x v w = record { same = λ f _. simp (x, is-full t₁ v w); fewer = omega arith }
 
   pub first-stops : {s s₂ : Premise} {b : Begun} {q : Sequent} {n c k : ℕ} {t₁ t′ t″ : List ℕ} {r : Outcome}
-      → p ≡ Two s s₂ → b ≡ Begins q n → toldBegun b t₁ ≡ begin putHeld t next R s → r ≡ Stopped c k
+      → p ≡ Two s s₂ → b ≡ Begins q n → toldBegun b t₁ ≡ begin putLabel t next R s → r ≡ Stopped c k
       → PremiseChecked e left n t₁ q r t′ → StepChecked e left next t R p r t″
   unfolding follow judged onward
   first-stops {t″ = t″} x v w y m =
@@ -73,9 +73,9 @@ module _ {e : Setting} {left next : ℕ} {t : List ℕ} {R : ℕ} {p : Plan} whe
       (record { same = λ f h. simp (x, is-begun v w, sym (m′ .same f h)); fewer = omega arith })
 
   module _ {s s₂ : Premise} {b b₂ : Begun} {q : Sequent} {n left₂ next₂ : ℕ} {t₁ t₂ : List ℕ} {r₁ : Outcome}
-      (x : p ≡ Two s s₂) (v : b ≡ Begins q n) (w : toldBegun b t₁ ≡ begin putHeld t next R s)
+      (x : p ≡ Two s s₂) (v : b ≡ Begins q n) (w : toldBegun b t₁ ≡ begin putLabel t next R s)
       (y : r₁ ≡ Done left₂ next₂) (m : PremiseChecked e left n t₁ q r₁ t₂) where
-    pub second-full : (t₃ : List ℕ) {t′ : List ℕ} → b₂ ≡ Full → toldBegun b₂ t₃ ≡ begin putHeld t₂ next₂ R s₂
+    pub second-full : (t₃ : List ℕ) {t′ : List ℕ} → b₂ ≡ Full → toldBegun b₂ t₃ ≡ begin putLabel t₂ next₂ R s₂
         → StepChecked e left next t R p (Stopped 41 (e .total - left)) t′
     unfolding follow judged onward
     second-full t₃ v₂ w₂ = record {
@@ -84,7 +84,7 @@ module _ {e : Setting} {left next : ℕ} {t : List ℕ} {R : ℕ} {p : Plan} whe
     }
 
     pub both : {q₂ : Sequent} {n₂ : ℕ} {t₃ t′ : List ℕ} {r : Outcome} → b₂ ≡ Begins q₂ n₂
-        → toldBegun b₂ t₃ ≡ begin putHeld t₂ next₂ R s₂ → PremiseChecked e left₂ n₂ t₃ q₂ r t′
+        → toldBegun b₂ t₃ ≡ begin putLabel t₂ next₂ R s₂ → PremiseChecked e left₂ n₂ t₃ q₂ r t′
         → StepChecked e left next t R p r t′
     unfolding follow judged onward
     both v₂ w₂ m₂ =
@@ -110,18 +110,18 @@ module _ {e : Setting} {left next : ℕ} {t : List ℕ} {q : Sequent} where
   unfolding premiseOf stepsFrom
   none-left {t′} x = record { same = λ f _. go f; fewer = omega arith }
     where
-      go : (f : ℕ) → told e (Stopped 42 (e .total + 1)) t′ ≡ judge e f (linesLeft e left) t next q
+      go : (f : ℕ) → resultOf e (Stopped 42 (e .total + 1)) t′ ≡ judge e f (linesLeft e left) t next q
       go zero = refl
       go (suc f) = simp x
 
   pub goes-on : {s : StepRow} {p : Plan} {r : Outcome} {t′ : List ℕ} → left ≤ e .total → (left ≡ 0 → ⊥)
       → s ≡ stepRowAt (e .steps) (e .total - left)
-      → p ≡ planOf (rowAt (e .store)) (heldAt t) (q .unrestricted) (q .linear) (q .goal) (stepOf s)
+      → p ≡ planOf (rowAt (e .store)) (labelAt t) (q .unrestricted) (q .linear) (q .goal) (stepOf s)
       → StepChecked e (left - 1) next t (q .unrestricted) p r t′ → PremiseChecked e left next t q r t′
   unfolding premiseOf
   goes-on {r = r} {t′} among n y z m = record { same = go; fewer = omega (arith, m .fewer) }
     where
-      go : (f : ℕ) → left ≤ f → told e r t′ ≡ judge e f (linesLeft e left) t next q
+      go : (f : ℕ) → left ≤ f → resultOf e r t′ ≡ judge e f (linesLeft e left) t next q
       go zero h = absurd (n (omega arith))
       go (suc f) h =
           rw (lines-next e left among n, premiseOf, length-from, ← y, ← z) (m .same f (omega arith))
@@ -141,9 +141,9 @@ module _ {store steps t t′ : List ℕ} {total next : ℕ} {q : Sequent} {o : O
   e = record { store = store; steps = steps; total = total }
 
   abbrev checked : Result (List ℕ)
-  checked = checkOf (rowAt store) heldAt putHeld total (stepsFrom steps 0 total) t next q
+  checked = checkOf (rowAt store) labelAt putLabel total (stepsFrom steps 0 total) t next q
 
-  outcome : {o′ : Outcome} → o ≡ o′ → checked ≡ finished total (told e o′ t′)
+  outcome : {o′ : Outcome} → o ≡ o′ → checked ≡ finished total (resultOf e o′ t′)
   unfolding checkOf
   outcome x =
       let z : total - total ≡ 0 = omega arith in
@@ -156,7 +156,7 @@ module _ {store steps t t′ : List ℕ} {total next : ℕ} {q : Sequent} {o : O
   pub whole-closes : {left free : ℕ} → o ≡ Done left free → left ≡ 0 → Answers checked IsClosed t′
   unfolding finished stepsFrom verdict
   whole-closes {left} {free} x z =
-      let y : finished total (told e (Done left free) t′) ≡ done [] t′ free = simp z in
+      let y : finished total (resultOf e (Done left free) t′) ≡ done [] t′ free = simp z in
       answers-is (outcome x ∙ y) (record { same = refl; closes = λ _. (free, refl) })
 
   pub whole-follows : {left free : ℕ} → o ≡ Done left free → (left ≡ 0 → ⊥)
@@ -165,6 +165,6 @@ module _ {store steps t t′ : List ℕ} {total next : ℕ} {q : Sequent} {o : O
   whole-follows {left} {free} x n =
       let among : left ≤ total = premise-is x m .fewer in
       let k : total - (left - 1) ≡ total - left + 1 = omega (arith, n) in
-      let y : finished total (told e (Done left free) t′) ≡ stopped 42 (total - left + 1) =
+      let y : finished total (resultOf e (Done left free) t′) ≡ stopped 42 (total - left + 1) =
       rw (lines-next e left among n, finished, length-from, k) refl in
       answers-is (outcome x ∙ y) answers-stopped

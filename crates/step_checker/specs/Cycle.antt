@@ -12,8 +12,8 @@ use Rattle.ledger.specs.declared.Answer.{Answer}
 use Rattle.ledger.specs.declared.Answer.the-variants.{Refused}
 use Rattle.ledger.specs.Checks.{Check, verdict}
 use Rattle.store_cells.specs.Layout.{rowAt}
-use Rattle.step_rows.specs.Held.{heldAt, putHeld}
-use Rattle.step_rows.specs.Lines.{maxSteps, stepsFrom}
+use Rattle.step_rows.specs.LabelRows.{labelAt, putLabel}
+use Rattle.step_rows.specs.StepRows.{maxSteps, stepsFrom}
 use Rattle.step_checker.specs.declared.Outcome.{Outcome}
 use Rattle.step_checker.specs.declared.Outcome.the-variants.{Done, Stopped}
 use Rattle.step_checker.specs.declared.Checked.{Checked}
@@ -30,9 +30,9 @@ abbrev pub linesLeft : Setting → ℕ → List Step
 linesLeft e left = stepsFrom (e .steps) (e .total - left) left
 
 -- with the table of labels after
-abbrev pub told : Setting → Outcome → List ℕ → Result (List ℕ)
-told e (Done left next) t = done (linesLeft e left) t next
-told e (Stopped c n) t = stopped c n
+abbrev pub resultOf : Setting → Outcome → List ℕ → Result (List ℕ)
+resultOf e (Done left next) t = done (linesLeft e left) t next
+resultOf e (Stopped c n) t = stopped c n
 
 abbrev pub leftOf : Outcome → ℕ
 leftOf (Done left next) = left
@@ -40,18 +40,18 @@ leftOf (Stopped c n) = 0
 
 -- the definition, at a fuel
 abbrev pub judge : Setting → ℕ → Judge (List ℕ)
-judge e f = premiseOf (rowAt (e .store)) heldAt putHeld (e .total) f
+judge e f = premiseOf (rowAt (e .store)) labelAt putLabel (e .total) f
 
 -- An answer r, with the table t′ after, is the definition's at every fuel that suffices; the lines left do not grow.
 pub record PremiseChecked (e : Setting) (left next : ℕ) (t : List ℕ) (q : Sequent) (r : Outcome) (t′ : List ℕ) : Type 0
   where
-    pub same : (f : ℕ) → left ≤ f → told e r t′ ≡ judge e f (linesLeft e left) t next q
+    pub same : (f : ℕ) → left ≤ f → resultOf e r t′ ≡ judge e f (linesLeft e left) t next q
     pub fewer : leftOf r ≤ left
 
 pub record StepChecked (e : Setting) (left next : ℕ) (t : List ℕ) (R : ℕ) (p : Plan) (r : Outcome) (t′ : List ℕ)
     : Type 0 where
   pub same : (f : ℕ) → left ≤ f
-      → told e r t′ ≡ follow putHeld (judge e f) (e .total - left) (linesLeft e left) t next R p
+      → resultOf e r t′ ≡ follow putLabel (judge e f) (e .total - left) (linesLeft e left) t next R p
   pub fewer : leftOf r ≤ left
 
 -- how many step lines there are, and are left

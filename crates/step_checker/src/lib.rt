@@ -1,17 +1,17 @@
 // The step checker: the premise checker calls the step checker, which calls it for each premise; the step lines left
 // fall.
 use step_premises::Begun;
-use steps::Plan;
-use steps::Sequent;
-use store::Store;
 use step_rows::LabelRows;
 use step_rows::StepRows;
 use step_rows::lines;
+use steps::Plan;
+use steps::Sequent;
+use store::Store;
 ghost use Prim.Native.Nat.{_≤_};
 ghost use Rattle.steps.specs.Check.{checkOf};
 ghost use Rattle.store_cells.specs.Layout.{rowAt};
-ghost use Rattle.step_rows.specs.Held.{heldAt, putHeld};
-ghost use Rattle.step_rows.specs.Lines.{maxSteps, stepsFrom};
+ghost use Rattle.step_rows.specs.LabelRows.{labelAt, putLabel};
+ghost use Rattle.step_rows.specs.StepRows.{maxSteps, stepsFrom};
 ghost use Rattle.step_checker.specs.Cycle.{Fits, PremiseChecked, StepChecked, Answers};
 
 // Done: the sequent closes; step lines left, next label. Stopped: the refusal's number and its step.
@@ -108,7 +108,7 @@ pub fn check(
     next: u32,
 ) -> Checked
     requires { ⌜ total ≤ maxSteps ⌝ }
-    ensures { λ r. ⌜ Answers (checkOf (rowAt (now (store .entry))) heldAt putHeld total
+    ensures { λ r. ⌜ Answers (checkOf (rowAt (now (store .entry))) labelAt putLabel total
         (stepsFrom (now (steps .entry)) 0 total) (now (table .entry)) next q) r (now (table .exit)) ⌝ }
 {
     let o = check_premise(store, steps, table, total, total, next, q);

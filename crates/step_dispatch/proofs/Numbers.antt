@@ -16,9 +16,9 @@ use Rattle.steps.specs.declared.Goal.the-variants.{Holds, Affirms}
 use Rattle.steps.specs.declared.Plan.{Plan}
 use Rattle.steps.specs.declared.Plan.the-variants.{Refused}
 use Rattle.steps.specs.Plans.{when, is, right, affirmed, left, planOf}
-use Rattle.step_plans.proofs.Tests.{when-refused, not-just}
+use Rattle.step_plans.proofs.PlanTests.{when-refused, not-just}
 use Rattle.step_rows.specs.declared.StepRow.{StepRow}
-use Rattle.step_rows.specs.Lines.{makers, implies, stepOf}
+use Rattle.step_rows.specs.StepRows.{makers, implies, stepOf}
 
 -- the step of a row
 pub numbered : (s : StepRow) {n : ℕ} → s .op ≡ n → stepOf s ≡ getD makers n implies s

@@ -1,27 +1,27 @@
 // One match over the step's number: what a step does at a sequent, as a plan. Nothing here calls itself.
 use logic::Interval;
 use request::ranges;
+use step_rows::LabelRows;
+use step_rows::StepRow;
+use step_rows::label_rows;
+use step_rows::lines;
 use step_rules::left;
 use step_rules::right;
 use steps::Goal;
 use steps::Plan;
 use steps::Sequent;
 use store::Store;
-use step_rows::LabelRows;
-use step_rows::StepRow;
-use step_rows::held;
-use step_rows::lines;
 ghost use mathlib.Core.Path.{_≡_};
 ghost use Prim.Native.Nat.{_≤_};
 ghost use Rattle.steps.specs.Plans.{planOf};
 ghost use Rattle.store_cells.specs.Layout.{rowAt};
-ghost use Rattle.step_rows.specs.Held.{heldAt};
-ghost use Rattle.step_rows.specs.Lines.{stepOf};
+ghost use Rattle.step_rows.specs.LabelRows.{labelAt};
+ghost use Rattle.step_rows.specs.StepRows.{stepOf};
 
 // The right steps and `ax`, at the goal of formula n at i.
 fn at_right(store: &Store, table: &LabelRows, q: Sequent, n: u32, i: Interval, s: StepRow) -> Plan
     requires { ⌜ (1 ≤ s .op) × (s .op ≤ 10) ⌝ }
-    ensures { λ r. ⌜ r ≡ planOf (rowAt (now (store .entry))) (heldAt (now (table .entry))) (q .unrestricted)
+    ensures { λ r. ⌜ r ≡ planOf (rowAt (now (store .entry))) (labelAt (now (table .entry))) (q .unrestricted)
         (q .linear) (Goal.Holds n i) (stepOf s) ⌝ }
 {
     let x = store::row_at(store, n);
@@ -42,7 +42,7 @@ fn at_right(store: &Store, table: &LabelRows, q: Sequent, n: u32, i: Interval, s
             if ranges::LABELS <= s.label {
                 return Plan::Refused;
             }
-            let h = held::held_at(table, s.label);
+            let h = label_rows::label_at(table, s.label);
             right::ax(d, x, i, s.label, h, store::row_at(store, h.formula))
         }
     }
@@ -51,13 +51,13 @@ fn at_right(store: &Store, table: &LabelRows, q: Sequent, n: u32, i: Interval, s
 // The left steps: the label is in D.
 fn at_left(store: &Store, table: &LabelRows, q: Sequent, s: StepRow) -> Plan
     requires { ⌜ 12 ≤ s .op ⌝ }
-    ensures { λ r. ⌜ r ≡ planOf (rowAt (now (store .entry))) (heldAt (now (table .entry))) (q .unrestricted)
+    ensures { λ r. ⌜ r ≡ planOf (rowAt (now (store .entry))) (labelAt (now (table .entry))) (q .unrestricted)
         (q .linear) (q .goal) (stepOf s) ⌝ }
 {
     if !step_plans::has(q.linear, s.label) {
         return Plan::Refused;
     }
-    let h = held::held_at(table, s.label);
+    let h = label_rows::label_at(table, s.label);
     let x = store::row_at(store, h.formula);
     let d = labels::remove(q.linear, s.label);
     let g = q.goal;
@@ -84,7 +84,7 @@ fn at_left(store: &Store, table: &LabelRows, q: Sequent, s: StepRow) -> Plan
 
 // What a step does at a sequent (document 01: the table of steps).
 pub fn rule(store: &Store, table: &LabelRows, q: Sequent, s: StepRow) -> Plan
-    ensures { λ r. ⌜ r ≡ planOf (rowAt (now (store .entry))) (heldAt (now (table .entry))) (q .unrestricted)
+    ensures { λ r. ⌜ r ≡ planOf (rowAt (now (store .entry))) (labelAt (now (table .entry))) (q .unrestricted)
         (q .linear) (q .goal) (stepOf s) ⌝ }
 {
     let g = q.goal;

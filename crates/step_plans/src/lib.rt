@@ -9,7 +9,7 @@ use steps::Plan;
 use steps::Premise;
 ghost use mathlib.Core.Path.{_≡_};
 ghost use Rattle.labels.specs.Labels.{member};
-ghost use Rattle.steps.specs.Plans.{when as whenOf, premise as premiseOf, _at_};
+ghost use Rattle.steps.specs.Plans.{when as whenOf, premise as premiseOf, _over_};
 
 // The plan where the test holds.
 pub fn when(b: bool, p: Plan) -> Plan
@@ -39,8 +39,8 @@ fn premise(d: u64, goal: Goal, fresh: Fresh) -> Premise
 }
 
 // Formula n at i.
-fn held(n: u32, i: Interval) -> Hypothesis
-    ensures { λ r. ⌜ r ≡ n at i ⌝ }
+fn over(n: u32, i: Interval) -> Hypothesis
+    ensures { λ r. ⌜ r ≡ n over i ⌝ }
 {
     Hypothesis {
         formula: n,
@@ -57,9 +57,9 @@ fn proving(d: u64, n: u32, i: Interval) -> Premise
 
 // A premise with a new linear label, for formula n at i.
 fn assuming(d: u64, g: Goal, n: u32, i: Interval) -> Premise
-    ensures { λ r. ⌜ r ≡ premiseOf d g (Fresh.Linear (n at i)) ⌝ }
+    ensures { λ r. ⌜ r ≡ premiseOf d g (Fresh.Linear (n over i)) ⌝ }
 {
-    premise(d, g, Fresh::Linear(held(n, i)))
+    premise(d, g, Fresh::Linear(over(n, i)))
 }
 
 // A premise, and what takes new labels in it.
@@ -86,29 +86,29 @@ pub fn goals(b: bool, d: u64, m: u32, e: u64, n: u32, i: Interval) -> Plan
 
 // A new linear label, for formula n at i.
 pub fn linear(b: bool, d: u64, g: Goal, n: u32, i: Interval) -> Plan
-    ensures { λ r. ⌜ r ≡ whenOf b (Plan.One (premiseOf d g (Fresh.Linear (n at i)))) ⌝ }
+    ensures { λ r. ⌜ r ≡ whenOf b (Plan.One (premiseOf d g (Fresh.Linear (n over i)))) ⌝ }
 {
     when(b, Plan::One(assuming(d, g, n, i)))
 }
 
 // Two new linear labels in one premise, for formulas m and n at i.
 pub fn both(b: bool, d: u64, g: Goal, m: u32, n: u32, i: Interval) -> Plan
-    ensures { λ r. ⌜ r ≡ whenOf b (Plan.One (premiseOf d g (Fresh.Both (m at i) (n at i)))) ⌝ }
+    ensures { λ r. ⌜ r ≡ whenOf b (Plan.One (premiseOf d g (Fresh.Both (m over i) (n over i)))) ⌝ }
 {
-    one(b, d, g, Fresh::Both(held(m, i), held(n, i)))
+    one(b, d, g, Fresh::Both(over(m, i), over(n, i)))
 }
 
 // A new unrestricted label, for formula n at i.
 pub fn unrestricted(b: bool, d: u64, g: Goal, n: u32, i: Interval) -> Plan
-    ensures { λ r. ⌜ r ≡ whenOf b (Plan.One (premiseOf d g (Fresh.Unrestricted (n at i)))) ⌝ }
+    ensures { λ r. ⌜ r ≡ whenOf b (Plan.One (premiseOf d g (Fresh.Unrestricted (n over i)))) ⌝ }
 {
-    one(b, d, g, Fresh::Unrestricted(held(n, i)))
+    one(b, d, g, Fresh::Unrestricted(over(n, i)))
 }
 
 // Two premises, each with a new linear label: for formula m at i, for formula n at i.
 pub fn arms(b: bool, d: u64, g: Goal, m: u32, n: u32, i: Interval) -> Plan
-    ensures { λ r. ⌜ r ≡ whenOf b (Plan.Two (premiseOf d g (Fresh.Linear (m at i)))
-        (premiseOf d g (Fresh.Linear (n at i)))) ⌝ }
+    ensures { λ r. ⌜ r ≡ whenOf b (Plan.Two (premiseOf d g (Fresh.Linear (m over i)))
+        (premiseOf d g (Fresh.Linear (n over i)))) ⌝ }
 {
     when(b, Plan::Two(assuming(d, g, m, i), assuming(d, g, n, i)))
 }
@@ -116,7 +116,7 @@ pub fn arms(b: bool, d: u64, g: Goal, m: u32, n: u32, i: Interval) -> Plan
 // The goal of formula m at j, from s; then the goal g from d, with a new linear label for formula n at j.
 pub fn applied(b: bool, s: u64, m: u32, d: u64, g: Goal, n: u32, j: Interval) -> Plan
     ensures { λ r. ⌜ r ≡ whenOf b (Plan.Two (premiseOf s (Goal.Holds m j) Fresh.Nothing)
-        (premiseOf d g (Fresh.Linear (n at j)))) ⌝ }
+        (premiseOf d g (Fresh.Linear (n over j)))) ⌝ }
 {
     when(b, Plan::Two(proving(s, m, j), assuming(d, g, n, j)))
 }

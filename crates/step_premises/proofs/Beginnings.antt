@@ -14,48 +14,49 @@ use Rattle.steps.specs.declared.Fresh.the-variants.{Nothing, Linear, Both, Unre
 use Rattle.steps.specs.declared.Premise.{Premise}
 use Rattle.steps.specs.Check.{maxLabels, full, begun, begin}
 use Rattle.steps.specs.Plans.{premise}
-use Rattle.step_rows.specs.Held.{putHeld}
+use Rattle.step_rows.specs.LabelRows.{putLabel}
 use Rattle.step_premises.specs.Begin.{sequent}
 
 module _ (t : List ℕ) (next r : ℕ) (p : Premise) where
-  by : {f : Fresh} → p .fresh ≡ f → begin putHeld t next r p ≡ begin putHeld t next r (premise (p .linear) (p .goal) f)
-  by e = ap (λ (f : Fresh). begin putHeld t next r (premise (p .linear) (p .goal) f)) e
+  by : {f : Fresh} → p .fresh ≡ f
+      → begin putLabel t next r p ≡ begin putLabel t next r (premise (p .linear) (p .goal) f)
+  by e = ap (λ (f : Fresh). begin putLabel t next r (premise (p .linear) (p .goal) f)) e
 
-  pub nothing-full : p .fresh ≡ Nothing → labelCount < next → begin putHeld t next r p ≡ full
+  pub nothing-full : p .fresh ≡ Nothing → labelCount < next → begin putLabel t next r p ≡ full
   unfolding begin maxLabels
   nothing-full e h = by e ∙ rw (lt-leb (next + 0) labelCount (omega arith), begin)
 
   pub nothing-begins : p .fresh ≡ Nothing → next ≤ labelCount
-      → begin putHeld t next r p ≡ begun t next (sequent r (p .linear) (p .goal))
+      → begin putLabel t next r p ≡ begun t next (sequent r (p .linear) (p .goal))
   unfolding begin maxLabels
   nothing-begins e h = by e ∙ rw (le-leb (next + 0) labelCount (omega arith), begin, add-zero)
 
   module _ {h : Hypothesis} where
-    pub linear-full : p .fresh ≡ Linear h → labelCount ≤ next → begin putHeld t next r p ≡ full
+    pub linear-full : p .fresh ≡ Linear h → labelCount ≤ next → begin putLabel t next r p ≡ full
     unfolding begin maxLabels
     linear-full e l = by e ∙ rw (lt-leb (next + 1) labelCount (omega arith), begin)
 
-    pub linear-begins : p .fresh ≡ Linear h → next < labelCount → begin putHeld t next r p
-        ≡ begun (putHeld t next h) (next + 1) (sequent r (insert (p .linear) next) (p .goal))
+    pub linear-begins : p .fresh ≡ Linear h → next < labelCount → begin putLabel t next r p
+        ≡ begun (putLabel t next h) (next + 1) (sequent r (insert (p .linear) next) (p .goal))
     unfolding begin maxLabels
     linear-begins e l = by e ∙ rw (le-leb (next + 1) labelCount (omega arith), begin)
 
-    pub unrestricted-full : p .fresh ≡ Unrestricted h → labelCount ≤ next → begin putHeld t next r p ≡ full
+    pub unrestricted-full : p .fresh ≡ Unrestricted h → labelCount ≤ next → begin putLabel t next r p ≡ full
     unfolding begin maxLabels
     unrestricted-full e l = by e ∙ rw (lt-leb (next + 1) labelCount (omega arith), begin)
 
-    pub unrestricted-begins : p .fresh ≡ Unrestricted h → next < labelCount → begin putHeld t next r p
-        ≡ begun (putHeld t next h) (next + 1) (sequent (insert r next) (p .linear) (p .goal))
+    pub unrestricted-begins : p .fresh ≡ Unrestricted h → next < labelCount → begin putLabel t next r p
+        ≡ begun (putLabel t next h) (next + 1) (sequent (insert r next) (p .linear) (p .goal))
     unfolding begin maxLabels
     unrestricted-begins e l = by e ∙ rw (le-leb (next + 1) labelCount (omega arith), begin, add-zero)
 
   module _ {h k : Hypothesis} where
-    pub both-full : p .fresh ≡ Both h k → label .last ≤ next → begin putHeld t next r p ≡ full
+    pub both-full : p .fresh ≡ Both h k → label .last ≤ next → begin putLabel t next r p ≡ full
     unfolding begin maxLabels
     both-full e l = by e ∙ rw (lt-leb (next + 2) labelCount (omega arith), begin)
 
-    pub both-begins : p .fresh ≡ Both h k → next < label .last → begin putHeld t next r p
-        ≡ begun (putHeld (putHeld t next h) (next + 1) k) (next + 2)
+    pub both-begins : p .fresh ≡ Both h k → next < label .last → begin putLabel t next r p
+        ≡ begun (putLabel (putLabel t next h) (next + 1) k) (next + 2)
         (sequent r (insert (insert (p .linear) next) (next + 1)) (p .goal))
     unfolding begin maxLabels
     both-begins e l = by e ∙ rw (le-leb (next + 2) labelCount (omega arith), begin, add-one)

@@ -1,14 +1,14 @@
 // What a premise takes as it begins: its new labels.
 use request::ranges;
+use step_rows::LabelRows;
+use step_rows::label_rows;
 use steps::Fresh;
 use steps::Goal;
 use steps::Premise;
 use steps::Sequent;
-use step_rows::LabelRows;
-use step_rows::held;
 ghost use mathlib.Core.Path.{_≡_};
 ghost use Rattle.steps.specs.Check.{begin as beginOf};
-ghost use Rattle.step_rows.specs.Held.{putHeld};
+ghost use Rattle.step_rows.specs.LabelRows.{putLabel};
 ghost use Rattle.step_premises.specs.Begin.{toldBegun, sequent as sequentOf};
 
 // No label is left, or the premise's sequent and the next label.
@@ -38,7 +38,7 @@ fn sequent(r: u64, d: u64, g: Goal) -> Sequent
 
 // New labels go from `next` on; r are the unrestricted labels of the step's sequent.
 pub fn begin(table: &mut LabelRows, next: u32, r: u64, p: Premise) -> Begun
-    ensures { λ o. ⌜ toldBegun o (now (table .exit)) ≡ beginOf putHeld (now (table .entry)) next r p ⌝ }
+    ensures { λ o. ⌜ toldBegun o (now (table .exit)) ≡ beginOf putLabel (now (table .entry)) next r p ⌝ }
 {
     let fresh = p.fresh;
     let d = p.linear;
@@ -54,15 +54,15 @@ pub fn begin(table: &mut LabelRows, next: u32, r: u64, p: Premise) -> Begun
             if ranges::LABELS <= next {
                 return Begun::Full;
             }
-            held::put_held(table, next, h);
+            label_rows::put_label(table, next, h);
             Begun::Begins(sequent(r, labels::insert(d, next), g), next + 1)
         }
         Fresh::Both(h, k) => {
             if ranges::LABEL_LAST <= next {
                 return Begun::Full;
             }
-            held::put_held(table, next, h);
-            held::put_held(table, next + 1, k);
+            label_rows::put_label(table, next, h);
+            label_rows::put_label(table, next + 1, k);
             let d2 = labels::insert(labels::insert(d, next), next + 1);
             Begun::Begins(sequent(r, d2, g), next + 2)
         }
@@ -70,7 +70,7 @@ pub fn begin(table: &mut LabelRows, next: u32, r: u64, p: Premise) -> Begun
             if ranges::LABELS <= next {
                 return Begun::Full;
             }
-            held::put_held(table, next, h);
+            label_rows::put_label(table, next, h);
             Begun::Begins(sequent(labels::insert(r, next), d, g), next + 1)
         }
     }

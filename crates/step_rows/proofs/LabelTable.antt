@@ -9,19 +9,19 @@ use lib.ListN.{length, getD}
 use lib.Seq.{sets, length-sets}
 use Rattle.steps.specs.declared.Hypothesis.{Hypothesis}
 use Rattle.steps.specs.Check.{maxLabels}
-use Rattle.steps.proofs.Tables.{Table}
-use Rattle.step_rows.specs.Held.{labelWidth, labelCells, labelPlace, heldAt, putHeld}
+use Rattle.steps.proofs.LabelTables.{Table}
+use Rattle.step_rows.specs.LabelRows.{labelWidth, labelCells, labelPlace, labelAt, putLabel}
 use Rattle.logic.proofs.Stores.{sets-outside, sets-in}
 
 abbrev cells : Hypothesis → List ℕ
 cells h = h .formula ∷ h .interval .from ∷ h .interval .to ∷ []
 
-stays : (t : List ℕ) (n : ℕ) (h : Hypothesis) → length t ≡ labelCells → length (putHeld t n h) ≡ labelCells
-unfolding putHeld
+stays : (t : List ℕ) (n : ℕ) (h : Hypothesis) → length t ≡ labelCells → length (putLabel t n h) ≡ labelCells
+unfolding putLabel
 stays t n h g = length-sets t (labelPlace n) (cells h) ∙ g
 
-reads : (t : List ℕ) (n : ℕ) (h : Hypothesis) → length t ≡ labelCells → n < maxLabels → heldAt (putHeld t n h) n ≡ h
-unfolding heldAt putHeld maxLabels
+reads : (t : List ℕ) (n : ℕ) (h : Hypothesis) → length t ≡ labelCells → n < maxLabels → labelAt (putLabel t n h) n ≡ h
+unfolding labelAt putLabel maxLabels
 reads t n h g l =
     let at : (f : ℕ) → f < labelWidth
     → getD (sets t (labelPlace n) (cells h)) (labelPlace n + f) 0 ≡ getD (cells h) f 0 =
@@ -32,8 +32,8 @@ reads t n h g l =
       interval = record { from = at 1 (omega arith) i; to = at 2 (omega arith) i };
     }
 
-keeps : (t : List ℕ) (n k : ℕ) (h : Hypothesis) → (k ≡ n → ⊥) → heldAt (putHeld t n h) k ≡ heldAt t k
-unfolding heldAt putHeld
+keeps : (t : List ℕ) (n k : ℕ) (h : Hypothesis) → (k ≡ n → ⊥) → labelAt (putLabel t n h) k ≡ labelAt t k
+unfolding labelAt putLabel
 keeps t n k h d =
     let kept : (f : ℕ) → f < labelWidth
     → getD (sets t (labelPlace n) (cells h)) (labelPlace k + f) 0 ≡ getD t (labelPlace k + f) 0 =
@@ -49,7 +49,7 @@ keeps t n k h d =
     apart f l (yes y) = inl (omega arith)
     apart f l (no y) = inr (omega (arith, y, d))
 
-pub heldTable : Table heldAt putHeld
+pub heldTable : Table labelAt putLabel
 heldTable = record {
   Good = λ t. length t ≡ labelCells;
   stays = stays;

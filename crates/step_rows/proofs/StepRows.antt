@@ -10,7 +10,7 @@ use lib.ListN.{length, getD}
 use lib.Seq.{sets, length-sets}
 use Rattle.request.specs.Request.{Step}
 use Rattle.step_rows.specs.declared.StepRow.{StepRow}
-use Rattle.step_rows.specs.Lines.{stepWidth, stepPlace, stepRowAt, putStepRow, stepOf, stepAt, stepsFrom}
+use Rattle.step_rows.specs.StepRows.{stepWidth, stepPlace, stepRowAt, putStepRow, stepOf, stepAt, stepsFrom}
 use Rattle.logic.proofs.Stores.{sets-outside, sets-in}
 
 abbrev cells : StepRow → List ℕ

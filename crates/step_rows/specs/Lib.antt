@@ -1,2 +1,2 @@
-pub mod Held
-pub mod Lines
+pub mod LabelRows
+pub mod StepRows

@@ -1,6 +1,6 @@
 // The rows of numbers that the step checker works on: labels, step lines, held serials. specs/ says how each is
 // read.
-pub mod held;
+pub mod label_rows;
 pub mod lines;
 
 use request::ranges;

@@ -5,7 +5,7 @@ use crate::StepRows;
 use logic::Interval;
 ghost use mathlib.Core.Path.{_≡_};
 ghost use Prim.Native.Nat.{_<_};
-ghost use Rattle.step_rows.specs.Lines.{maxSteps, share as shareOf, stepRowAt, putStepRow};
+ghost use Rattle.step_rows.specs.StepRows.{maxSteps, share as shareOf, stepRowAt, putStepRow};
 
 // A set of labels is kept as two numbers, high and low, each below this.
 pub const HALF: u64 = 4_294_967_296;

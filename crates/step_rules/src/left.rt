@@ -1,32 +1,37 @@
 // `cp`, and the left steps: d is D without the step's label, which stands for the formula of the row x at i; g is the
 // goal.
 use logic::Interval;
+use step_rows::LabelRows;
+use step_rows::label_rows;
 use steps::Fresh;
 use steps::Goal;
 use steps::Plan;
 use steps::Row;
 use steps::Sequent;
 use steps::letters;
-use step_rows::LabelRows;
-use step_rows::held;
 ghost use mathlib.Core.Path.{_≡_};
 ghost use mathlib.Core.Bool.{_&&_};
 ghost use lib.Dec.{eqb};
 ghost use Rattle.logic.specs.Interval.{contains};
 ghost use Rattle.labels.specs.Labels.{member, subset, without};
-ghost use Rattle.steps.specs.Plans.{when, is, premise, _at_};
-ghost use Rattle.step_rows.specs.Held.{heldAt};
+ghost use Rattle.steps.specs.Plans.{when, is, premise, _over_};
+ghost use Rattle.step_rows.specs.LabelRows.{labelAt};
 
 // "L in R; a new single label of the same wording and window."
 pub fn cp(table: &LabelRows, q: Sequent, k: u32) -> Plan
     ensures { λ r. ⌜ r ≡ when (member (q .unrestricted) k)
-        (Plan.One (premise (q .linear) (q .goal) (Fresh.Linear (heldAt (now (table .entry)) k)))) ⌝ }
+        (Plan.One (premise (q .linear) (q .goal) (Fresh.Linear (labelAt (now (table .entry)) k)))) ⌝ }
 {
     if !step_plans::has(q.unrestricted, k) {
         return Plan::Refused;
     }
     let g = q.goal;
-    step_plans::one(true, q.linear, g, Fresh::Linear(held::held_at(table, k)))
+    step_plans::one(
+        true,
+        q.linear,
+        g,
+        Fresh::Linear(label_rows::label_at(table, k)),
+    )
 }
 
 // "drops L, a 1."
@@ -38,27 +43,27 @@ pub fn ol(d: u64, g: Goal, x: Row) -> Plan
 
 // "that arm"
 pub fn w1(d: u64, g: Goal, x: Row, i: Interval) -> Plan
-    ensures { λ r. ⌜ r ≡ when (is x "w") (Plan.One (premise d g (Fresh.Linear ((x .a) at i)))) ⌝ }
+    ensures { λ r. ⌜ r ≡ when (is x "w") (Plan.One (premise d g (Fresh.Linear ((x .a) over i)))) ⌝ }
 {
     step_plans::linear(x.letter == letters::WITH, d, g, x.a, i)
 }
 
 pub fn w2(d: u64, g: Goal, x: Row, i: Interval) -> Plan
-    ensures { λ r. ⌜ r ≡ when (is x "w") (Plan.One (premise d g (Fresh.Linear ((x .b) at i)))) ⌝ }
+    ensures { λ r. ⌜ r ≡ when (is x "w") (Plan.One (premise d g (Fresh.Linear ((x .b) over i)))) ⌝ }
 {
     step_plans::linear(x.letter == letters::WITH, d, g, x.b, i)
 }
 
 // "the part joins R"
 pub fn bl(d: u64, g: Goal, x: Row, i: Interval) -> Plan
-    ensures { λ r. ⌜ r ≡ when (is x "b") (Plan.One (premise d g (Fresh.Unrestricted ((x .a) at i)))) ⌝ }
+    ensures { λ r. ⌜ r ≡ when (is x "b") (Plan.One (premise d g (Fresh.Unrestricted ((x .a) over i)))) ⌝ }
 {
     step_plans::unrestricted(x.letter == letters::BANG, d, g, x.a, i)
 }
 
 // "A@J becomes A at J": likewise for L
 pub fn hl(d: u64, g: Goal, x: Row) -> Plan
-    ensures { λ r. ⌜ r ≡ when (is x "h") (Plan.One (premise d g (Fresh.Linear ((x .a) at (x .first))))) ⌝ }
+    ensures { λ r. ⌜ r ≡ when (is x "h") (Plan.One (premise d g (Fresh.Linear ((x .a) over (x .first))))) ⌝ }
 {
     let j = x.first;
     step_plans::linear(x.letter == letters::AT, d, g, x.a, j)
@@ -67,7 +72,7 @@ pub fn hl(d: u64, g: Goal, x: Row) -> Plan
 // "L is ⟨K⟩A and the goal K affirms B, same K; L's window ⊇ goal's." The goal is affirmed by k, at j.
 pub fn sl(d: u64, g: Goal, x: Row, i: Interval, k: u32, j: Interval) -> Plan
     ensures { λ r. ⌜ r ≡ when (is x "s") (when (eqb (x .a) k && contains i j)
-        (Plan.One (premise d g (Fresh.Linear ((x .b) at i))))) ⌝ }
+        (Plan.One (premise d g (Fresh.Linear ((x .b) over i))))) ⌝ }
 {
     step_plans::linear(
         (x.letter == letters::SAYS) & ((x.a == k) & intervals::contains(i, j)),
@@ -80,15 +85,15 @@ pub fn sl(d: u64, g: Goal, x: Row, i: Interval, k: u32, j: Interval) -> Plan
 
 // "both parts"
 pub fn tl(d: u64, g: Goal, x: Row, i: Interval) -> Plan
-    ensures { λ r. ⌜ r ≡ when (is x "t") (Plan.One (premise d g (Fresh.Both ((x .a) at i) ((x .b) at i)))) ⌝ }
+    ensures { λ r. ⌜ r ≡ when (is x "t") (Plan.One (premise d g (Fresh.Both ((x .a) over i) ((x .b) over i)))) ⌝ }
 {
     step_plans::both(x.letter == letters::TENSOR, d, g, x.a, x.b, i)
 }
 
 // "a premise for each arm"
 pub fn pl(d: u64, g: Goal, x: Row, i: Interval) -> Plan
-    ensures { λ r. ⌜ r ≡ when (is x "p") (Plan.Two (premise d g (Fresh.Linear ((x .a) at i)))
-        (premise d g (Fresh.Linear ((x .b) at i)))) ⌝ }
+    ensures { λ r. ⌜ r ≡ when (is x "p") (Plan.Two (premise d g (Fresh.Linear ((x .a) over i)))
+        (premise d g (Fresh.Linear ((x .b) over i)))) ⌝ }
 {
     step_plans::arms(x.letter == letters::PLUS, d, g, x.a, x.b, i)
 }
@@ -98,7 +103,7 @@ pub fn pl(d: u64, g: Goal, x: Row, i: Interval) -> Plan
 pub fn ll(d: u64, g: Goal, x: Row, i: Interval, share: u64, j: Interval) -> Plan
     ensures { λ r. ⌜ r ≡ when (is x "l") (when (contains i j && subset share d)
         (Plan.Two (premise share (Goal.Holds (x .a) j) Fresh.Nothing)
-        (premise (without d share) g (Fresh.Linear ((x .b) at j))))) ⌝ }
+        (premise (without d share) g (Fresh.Linear ((x .b) over j))))) ⌝ }
 {
     let rest = labels::without(d, share);
     step_plans::applied(
@@ -116,7 +121,7 @@ pub fn ll(d: u64, g: Goal, x: Row, i: Interval, share: u64, j: Interval) -> Plan
 pub fn ul(d: u64, g: Goal, x: Row, i: Interval, j: Interval) -> Plan
     ensures { λ r. ⌜ r ≡ when (is x "u") (when (contains i j)
         (Plan.Two (premise 0 (Goal.Holds (x .a) j) Fresh.Nothing)
-        (premise d g (Fresh.Linear ((x .b) at j))))) ⌝ }
+        (premise d g (Fresh.Linear ((x .b) over j))))) ⌝ }
 {
     step_plans::applied(
         (x.letter == letters::IMPLIES) & intervals::contains(i, j),

@@ -55,5 +55,5 @@ module _ {row : ℕ → Row} {f : ℕ → Formula} (u : Unrolls row f) where
   goalOf (Holds n i) = holds (f n) i
   goalOf (Affirms n i k) = affirms k (f n) i
 
-  abbrev pub sequentOf : Sequent → Labelled
-  sequentOf q = record { unrestricted = q .unrestricted; linear = q .linear; goal = goalOf (q .goal) }
+  abbrev pub labelledOf : Sequent → Labelled
+  labelledOf q = record { unrestricted = q .unrestricted; linear = q .linear; goal = goalOf (q .goal) }

@@ -15,7 +15,7 @@ use Rattle.store_cells.specs.Layout.{lineCount, rowCount, rowAt, credentialAt}
 use Rattle.store.specs.Store.{lineOf, ledgerOf, Good}
 use Rattle.store.proofs.Tabs.{length-tab, getD-tab, getD-past}
 use Rattle.store.proofs.Search.{Only}
-use Rattle.store_cells.proofs.Rows.{row-past}
+use Rattle.store_cells.proofs.CellWrites.{row-past}
 
 -- what is kept of yes or no, read again
 pub bit-one : (b : Bool) → eqb (bit b) 1 ≡ b

@@ -50,7 +50,7 @@ Canonical r = rowOf (lineOf r) ≡ r
 
 -- The credential rows in use, gaps too: serials rise from row to row and are below the next, and each row is of a
 -- formula of the ledger; the live ones are counted.
-pub record Ordered (l : List ℕ) : Type 0 where
+pub record RowsOrdered (l : List ℕ) : Type 0 where
   pub few : rowCount l ≤ maxRows
   pub counted : liveCount l ≡ length (ledgerOf l .live)
   pub between : (i j : ℕ) → i < j → j < rowCount l → credentialAt l i .serial < credentialAt l j .serial
@@ -62,7 +62,7 @@ pub record Ordered (l : List ℕ) : Type 0 where
 pub record Good (l : List ℕ) : Type 0 where
   pub long : length l ≡ cells
   pub lines : lineCount l ≤ maxFormulas
-  pub ordered : Ordered l
+  pub ordered : RowsOrdered l
   pub canonical : (i : ℕ) → i < lineCount l → Canonical (rowAt l i)
   pub sizes : (i : ℕ) → i < lineCount l → sizeAt l i ≡ size (formula (ledgerOf l) i)
   pub plains : (i : ℕ) → i < lineCount l → plainAt l i ≡ bit (plain (formula (ledgerOf l) i))
@@ -82,7 +82,7 @@ pub record Wordable (l : List ℕ) (r : Row) (s : ℕ) (p b : Bool) : Type 0 whe
   pub canonical : Canonical r
   pub there : There (ledgerOf l) (names (lineOf r))
   pub sized : s ≡ size (form (formula (ledgerOf l)) (lineOf r))
-  pub plainly : p ≡ plain (form (formula (ledgerOf l)) (lineOf r))
+  pub plain-kept : p ≡ plain (form (formula (ledgerOf l)) (lineOf r))
   pub balancedly : b ≡ balanced (form (formula (ledgerOf l)) (lineOf r))
   pub small : s ≤ maxSize
 

@@ -18,7 +18,7 @@ use Rattle.store_cells.specs.Layout.{credentialBase, credentialWidth, hi
 use Rattle.store_cells.specs.Layout.{credentialPlace}
 use Rattle.store_cells.specs.Layout.{credentialCells, putCredential, putGap, putHint}
 use Rattle.store_cells.proofs.Cells.{length-putRow, row-same, row-other, put-below}
-use Rattle.store_cells.proofs.Rows.{credential-ext, SameLines, lines-self, Stays, SameLive}
+use Rattle.store_cells.proofs.CellWrites.{credential-ext, SameLines, lines-self, Stays, SameLive}
 
 kind-number : (k : Kind) → kindFrom (kindNumber k) ≡ k
 kind-number Linear = refl

@@ -16,18 +16,19 @@ use Rattle.ledger.specs.Bounds.{Rises, Below}
 use Rattle.store.specs.Tab.{tab, present}
 use Rattle.store_cells.specs.Layout.{maxRows, lineCount, liveCount, nextSerial, rowCount, credentialAt, gapAt, entryAt}
 use Rattle.store_cells.specs.Layout.{putCredential, putRowCount, putHint}
-use Rattle.store.specs.Store.{ledgerOf, Ordered, Good, Compacted}
+use Rattle.store.specs.Store.{ledgerOf, RowsOrdered, Good, Compacted}
 use Rattle.store.proofs.Tabs.{length-tab, tab-ext, tab-append, every-tab, every-present, present-next, present-all}
-use Rattle.store_credentials.proofs.Serials.{rises-between}
-use Rattle.store_cells.proofs.Rows.{SameLines, lines-self, Stays, stays-credential, stays-gap, head-lines, head-same}
-use Rattle.store_cells.proofs.Rows.{head-other, head-stays}
+use Rattle.store_credentials.proofs.RowSerials.{rises-between}
+use Rattle.store_cells.proofs.CellWrites.{SameLines, lines-self, Stays, stays-credential, stays-gap, head-lines}
+use Rattle.store_cells.proofs.CellWrites.{head-same}
+use Rattle.store_cells.proofs.CellWrites.{head-other, head-stays}
 use Rattle.store_cells.proofs.CredentialRows.{entry-gap, entry-there, credential-same, credential-there}
 use Rattle.store_cells.proofs.CredentialRows.{credential-stays}
 use Rattle.store_cells.proofs.CredentialRows.{credential-before, credential-lines, hint-before, hint-lines, hint-stays}
 use Rattle.store_credentials.proofs.Stands.{stands-live, ledger-live}
 
 -- Every live credential is of a formula of the ledger.
-live-named : (l : List ℕ) → Ordered l → Every (λ c. c .formula < lineCount l) (ledgerOf l .live)
+live-named : (l : List ℕ) → RowsOrdered l → Every (λ c. c .formula < lineCount l) (ledgerOf l .live)
 unfolding ledgerOf entryAt
 live-named l o = every-present _ (rowCount l) (entryAt l) (λ i c q. go i c q (gapAt l i))
   where
@@ -164,7 +165,7 @@ module _ (l : List ℕ) where
     below : Below (ledgerOf l .next) (tab k (credentialAt done))
     below = subst (Below (ledgerOf l .next)) (sym done-rows) (g .bounded .below)
 
-    done-ordered : Ordered done
+    done-ordered : RowsOrdered done
     unfolding ledgerOf
     done-ordered = record {
       few = omega (arith, done-used, v .low, g .ordered .few);

@@ -17,10 +17,11 @@ use Rattle.store.specs.Tab.{tab, present}
 use Rattle.store_cells.specs.Layout.{maxRows, lineCount, liveCount, nextSerial, rowCount, credentialAt, entryAt}
 use Rattle.store_cells.specs.Layout.{putRowCount}
 use Rattle.store_cells.specs.Layout.{putLiveCount, putNext, putCredential, putHint}
-use Rattle.store.specs.Store.{ledgerOf, Ordered, StandsFor, Givable}
+use Rattle.store.specs.Store.{ledgerOf, RowsOrdered, StandsFor, Givable}
 use Rattle.store.proofs.Tabs.{tab-ext, present-next}
-use Rattle.store_cells.proofs.Rows.{SameLines, lines-self, head-lines, head-same, Stays, stays-credential, stays-entry}
-use Rattle.store_cells.proofs.Rows.{stays-serial, head-other, head-stays}
+use Rattle.store_cells.proofs.CellWrites.{SameLines, lines-self, head-lines, head-same, Stays, stays-credential}
+use Rattle.store_cells.proofs.CellWrites.{stays-entry}
+use Rattle.store_cells.proofs.CellWrites.{stays-serial, head-other, head-stays}
 use Rattle.store_cells.proofs.CredentialRows.{entry-there, credential-same, credential-there, credential-stays}
 use Rattle.store_cells.proofs.CredentialRows.{credential-lines}
 use Rattle.store.proofs.Views.{lines-length}
@@ -145,7 +146,7 @@ module _ (l : List ℕ) (k : Kind) (n : ℕ) (w : Interval) (r : Givable l n) (f
   given-length =
       ap (λ (t : Ledger). length (t .live)) given-ledger ∙ length-append (ledgerOf l .live) (fresh ∷ [])
 
-  given-ordered : Ordered m
+  given-ordered : RowsOrdered m
   given-ordered = record {
     few = omega (arith, given-used);
     counted = omega (arith, given-count, r .good .ordered .counted, given-length);

@@ -1,4 +1,4 @@
-mod Serials
+mod RowSerials
 mod Stands
 mod Removed
 mod Gather

@@ -15,10 +15,11 @@ use Rattle.ledger.proofs.Credentials.{take-out}
 use Rattle.store.specs.Tab.{tab, present}
 use Rattle.store_cells.specs.Layout.{liveCount, nextSerial, rowCount, credentialAt, gapAt, entryAt, putLiveCount}
 use Rattle.store_cells.specs.Layout.{putGap}
-use Rattle.store.specs.Store.{ledgerOf, Ordered, Good, StandsFor, Occupied}
-use Rattle.store_credentials.proofs.Serials.{without-row}
-use Rattle.store_cells.proofs.Rows.{SameLines, lines-self, head-lines, head-same, Stays, stays-entry, stays-serial}
-use Rattle.store_cells.proofs.Rows.{stays-credential, head-other, head-stays}
+use Rattle.store.specs.Store.{ledgerOf, RowsOrdered, Good, StandsFor, Occupied}
+use Rattle.store_credentials.proofs.RowSerials.{without-row}
+use Rattle.store_cells.proofs.CellWrites.{SameLines, lines-self, head-lines, head-same, Stays, stays-entry}
+use Rattle.store_cells.proofs.CellWrites.{stays-serial}
+use Rattle.store_cells.proofs.CellWrites.{stays-credential, head-other, head-stays}
 use Rattle.store_cells.proofs.CredentialRows.{entry-gap, gap-here, gap-stays, gap-serial, gap-of, gap-before, gap-lines}
 use Rattle.store.proofs.Search.{find-row}
 use Rattle.store.proofs.Views.{only-here}
@@ -87,7 +88,7 @@ module _ (l : List ℕ) (at : ℕ) (g : Good l) (o : Occupied l at) where
   unfolding ledgerOf
   left-ledger = ledger-live l left g left-lines _ _ left-live left-next
 
-  left-ordered : Ordered left
+  left-ordered : RowsOrdered left
   left-ordered = record {
     few = omega (arith, left-used, g .ordered .few);
     counted = rw left-ledger (omega (

@@ -13,9 +13,9 @@ use Rattle.ledger.specs.Checks.{maxFormulas}
 use Rattle.ledger.specs.Bounds.{Bounded}
 use Rattle.store.specs.Tab.{tab, present}
 use Rattle.store_cells.specs.Layout.{lineCount, nextSerial, rowCount, entryAt, putHint}
-use Rattle.store.specs.Store.{lineOf, ledgerOf, Canonical, Ordered, Good, StandsFor}
+use Rattle.store.specs.Store.{lineOf, ledgerOf, Canonical, RowsOrdered, Good, StandsFor}
 use Rattle.store.proofs.Tabs.{tab-ext}
-use Rattle.store_cells.proofs.Rows.{SameLines, lines-self, same-row, same-size, same-plain, same-balanced}
+use Rattle.store_cells.proofs.CellWrites.{SameLines, lines-self, same-row, same-size, same-plain, same-balanced}
 use Rattle.store_cells.proofs.CredentialRows.{hint-lines, hint-live}
 use Rattle.store.proofs.Live.{same-live, same-ordered}
 
@@ -28,7 +28,7 @@ module _ (l m : List ℕ) (g : Good l) (s : SameLines l m) where
   same-formula : (n : ℕ) → formula (ledgerOf m) n ≡ formula (ledgerOf l) n
   same-formula n = ap (λ (ls : List Line). nth (formulas ls) n) same-lines
 
-  good-live : Ordered m → Bounded (ledgerOf m) → Good m
+  good-live : RowsOrdered m → Bounded (ledgerOf m) → Good m
   good-live c b =
       let below : (i : ℕ) → i < lineCount m → i < lineCount l = λ i h. rw (s .count) at h in
       let small : (i : ℕ) → i < lineCount l → i < maxFormulas = λ i h. omega (arith, g .lines) in
@@ -47,7 +47,7 @@ module _ (l m : List ℕ) (g : Good l) (s : SameLines l m) where
       }
 
   -- m stands for t, whose lines are l's
-  pub stands-live : (t : Ledger) → Ordered m → ledgerOf m ≡ t → Bounded t → StandsFor m t
+  pub stands-live : (t : Ledger) → RowsOrdered m → ledgerOf m ≡ t → Bounded t → StandsFor m t
   stands-live t c e b = record { good = good-live c (subst Bounded (sym e) b); ledger = e }
 
   pub ledger-live : (cs : List Credential) (k : ℕ) → present (tab (rowCount m) (entryAt m)) ≡ cs → nextSerial m ≡ k

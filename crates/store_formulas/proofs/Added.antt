@@ -15,7 +15,7 @@ use Rattle.ledger.specs.Table.{form}
 use Rattle.ledger.specs.Ledger.{Ledger, formula}
 use Rattle.ledger.specs.Checks.{maxFormulas}
 use Rattle.ledger.specs.Calls.{withLine}
-use Rattle.ledger.proofs.Tables.{formula-snoc, formula-stays}
+use Rattle.ledger.proofs.FormulaTable.{formula-snoc, formula-stays}
 use Rattle.ledger.specs.Bounds.{Bounded}
 use Rattle.ledger.proofs.Bounds.{line-bounded}
 use Rattle.store.specs.Tab.{tab}
@@ -23,9 +23,9 @@ use Rattle.store_cells.specs.Layout.{lineCount, lineCell, rowAt, sizeAt, plainA
 use Rattle.store_cells.specs.Layout.{putLine, sizeCell, plainCell, balancedCell, lineWidth}
 use Rattle.store.specs.Store.{lineOf, ledgerOf, Canonical, StandsFor, Wordable}
 use Rattle.store.proofs.Tabs.{tab-append}
-use Rattle.store_cells.proofs.Rows.{row-ext, row-below, SameLive, count-live, head-same, head-line, line-same}
-use Rattle.store_cells.proofs.Rows.{line-other}
-use Rattle.store_cells.proofs.Rows.{line-live}
+use Rattle.store_cells.proofs.CellWrites.{row-ext, row-below, SameLive, count-live, head-same, head-line, line-same}
+use Rattle.store_cells.proofs.CellWrites.{line-other}
+use Rattle.store_cells.proofs.CellWrites.{line-live}
 use Rattle.store.proofs.Views.{lines-length}
 use Rattle.store.proofs.Live.{same-live, same-ordered}
 
@@ -33,7 +33,7 @@ use Rattle.store.proofs.Live.{same-live, same-ordered}
 record Right (m : List ℕ) (i : ℕ) : Type 0 where
   canonical : Canonical (rowAt m i)
   sized : sizeAt m i ≡ size (formula (ledgerOf m) i)
-  plainly : plainAt m i ≡ bit (plain (formula (ledgerOf m) i))
+  plain-kept : plainAt m i ≡ bit (plain (formula (ledgerOf m) i))
   balancedly : balancedAt m i ≡ bit (balanced (formula (ledgerOf m) i))
 
 module _ (l : List ℕ) (r : Row) (s : ℕ) (p b : Bool) (a : Wordable l r s p b) where
@@ -103,7 +103,7 @@ module _ (l : List ℕ) (r : Row) (s : ℕ) (p b : Bool) (a : Wordable l r s p b
   new-right = record {
     canonical = subst Canonical (sym new-row) (a .canonical);
     sized = new-cell sizeCell (omega arith) ∙ a .sized ∙ ap size (sym new-formula);
-    plainly = new-cell plainCell (omega arith) ∙ ap bit (a .plainly ∙ ap plain (sym new-formula));
+    plain-kept = new-cell plainCell (omega arith) ∙ ap bit (a .plain-kept ∙ ap plain (sym new-formula));
     balancedly = new-cell balancedCell (omega arith) ∙ ap bit (a .balancedly ∙ ap balanced (sym new-formula));
   }
 
@@ -112,7 +112,7 @@ module _ (l : List ℕ) (r : Row) (s : ℕ) (p b : Bool) (a : Wordable l r s p b
   old-right k h = record {
     canonical = subst Canonical (sym (old-row k h)) (a .good .canonical k h);
     sized = old-cell k sizeCell h (omega arith) ∙ a .good .sizes k h ∙ ap size (sym (old-formula k h));
-    plainly = old-cell k plainCell h (omega arith) ∙ a .good .plains k h
+    plain-kept = old-cell k plainCell h (omega arith) ∙ a .good .plains k h
         ∙ ap (λ x. bit (plain x)) (sym (old-formula k h));
     balancedly = old-cell k balancedCell h (omega arith) ∙ a .good .balances k h
         ∙ ap (λ x. bit (balanced x)) (sym (old-formula k h));
@@ -133,7 +133,7 @@ module _ (l : List ℕ) (r : Row) (s : ℕ) (p b : Bool) (a : Wordable l r s p b
       ordered = same-ordered l m live (a .good .ordered) (omega (arith, count));
       canonical = λ k h. right k h .canonical;
       sizes = λ k h. right k h .sized;
-      plains = λ k h. right k h .plainly;
+      plains = λ k h. right k h .plain-kept;
       balances = λ k h. right k h .balancedly;
       bounded = subst Bounded (sym ledger) (line-bounded t (a .good .bounded) (lineOf r) (a .room) (a .there)
           (omega (arith, a .sized, a .small)));

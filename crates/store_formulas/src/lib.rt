@@ -5,7 +5,7 @@ use store_cells::head;
 use store_cells::lines;
 ghost use mathlib.Core.Path.{_≡_};
 ghost use Rattle.ledger.specs.Table.{rowOf};
-ghost use Rattle.ledger.specs.Checks.{any, sameRow};
+ghost use Rattle.ledger.specs.Checks.{anyOf, sameRow};
 ghost use Rattle.ledger.specs.Calls.{withLine};
 ghost use Rattle.store.specs.Store.{lineOf, ledgerOf, Good, StandsFor, Wordable};
 
@@ -23,7 +23,7 @@ fn same_row(x: Row, y: Row) -> bool
 // Whether a line of the ledger has this row.
 pub fn has_row(store: &Store, row: Row) -> bool
     requires { ⌜ Good (now store) ⌝ }
-    ensures { λ r. ⌜ r ≡ any (λ m. sameRow row (rowOf m)) (ledgerOf (now (store .entry)) .lines) ⌝ }
+    ensures { λ r. ⌜ r ≡ anyOf (λ m. sameRow row (rowOf m)) (ledgerOf (now (store .entry)) .lines) ⌝ }
 {
     let n = head::line_count(store);
     let mut i = 0;

@@ -1,4 +1,4 @@
-pub mod Lines
+pub mod EmptyLines
 pub mod Splits
 mod Parting
 mod Keeping

@@ -76,28 +76,28 @@ pub fn sheet_end(piece: &[u8], fresh: bool) -> End
 }
 
 // The bytes after those held, for which there is room.
-fn copy(begun: &mut [u8], held: usize, bytes: &[u8]) -> usize
-    requires { ⌜ (length (now begun) ≡ most) × (held + length (now bytes) ≤ most) ⌝ }
-    ensures { λ r. ⌜ Kept (now (begun .entry)) held (now (bytes .entry)) (now (begun .exit)) r ⌝ }
+fn copy(begun: &mut [u8], filled: usize, bytes: &[u8]) -> usize
+    requires { ⌜ (length (now begun) ≡ most) × (filled + length (now bytes) ≤ most) ⌝ }
+    ensures { λ r. ⌜ Kept (now (begun .entry)) filled (now (bytes .entry)) (now (begun .exit)) r ⌝ }
 {
     let mut i = 0;
     while i < bytes.len() {
-        begun[held + i] = bytes[i];
+        begun[filled + i] = bytes[i];
         i += 1;
     }
-    held + i
+    filled + i
 }
 
 // The bytes after those held; past `MOST` they are dropped.
-pub fn keep(begun: &mut [u8], held: usize, bytes: &[u8]) -> usize
-    requires { ⌜ (length (now begun) ≡ most) × (held ≤ most) ⌝ }
-    ensures { λ r. ⌜ Kept (now (begun .entry)) held (now (bytes .entry)) (now (begun .exit)) r ⌝ }
+pub fn keep(begun: &mut [u8], filled: usize, bytes: &[u8]) -> usize
+    requires { ⌜ (length (now begun) ≡ most) × (filled ≤ most) ⌝ }
+    ensures { λ r. ⌜ Kept (now (begun .entry)) filled (now (bytes .entry)) (now (begun .exit)) r ⌝ }
 {
-    let room = MOST - held;
+    let room = MOST - filled;
     if bytes.len() <= room {
-        return copy(begun, held, bytes);
+        return copy(begun, filled, bytes);
     }
-    copy(begun, held, &bytes[..room])
+    copy(begun, filled, &bytes[..room])
 }
 
 // Does nothing: that it is proved says that sheets with an empty line after each are read as just these, that every

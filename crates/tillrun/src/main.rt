@@ -1,11 +1,11 @@
 // `tillrun` (document 01, "Kiosk"): reads sheets from standard input and prints their answers, starting with an empty
 // till. What is read in one piece is answered and written before more input is waited for.
-use stream_console::Input;
-use stream_console::Output;
 use request::ranges;
+use step_rows::StepRows;
 use store::Store;
 use stream::Place;
-use step_rows::StepRows;
+use stream_console::Input;
+use stream_console::Output;
 ghost use mathlib.Core.Path.{_≡_};
 ghost use Prim.Native.Nat.{_*_};
 ghost use lib.ListN.{length};
@@ -51,24 +51,24 @@ fn sized(begun: Begun, text: Text, piece: Piece)
 
 // Reads once, answers what came and writes the answers.
 fn next_piece(
-    till: &mut Store,
+    store: &mut Store,
     rows: &mut StepRows,
     begun: &mut [u8],
     text: &mut [u8],
     piece: &mut [u8],
     turn: Turn,
 ) -> Turn
-    requires { ⌜ Ready (now till) (now begun) (now text) (turn .place) (length (now piece)) ⌝ }
-    ensures { λ r. ⌜ Turned (now (till .entry)) (now (begun .entry)) (now (text .entry)) turn
-        (now (till .exit)) (now (begun .exit)) (now (text .exit)) (now (piece .exit)) r ⌝ }
+    requires { ⌜ Ready (now store) (now begun) (now text) (turn .place) (length (now piece)) ⌝ }
+    ensures { λ r. ⌜ Turned (now (store .entry)) (now (begun .entry)) (now (text .entry)) turn
+        (now (store .exit)) (now (begun .exit)) (now (text .exit)) (now (piece .exit)) r ⌝ }
 {
     let input = stream_console::receive(turn.input, piece);
     let n = stream_console::got(input);
-    let next = stream::feed(till, rows, begun, text, turn.place, &piece[..n]);
+    let next = stream::feed(store, rows, begun, text, turn.place, &piece[..n]);
     let output = stream_console::send(turn.output, text, next.text);
     Turn {
         place: Place {
-            held: next.held,
+            filled: next.filled,
             fresh: next.fresh,
             text: 0,
         },
@@ -79,19 +79,19 @@ fn next_piece(
 
 // Plays the input to its end. Where the answers cannot be written, the sheet that has begun is left.
 fn play(
-    till: &mut Store,
+    store: &mut Store,
     rows: &mut StepRows,
     begun: &mut Begun,
     text: &mut Text,
     piece: &mut Piece,
 ) -> Run
-    requires { ⌜ StandsFor (now till) empty ⌝ }
+    requires { ⌜ StandsFor (now store) empty ⌝ }
     ensures { λ r. ⌜ Played (r .input) (r .output) ⌝ }
 {
     sized(*begun, *text, *piece);
     let mut turn = Turn {
         place: Place {
-            held: 0,
+            filled: 0,
             fresh: true,
             text: 0,
         },
@@ -99,14 +99,14 @@ fn play(
         output: stream_console::writing(1),
     };
     while stream_console::goes_on(turn.input, turn.output) {
-        turn = next_piece(till, rows, begun, text, piece, turn);
+        turn = next_piece(store, rows, begun, text, piece, turn);
     }
     let input = turn.input;
     let output = turn.output;
     if stream_console::failed(output) {
         return Run { input, output };
     }
-    let end = stream::finish(till, rows, begun, text, turn.place);
+    let end = stream::finish(store, rows, begun, text, turn.place);
     Run {
         input,
         output: stream_console::send(output, text, end),
@@ -114,11 +114,11 @@ fn play(
 }
 
 fn main() {
-    let mut till = [0u32; store_cells::CELLS];
-    store::start(&mut till);
+    let mut store = [0u32; store_cells::CELLS];
+    store::start(&mut store);
     let mut begun = [0u8; stream_sheets::MOST];
     let mut text = [0u8; TEXT];
     let mut piece = [0u8; PIECE];
     let mut rows = [0u32; step_rows::STEP_CELLS];
-    play(&mut till, &mut rows, &mut begun, &mut text, &mut piece);
+    play(&mut store, &mut rows, &mut begun, &mut text, &mut piece);
 }

@@ -7,9 +7,9 @@ use lib.ListN.{length}
 use borrow.Author.Tests.{leb-true, leb-false}
 use borrow.Author.Needs.{needs}
 use native.Mathlib.Omega.{arith}
-use Rattle.call_checks.proofs.Laws.{by-verdict}
-use Rattle.call_book_laws.proofs.Lines.{holds-asked, steps-asked, ReadHolds, holds-broken, no-bytes, steps-broken}
-use Rattle.call_book_laws.proofs.Lines.{ReadSteps, lines-reversed, lines-read, lines-handled}
+use Rattle.call_checks.proofs.Verdicts.{by-verdict}
+use Rattle.call_book_laws.proofs.AfterHead.{holds-asked, steps-asked, ReadHolds, holds-broken, no-bytes, steps-broken}
+use Rattle.call_book_laws.proofs.AfterHead.{ReadSteps, lines-reversed, lines-read, lines-handled}
 use Rattle.call_book.proofs.book.Statement.{statement}
 use Rattle.call_book.proofs.book.Tie as tie
 
@@ -25,7 +25,7 @@ end c = c .held .given .0 .0
 
 holds-read : (c : tie.After-held) →
     let a = begun c .args in
-    ReadHolds (now (a .till)) (now (a .sheet)) (a .head) (serials c) (end c)
+    ReadHolds (now (a .store)) (now (a .sheet)) (a .head) (serials c) (end c)
 holds-read c =
     let read = c .before .before .read-holds in
     record {
@@ -41,12 +41,12 @@ holds c = c .before .before .before .before .before .before .before .before .bef
 abbrev rows : tie.After-read → List ℕ
 rows c = c .before .before .read-steps .last .1 .1 .0
 
-abbrev turned : tie.After-read → Bool
-turned c = c .read .given .0 .0
+abbrev backward : tie.After-read → Bool
+backward c = c .read .given .0 .0
 
 steps-read : (c : tie.After-read) →
     let a = begun (holds c) .args in
-    ReadSteps (now (a .till)) (now (a .sheet)) (a .head) (serials (holds c)) (rows c) (end (holds c)) (turned c)
+    ReadSteps (now (a .store)) (now (a .sheet)) (a .head) (serials (holds c)) (rows c) (end (holds c)) (backward c)
 steps-read c = record {
   holds = holds-read (holds c);
   steps = rw (c .read .given .1) at (c .before .before .read-steps .ensures);
@@ -88,13 +88,15 @@ returns-3 c =
 returns-4 : tie.Need-returns-4
 returns-4 c =
     let ordered = c .before .before in
-    lines-reversed (steps-read (ordered .before .before)) (ordered .lines-ordered .ensures) (c .enum-told6 .given .1)
+    lines-reversed (steps-read (ordered .before .before)) (ordered .check-lines-ordered .ensures)
+    (c .enum-told6 .given .1)
 
 book-read-requires : tie.Need-book-read-requires
 book-read-requires c κs =
     let passed = c .before .before .before in
     let ordered = passed .before .before in
-    lines-read (steps-read (ordered .before .before)) (ordered .lines-ordered .ensures) (passed .enum-told5 .given .1)
+    lines-read (steps-read (ordered .before .before)) (ordered .check-lines-ordered .ensures)
+    (passed .enum-told5 .given .1)
 
 returns-5 : tie.Need-returns-5
 returns-5 c =

@@ -5,10 +5,10 @@ use borrow.Author.Needs.{needs}
 use Rattle.ledger.specs.Checks.{Check}
 use Rattle.ledger.specs.Statements.{_▸_}
 use Rattle.ledger.proofs.Firsts.{if-false, if-true}
-use Rattle.call_checks.proofs.Laws.{by-verdict, reworded, shown}
+use Rattle.call_checks.proofs.Verdicts.{by-verdict, reworded, shown}
 use Rattle.call_contracts.proofs.Laws.{refused}
-use Rattle.call_book_laws.specs.Booking.{Past}
-use Rattle.call_book_laws.proofs.Laws.{held-alive}
+use Rattle.call_book_laws.specs.BookingFound.{Past}
+use Rattle.call_book_laws.proofs.BookingOutcomes.{held-alive}
 use Rattle.call_book.proofs.book_holds.Statement.{statement}
 use Rattle.call_book.proofs.book_holds.Tie as tie
 
@@ -31,7 +31,7 @@ returns c =
 -- 24 has passed
 abbrev past-24 : (c : tie.After-held) →
     let a = live c .args in
-    (rest : List Check) × Past (now (a .till)) (a .head) (now (a .serials)) (now (a .rows)) rest
+    (rest : List Check) × Past (now (a .store)) (a .head) (now (a .serials)) (now (a .rows)) rest
 past-24 c = (
   _,
   live c .pre .so-far

@@ -5,11 +5,11 @@ use native.Mathlib.Omega.{arith}
 use borrow.Author.Needs.{needs}
 use Rattle.ledger.specs.Checks.{Check}
 use Rattle.ledger.specs.Statements.{_▸_}
-use Rattle.call_checks.proofs.Laws.{by-verdict, shown}
+use Rattle.call_checks.proofs.Verdicts.{by-verdict, shown}
 use Rattle.call_contracts.proofs.Laws.{refused}
-use Rattle.call_book_laws.specs.Booking.{Past}
+use Rattle.call_book_laws.specs.BookingFound.{Past}
 use Rattle.call_book_laws.proofs.Judged.{steps-told}
-use Rattle.call_book_laws.proofs.Laws.{room-less, Settled, book-spends, book-gives, book-done}
+use Rattle.call_book_laws.proofs.BookingOutcomes.{room-less, Settled, book-spends, book-gives, book-done}
 use Rattle.call_book_steps.proofs.book_steps.Statement.{statement}
 use Rattle.call_book_steps.proofs.book_steps.Tie as tie
 
@@ -25,7 +25,7 @@ free c = roomy (c .before .before .before .before)
 
 -- the checks before `rest` have passed
 abbrev PastAt : tie.Start → List Check → Type 0
-PastAt s rest = Past (now (s .args .till)) (s .args .head) (now (s .args .serials)) (now (s .args .rows)) rest
+PastAt s rest = Past (now (s .args .store)) (s .args .head) (now (s .args .serials)) (now (s .args .rows)) rest
 
 check-requires : tie.Need-check-requires
 check-requires c κs = omega (arith, c .before .before .before .pre .before .lines .steps)
@@ -45,10 +45,11 @@ past-42 c =
     let check = c .before .before in (
       _,
       closed c .pre .so-far
-          ▸ steps-told (closed c .pre) (check .before .opening .ensures) (check .check .ensures) (c .enum-told .given .1),
+          ▸ steps-told (closed c .pre) (check .before .opening .ensures) (check .check .ensures)
+          (c .enum-told .given .1),
     )
 
-room-requires : tie.Need-room-requires
+room-requires : tie.Need-check-room-requires
 room-requires c κs = closed (c .before) .pre .before .lines .good
 
 returns-2 : tie.Need-returns-2
@@ -56,7 +57,7 @@ returns-2 c =
     let room = c .before .before in
     let before = closed (room .before .before) .pre in
     refused (before .before .lines .good) (past-42 (room .before .before) .1)
-    (shown (room-less before (room .room .ensures)) (c .enum-told4 .given .1))
+    (shown (room-less before (room .check-room .ensures)) (c .enum-told4 .given .1))
 
 -- and 22
 abbrev past-22 : (c : tie.After-enum-told3) → (rest : List Check) × PastAt (roomy c) rest
@@ -64,10 +65,10 @@ past-22 c =
     let room = c .before .before in (
       _,
       past-42 (room .before .before) .1
-          ▸ shown (room-less (roomy c .pre) (room .room .ensures)) (c .enum-told3 .given .1),
+          ▸ shown (room-less (roomy c .pre) (room .check-room .ensures)) (c .enum-told3 .given .1),
     )
 
-unused-requires : tie.Need-unused-requires
+unused-requires : tie.Need-check-unused-requires
 unused-requires c κs = roomy (c .before) .pre .before .lines .good
 
 returns-3 : tie.Need-returns-3
@@ -75,21 +76,21 @@ returns-3 c =
     let unused = c .before .before in
     let passed = unused .before .before in
     refused (roomy passed .pre .before .lines .good) (past-22 passed .1)
-    (shown (unused .unused .ensures) (c .enum-told6 .given .1))
+    (shown (unused .check-unused .ensures) (c .enum-told6 .given .1))
 
 -- and 23
 settled : (c : tie.After-enum-told5) →
     let a = free c .args in
-    Settled (now (a .till)) (a .head) (now (a .serials)) (now (a .rows)) (now (a .table)) (a .sides)
+    Settled (now (a .store)) (a .head) (now (a .serials)) (now (a .rows)) (now (a .table)) (a .sides)
 settled c =
     let unused = c .before .before in
     let passed = unused .before .before in
     let room = passed .before .before in
     record {
       before = free c .pre;
-      room = by-verdict (room-less (free c .pre) (room .room .ensures)) (passed .enum-told3 .given .1);
-      unused = by-verdict (unused .unused .ensures) (c .enum-told5 .given .1);
-      so-far = past-22 passed .1 ▸ shown (unused .unused .ensures) (c .enum-told5 .given .1);
+      room = by-verdict (room-less (free c .pre) (room .check-room .ensures)) (passed .enum-told3 .given .1);
+      unused = by-verdict (unused .check-unused .ensures) (c .enum-told5 .given .1);
+      so-far = past-22 passed .1 ▸ shown (unused .check-unused .ensures) (c .enum-told5 .given .1);
     }
 
 give-requires : tie.Need-give-requires

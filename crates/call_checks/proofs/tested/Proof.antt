@@ -1,5 +1,5 @@
 -- `tested` meets its contract.
-use Rattle.call_checks.proofs.Laws.{passing, failing}
+use Rattle.call_checks.proofs.Verdicts.{passing, failing}
 use Rattle.call_checks.proofs.tested.Statement.{statement}
 use Rattle.call_checks.proofs.tested.Tie as tie
 

@@ -5,10 +5,10 @@ use borrow.Author.Tests.{leb-false}
 use borrow.Author.Needs.{needs}
 use Rattle.ledger.specs.Checks.{Check}
 use Rattle.ledger.specs.Statements.{_▸_}
-use Rattle.call_checks.proofs.Laws.{by-verdict, shown}
+use Rattle.call_checks.proofs.Verdicts.{by-verdict, shown}
 use Rattle.call_contracts.proofs.Laws.{refused}
 use Rattle.call_credentials.specs.Issue.{Past}
-use Rattle.call_credentials.proofs.Laws.{issue-reversed, past-intervals, issue-unfair}
+use Rattle.call_credentials.proofs.CallOutcomes.{issue-reversed, past-intervals, issue-unissuable}
 use Rattle.call_credentials.proofs.issue.Statement.{statement}
 use Rattle.call_credentials.proofs.issue.Tie as tie
 
@@ -18,47 +18,48 @@ present c = c .before .before .before .before .before .before .before
 
 returns : tie.Need-returns
 returns c =
-    issue-reversed (c .before .before .before .pre) (c .before .before .ordered .ensures) (c .enum-told2 .given .1)
+    issue-reversed (c .before .before .before .pre) (c .before .before .check-ordered .ensures)
+    (c .enum-told2 .given .1)
 
 returns-2 : tie.Need-returns-2
 returns-2 c =
     let ordered = c .before .before .before .before in
     refused (ordered .before .before .before .pre)
-    (past-intervals _ _ _ _ (ordered .before .before .ordered .ensures) (ordered .enum-told .given .1))
-    (shown (c .before .before .present .ensures) (c .enum-told4 .given .1))
+    (past-intervals _ _ _ _ (ordered .before .before .check-ordered .ensures) (ordered .enum-told .given .1))
+    (shown (c .before .before .check-present .ensures) (c .enum-told4 .given .1))
 
-fair-requires : tie.Need-fair-requires
-fair-requires c κs =
+check-issuable-requires : tie.Need-check-issuable-requires
+check-issuable-requires c κs =
     let there = c .before in
-    let found = by-verdict (there .before .before .present .ensures) (there .enum-told3 .given .1) in
+    let found = by-verdict (there .before .before .check-present .ensures) (there .enum-told3 .given .1) in
     (present there .pre, leb-false _ _ found)
 
 -- 3 and 10 have passed
 abbrev past-10 : (c : tie.After-enum-told3) →
     let a = present c .args in
-    (rest : List Check) × Past (now (a .till)) (a .kind) (a .formula) (a .interval) rest
+    (rest : List Check) × Past (now (a .store)) (a .kind) (a .formula) (a .interval) rest
 past-10 c =
     let ordered = c .before .before .before .before in (
       _,
-      past-intervals _ _ _ _ (ordered .before .before .ordered .ensures) (ordered .enum-told .given .1)
-          ▸ shown (c .before .before .present .ensures) (c .enum-told3 .given .1),
+      past-intervals _ _ _ _ (ordered .before .before .check-ordered .ensures) (ordered .enum-told .given .1)
+          ▸ shown (c .before .before .check-present .ensures) (c .enum-told3 .given .1),
     )
 
 returns-3 : tie.Need-returns-3
 returns-3 c =
-    let unfair = c .before in
-    let there = unfair .before .before .before .before in
-    issue-unfair (c .unfair-number .ensures) (refused (present there .pre) (past-10 there .1)
-    (shown (unfair .before .before .fair .ensures) (unfair .enum-told6 .given .1)))
+    let unissuable = c .before in
+    let there = unissuable .before .before .before .before in
+    issue-unissuable (c .unissuable-number .ensures) (refused (present there .pre) (past-10 there .1)
+    (shown (unissuable .before .before .check-issuable .ensures) (unissuable .enum-told6 .given .1)))
 
-issue-fair-requires : tie.Need-issue-fair-requires
-issue-fair-requires c κs =
-    let fair = c .before in
-    let there = fair .before .before .before .before in
+issue-checked-requires : tie.Need-issue-checked-requires
+issue-checked-requires c κs =
+    let issuable = c .before in
+    let there = issuable .before .before .before .before in
     record {
       good = present there .pre;
-      there = by-verdict (there .before .before .present .ensures) (there .enum-told3 .given .1);
-      so-far = past-10 there .1 ▸ shown (fair .before .before .fair .ensures) (fair .enum-told5 .given .1);
+      there = by-verdict (there .before .before .check-present .ensures) (there .enum-told3 .given .1);
+      so-far = past-10 there .1 ▸ shown (issuable .before .before .check-issuable .ensures) (issuable .enum-told5 .given .1);
     }
 
 pub issue-spec : {M : Type 1} → statement M
@@ -73,10 +74,10 @@ issue-spec =
     (λ c. search needs)
     (λ c. search needs)
     returns-2
-    fair-requires
+    check-issuable-requires
     (λ c. search needs)
     (λ c. search needs)
     (λ c κs. search needs)
     returns-3
-    issue-fair-requires
-    (λ c. c .issue-fair .ensures))
+    issue-checked-requires
+    (λ c. c .issue-checked .ensures))

@@ -5,14 +5,14 @@ use lib.Dec.{eqb}
 use lib.ListN.{take, drop}
 use borrow.Author.Tests.{eq-eqb, ne-eqb}
 use borrow.Author.Needs.{needs}
-use Rattle.ledger.specs.Checks.{any}
-use Rattle.call_holds.proofs.Serials.{any-here, any-next, any-end}
+use Rattle.ledger.specs.Checks.{anyOf}
+use Rattle.call_holds.proofs.HoldSerials.{any-here, any-next, any-end}
 use Rattle.call_holds.proofs.again.Statement.{statement}
 use Rattle.call_holds.proofs.again.Tie as tie
 
 abbrev Inv-loop : tie.InvT-loop
 Inv-loop serials count from n k₀ k =
-    any (eqb n) (drop from (take count serials)) ≡ any (eqb n) (drop k (take count serials))
+    anyOf (eqb n) (drop from (take count serials)) ≡ anyOf (eqb n) (drop k (take count serials))
 
 abbrev μ-loop : tie.MeasureT-loop
 μ-loop serials count from n k₀ k = count - k

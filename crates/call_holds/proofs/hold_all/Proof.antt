@@ -5,19 +5,19 @@ use native.Mathlib.Omega.{arith}
 use lib.ListN.{take}
 use borrow.Author.Needs.{needs}
 use Rattle.store.specs.Store.{ledgerOf}
-use Rattle.step_rows.specs.Held.{putHeld}
-use Rattle.call_holds.proofs.Serials.{next-serial, no-serial}
+use Rattle.step_rows.specs.LabelRows.{putLabel}
+use Rattle.call_holds.proofs.HoldSerials.{next-serial, no-serial}
 use Rattle.call_holds.proofs.Spending.{found-as}
 use Rattle.call_holds.proofs.Holding.{Holding, first-hold, dead-hold, next-hold, all-held}
 use Rattle.call_holds.proofs.hold_all.Statement.{statement}
 use Rattle.call_holds.proofs.hold_all.Tie as tie
 
 abbrev Inv-loop : tie.InvT-loop
-Inv-loop till serials count table₀ unrestricted₀ linear₀ linears₀ k₀ table unrestricted linear linears k =
-    (k ≤ count) × Holding (ledgerOf till) (take count serials) table₀ k unrestricted linear linears table
+Inv-loop store serials count table₀ unrestricted₀ linear₀ linears₀ k₀ table unrestricted linear linears k =
+    (k ≤ count) × Holding (ledgerOf store) (take count serials) table₀ k unrestricted linear linears table
 
 abbrev μ-loop : tie.MeasureT-loop
-μ-loop till serials count table₀ unrestricted₀ linear₀ linears₀ k₀ table unrestricted linear linears k = count - k
+μ-loop store serials count table₀ unrestricted₀ linear₀ linears₀ k₀ table unrestricted linear linears k = count - k
 
 loop-holds : tie.Need-loop-holds Inv-loop μ-loop
 loop-holds c = (omega arith, first-hold _ _ _)
@@ -50,7 +50,7 @@ loop-again c =
           (sym (found-as (find .find .ensures) (read .found .given .1) .found))
           (unrestricted .unrestricted-with .ensures) (linear .linear-with .ensures)
           (c .one-linear .ensures .0) (c .one-linear .ensures .1)
-          (put .put-held .ensures ∙ ap (putHeld (at .loop .table) (at .loop .k)) (hypothesis .hypothesis .ensures)),
+          (put .put-label .ensures ∙ ap (putLabel (at .loop .table) (at .loop .k)) (hypothesis .hypothesis .ensures)),
     )
 
 pub hold-all-spec : {M : Type 1} → statement M

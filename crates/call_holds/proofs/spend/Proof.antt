@@ -4,16 +4,16 @@ use mathlib.Core.Path.{refl}
 use lib.ListN.{take}
 use borrow.Author.Needs.{needs}
 use Rattle.store.specs.Store.{ledgerOf}
-use Rattle.call_holds.proofs.Serials.{next-serial, no-serial}
+use Rattle.call_holds.proofs.HoldSerials.{next-serial, no-serial}
 use Rattle.call_holds.proofs.Spending.{Spending, first-spent, next-spent, last-spent}
 use Rattle.call_holds.proofs.spend.Statement.{statement}
 use Rattle.call_holds.proofs.spend.Tie as tie
 
 abbrev Inv-loop : tie.InvT-loop
-Inv-loop till₀ serials count k₀ till k = Spending (ledgerOf till₀) (take count serials) k till
+Inv-loop till₀ serials count k₀ store k = Spending (ledgerOf till₀) (take count serials) k store
 
 abbrev μ-loop : tie.MeasureT-loop
-μ-loop till₀ serials count k₀ till k = count - k
+μ-loop till₀ serials count k₀ store k = count - k
 
 loop-holds : tie.Need-loop-holds Inv-loop μ-loop
 loop-holds c = first-spent _ _ _ (c .pre .good) refl (c .pre .alive) (c .pre .apart)

@@ -4,7 +4,7 @@ use Prim.Native.Nat.{_-_}
 use lib.ListN.{take, drop}
 use borrow.Author.Needs.{needs}
 use Rattle.ledger.specs.Checks.{twice}
-use Rattle.call_holds.proofs.Serials.{twice-here, twice-next, twice-end}
+use Rattle.call_holds.proofs.HoldSerials.{twice-here, twice-next, twice-end}
 use Rattle.call_holds.proofs.twice.Statement.{statement}
 use Rattle.call_holds.proofs.twice.Tie as tie
 

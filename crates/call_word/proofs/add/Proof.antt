@@ -1,6 +1,6 @@
 -- `add` meets its contract.
 use borrow.Author.Needs.{needs}
-use Rattle.call_word.proofs.Words.{named-formable, word-added, word-done}
+use Rattle.call_word.proofs.WordOutcomes.{named-formable, word-added, word-done}
 use Rattle.call_word.proofs.add.Statement.{statement}
 use Rattle.call_word.proofs.add.Tie as tie
 

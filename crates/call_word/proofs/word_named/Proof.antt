@@ -4,10 +4,10 @@ use denote.Ref.{now}
 use borrow.Author.Needs.{needs}
 use Rattle.ledger.specs.Checks.{Check}
 use Rattle.ledger.specs.Statements.{_▸_}
-use Rattle.call_checks.proofs.Laws.{by-verdict, shown}
+use Rattle.call_checks.proofs.Verdicts.{by-verdict, shown}
 use Rattle.call_contracts.proofs.Laws.{refused}
 use Rattle.call_word.specs.Wording.{Past}
-use Rattle.call_word.proofs.Words.{named-formable, sized, known, counted}
+use Rattle.call_word.proofs.WordOutcomes.{named-formable, sized, known, counted}
 use Rattle.call_word.proofs.word_named.Statement.{statement}
 use Rattle.call_word.proofs.word_named.Tie as tie
 
@@ -20,7 +20,7 @@ new c = small (c .before .before .before .before .before)
 
 -- the checks before `rest` have passed
 abbrev PastAt : tie.Start → List Check → Type 0
-PastAt s rest = Past (now (s .args .till)) (s .args .row) rest
+PastAt s rest = Past (now (s .args .store)) (s .args .row) rest
 
 returns : tie.Need-returns
 returns c =
@@ -35,7 +35,8 @@ past-12 c =
     let size = c .before .before .before in (
       _,
       small c .pre .so-far
-          ▸ shown (sized _ _ (size .row-size .ensures) (c .before .before .tested .ensures 12)) (c .enum-told .given .1),
+          ▸ shown (sized _ _ (size .row-size .ensures) (c .before .before .tested .ensures 12))
+          (c .enum-told .given .1),
     )
 
 returns-2 : tie.Need-returns-2

@@ -5,23 +5,23 @@ use borrow.Author.Needs.{needs}
 use borrow.Author.Tests.{lt-ltb, le-ltb}
 use lib.Dec.{ltb}
 use denote.Ref.{now}
-use Rattle.logic.specs.Counts.{all}
+use Rattle.logic.specs.Counts.{allOf}
 use Rattle.ledger.specs.Table.{names}
-use Rattle.ledger.specs.Checks.{any, missing}
+use Rattle.ledger.specs.Checks.{anyOf, missing}
 use Rattle.store.specs.Store.{lineOf, ledgerOf}
 use Rattle.formula_facts.proofs.Named.{all-below}
 use Rattle.formula_facts.proofs.names_there.Statement.{statement}
 use Rattle.formula_facts.proofs.names_there.Tie as tie
 
 returns : tie.Need-returns
-unfolding all
+unfolding allOf
 returns c =
     let p = c .before .before in
     all-below _ _ _ (p .parts-of .ensures) (c .enum-told .given .1) (now (p .before .before .args .store)) _
     (p .before .formula-count .ensures) (p .before .before .pre)
 
 returns-2 : tie.Need-returns-2
-unfolding all
+unfolding allOf
 returns-2 c =
     let p = c .before .before .before in
     sym (and-true _)
@@ -32,9 +32,9 @@ returns-2 c =
 two : (c : tie.After-known-told2)
     → (ltb (c .before .i2 .given .0 .0) (c .before .before .before .before .formula-count .result)
     && (ltb (c .before .i2 .given .0 .1 .0) (c .before .before .before .before .formula-count .result) && true))
-    ≡ not (any (missing (ledgerOf (now (c .before .before .before .before .before .args .store))))
+    ≡ not (anyOf (missing (ledgerOf (now (c .before .before .before .before .before .args .store))))
     (names (lineOf (c .before .before .before .before .before .args .row))))
-unfolding all
+unfolding allOf
 two c =
     let p = c .before .before .before in
     all-below _ _ _ (p .parts-of .ensures) (c .before .i2 .given .1) (now (p .before .before .args .store)) _

@@ -6,7 +6,7 @@ use borrow.Author.Needs.{needs}
 use borrow.Author.Tests.{not-true, not-false}
 use denote.Ref.{now}
 use Rattle.logic.specs.Formula.{plain}
-use Rattle.logic.specs.Counts.{all}
+use Rattle.logic.specs.Counts.{allOf}
 use Rattle.ledger.specs.Table.{form}
 use Rattle.ledger.specs.Ledger.{formula}
 use Rattle.ledger.specs.Bounds.{There}
@@ -47,14 +47,14 @@ known : (c : tie.After-parts-of) → among (c .before .before .before .args .row
 known c = sym (c .before .before .plain-letter .ensures) ∙ not-false _ (c .before .if1 .left)
 
 returns-2 : tie.Need-returns-2
-unfolding all
+unfolding allOf
 returns-2 c =
     let p = c .before .before in
     let s = p .before .before .before in
     parts-plain _ _ _ (p .parts-of .ensures) (c .enum-told .given .1) (now (s .args .store)) (s .pre) (known p)
 
 returns-3 : tie.Need-returns-3
-unfolding all
+unfolding allOf
 returns-3 c =
     let p = c .before .before .before .before in
     let s = p .before .before .before in
@@ -70,7 +70,7 @@ two : (c : tie.After-plain-at2)
     && true))
     ≡ plain (form (formula (ledgerOf (now (c .before .before .before .before .before .before .before .args .store))))
     (lineOf (c .before .before .before .before .before .before .before .args .row)))
-unfolding all
+unfolding allOf
 two c =
     let p = c .before .before .before .before in
     let s = p .before .before .before in

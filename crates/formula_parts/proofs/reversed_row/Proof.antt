@@ -2,7 +2,7 @@
 use mathlib.Core.Path.{ap₂}
 use mathlib.Core.Bool.{_||_}
 use borrow.Author.Needs.{needs}
-use Rattle.formula_parts.proofs.Rows.{row-reversed}
+use Rattle.formula_parts.proofs.PartsOfRows.{row-reversed}
 use Rattle.formula_parts.proofs.reversed_row.Statement.{statement}
 use Rattle.formula_parts.proofs.reversed_row.Tie as tie
 

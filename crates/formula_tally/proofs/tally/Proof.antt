@@ -39,8 +39,8 @@ known-requires c κs =
     let e = ap (λ (d : Credential). d .formula) (k .credential-at .ensures) in
     (r .before .count-rows .ensures .long, omega (arith, e, g .ordered .named _ (turn (k .before)), g .lines))
 
-share-of-requires : tie.Need-share-of-requires Inv-loop μ-loop
-share-of-requires c κs =
+addend-of-requires : tie.Need-addend-of-requires Inv-loop μ-loop
+addend-of-requires c κs =
     let k = c .before .before in
     (k .before .before .before .before .before .before .pre, turn (k .before))
 
@@ -49,15 +49,15 @@ record Small (v i : ℕ) : Type 0 where
   held : v ≤ entryMost
   few : i < maxRows
 
-small : (c : tie.After-share-of Inv-loop μ-loop)
-    → Small (c .share-of .result .all) (c .before .before .before .before .before .loop .i)
+small : (c : tie.After-addend-of Inv-loop μ-loop)
+    → Small (c .addend-of .result .all) (c .before .before .before .before .before .loop .i)
 small c =
     let at = c .before .before .before .before .before in
     let r = at .before .before in
     let s = r .before .before in
     record {
       held = entry-small (now (s .args .store)) _ _ (s .pre) _ (r .count-rows .ensures) _
-          (c .before .known .ensures) (c .share-of .ensures);
+          (c .before .known .ensures) (c .addend-of .ensures);
       few = omega (arith, turn (c .before .before .before .before), s .pre .ordered .few);
     }
 
@@ -75,8 +75,8 @@ add-inside c =
     let d = at .loop .inv .1 .small in
     let s = at .before .before .before .before in
     let le = only-le (has (credentialAt (now (s .args .store)) (at .loop .i) .interval) (s .args .minute))
-    (w .share-of .result .all) in
-    omega (arith, w .share-of .ensures .inside)
+    (w .addend-of .result .all) in
+    omega (arith, w .addend-of .ensures .inside)
 
 loop-again : tie.Need-loop-again Inv-loop μ-loop
 loop-again c =
@@ -87,7 +87,7 @@ loop-again c =
     let s = r .before .before in (
       search needs,
       tally-next (now (s .args .store)) _ _ (s .pre) _ (r .count-rows .ensures) (k .credential-at .ensures)
-          (w .before .known .ensures) (w .share-of .ensures) (at .loop .inv .1),
+          (w .before .known .ensures) (w .addend-of .ensures) (at .loop .inv .1),
     )
 
 sums : (c : tie.After-loop Inv-loop μ-loop)
@@ -117,7 +117,7 @@ tally-spec =
     (λ c. (search needs, tally-start _ _ _))
     credential-at-requires
     known-requires
-    share-of-requires
+    addend-of-requires
     (λ c. search needs)
     add-all
     (λ c. search needs)

@@ -10,7 +10,7 @@ use mathlib.Core.Path.{_≡_, ap, ap₂, _∙_}
 use borrow.Author.Needs.{needs}
 use borrow.Fn.Kinds.{In}
 use borrow.Fn.PlainCycle.{Measures, is, falls, and}
-use Rattle.formula_weights.specs.Weights.{underWeight, joinedWeight}
+use Rattle.formula_weights.specs.RowWeights.{underWeight, joinedWeight}
 use Rattle.formula_weights.proofs.Weighing.{Parted, parted, part-asked, part-weight, part-light}
 use Rattle.formula_weights.proofs.weigh.Reads as weigh
 use Rattle.formula_weights.proofs.weigh.Kinds as weigh-kinds

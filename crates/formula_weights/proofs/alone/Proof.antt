@@ -1,7 +1,7 @@
 -- `alone` meets its contract.
 use borrow.Author.Needs.{needs}
 use borrow.Author.Tests.{eq-eqb, ne-eqb}
-use Rattle.formula_weights.specs.Weights.{aloneWeight}
+use Rattle.formula_weights.specs.RowWeights.{aloneWeight}
 use Rattle.formula_weights.proofs.alone.Statement.{statement}
 use Rattle.formula_weights.proofs.alone.Tie as tie
 

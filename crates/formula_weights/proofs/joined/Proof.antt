@@ -1,7 +1,7 @@
 -- `joined` meets its contract.
 use borrow.Author.Needs.{needs}
 use borrow.Author.Tests.{ne-eqb}
-use Rattle.formula_weights.specs.Weights.{joinedWeight}
+use Rattle.formula_weights.specs.RowWeights.{joinedWeight}
 use Rattle.formula_weights.proofs.joined.Statement.{statement}
 use Rattle.formula_weights.proofs.joined.Tie as tie
 

@@ -6,7 +6,7 @@ use Rattle.formula_weights.proofs.row_balanced.Tie as tie
 
 returns : tie.Need-returns
 unfolding balanced
-returns c = c .fair-within .ensures
+returns c = c .neutral-within .ensures
 
 pub row-balanced-spec : {M : Type 1} → statement M
 row-balanced-spec = tie.close (tie.spec (λ c κs. search needs) returns)

@@ -1,6 +1,6 @@
 -- `under` meets its contract.
 use borrow.Author.Tests.{eq-eqb, ne-eqb}
-use Rattle.formula_weights.specs.Weights.{underWeight}
+use Rattle.formula_weights.specs.RowWeights.{underWeight}
 use Rattle.formula_weights.proofs.under.Statement.{statement}
 use Rattle.formula_weights.proofs.under.Tie as tie
 

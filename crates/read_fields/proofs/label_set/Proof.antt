@@ -10,8 +10,8 @@ use denote.Ref.{now}
 use Rattle.request.specs.Text.{labelSetIn}
 use Rattle.read_fields.specs.Field.{fieldTo, setIn, DigitRead}
 use Rattle.read_fields.proofs.Bytes.{here-on}
-use Rattle.read_fields.proofs.Sets.{labels-short, set-start, hex-no, hex-on, set-stop, set-other}
-use Rattle.read_fields.proofs.Sets.{hex-below, hex-room}
+use Rattle.read_fields.proofs.LabelSets.{labels-short, set-start, hex-no, hex-on, set-stop, set-other}
+use Rattle.read_fields.proofs.LabelSets.{hex-below, hex-room}
 use Rattle.read_fields.proofs.label_set.Statement.{statement}
 use Rattle.read_fields.proofs.label_set.Tie as tie
 

@@ -9,7 +9,7 @@ use lib.ListN.{length, getD, drop, length-drop}
 use denote.Ref.{now}
 use Rattle.read_fields.specs.Field.{strip}
 use Rattle.read_fields.proofs.Bytes.{here, past, here-on}
-use Rattle.read_fields.proofs.Words.{strip-on, strip-no, strip-done, strip-empty, strip-short}
+use Rattle.read_fields.proofs.Prefixes.{strip-on, strip-no, strip-done, strip-empty, strip-short}
 use Rattle.read_fields.proofs.past.Statement.{statement}
 use Rattle.read_fields.proofs.past.Tie as tie
 

@@ -2,7 +2,7 @@
 use native.Mathlib.Omega.{arith}
 use borrow.Author.Needs.{needs}
 use Rattle.read_fields.proofs.Decimals.{digit-range}
-use Rattle.read_fields.proofs.Sets.{hex-number, letter-range, hex-letter, hex-none}
+use Rattle.read_fields.proofs.LabelSets.{hex-number, letter-range, hex-letter, hex-none}
 use Rattle.read_fields.proofs.with_digit.Statement.{statement}
 use Rattle.read_fields.proofs.with_digit.Tie as tie
 

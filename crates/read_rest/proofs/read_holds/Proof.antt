@@ -5,12 +5,12 @@ use native.Mathlib.Omega.{arith}
 use borrow.Author.Needs.{needs}
 use lib.ListN.{length, take, drop, length-set}
 use Rattle.request.specs.Read.{holdLine}
-use Rattle.step_rows.specs.Held.{maxHolds}
+use Rattle.step_rows.specs.LabelRows.{maxHolds}
 use Rattle.read_lines.specs.Step.{holdOf}
-use Rattle.read_fields.proofs.Then.{told}
+use Rattle.read_fields.proofs.Then.{seen}
 use Rattle.read_rest.proofs.Several.{prefixed, lines-begin, lines-end, lines-turn, lines-broken}
 use Rattle.read_rest.proofs.Several.{take-next, take-here}
-use Rattle.read_rest.specs.Booking.{readLines}
+use Rattle.read_rest.specs.LinesRead.{readLines}
 use Rattle.read_rest.proofs.read_holds.Statement.{statement}
 use Rattle.read_rest.proofs.read_holds.Tie as tie
 
@@ -35,7 +35,7 @@ read-holds-spec =
     (λ c. search needs)
     (λ c. let l = c .before .before .before in (
       sym (l .before .loop .inv .1 .1 ∙ lines-broken _ _ _ _ (l .loop-test .taken)
-          (told (holdOf _) (c .before .before .read-hold .ensures) (c .enum-told .given .1)) _),
+          (seen (holdOf _) (c .before .before .read-hold .ensures) (c .enum-told .given .1)) _),
       l .before .loop .inv .1 .0,
     ))
     (λ c. search needs)
@@ -48,7 +48,7 @@ read-holds-spec =
       (
         simp length-set (l .before .loop .inv .1 .0),
         l .before .loop .inv .1 .1 ∙ lines-turn _ _ _ _ (l .loop-test .taken)
-            (told (holdOf _) (c .before .before .before .read-hold .ensures) (c .before .h .given .1)) _
+            (seen (holdOf _) (c .before .before .before .read-hold .ensures) (c .before .h .given .1)) _
             ∙ take-next (l .before .loop .serials) (l .before .loop .k) _ _
             (omega (
               arith,

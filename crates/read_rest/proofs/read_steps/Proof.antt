@@ -2,7 +2,7 @@
 use Prim.Native.Nat.{_-_}
 use borrow.Author.Needs.{needs}
 use Rattle.read_lines.specs.Step.{stepLineOf}
-use Rattle.read_fields.proofs.Then.{told}
+use Rattle.read_fields.proofs.Then.{seen}
 use Rattle.read_rest.proofs.Reading.{Reading, first-reading, no-step, next-reading, more-bytes}
 use Rattle.read_rest.proofs.Reading.{all-lines-read}
 use Rattle.read_rest.proofs.read_steps.Statement.{statement}
@@ -27,7 +27,7 @@ read-steps-spec =
     (λ c. search needs)
     (λ c. let l = c .before .before .before in
     no-step (l .before .loop .inv) (l .loop-test .taken)
-    (told (stepLineOf _) (c .before .before .read-step .ensures) (c .enum-told .given .1)))
+    (seen (stepLineOf _) (c .before .before .read-step .ensures) (c .enum-told .given .1)))
     (λ c κs. search needs)
     (λ c. search needs)
     (λ c κs. search needs)
@@ -37,7 +37,7 @@ read-steps-spec =
     let l = d .before .before .before in
     next-reading (l .before .loop .inv) _ _ _ _ (l .loop-test .taken)
     (l .before .before .before .before .before .pre .few)
-    (told (stepLineOf _) (d .before .before .read-step .ensures) (d .line .given .1)) (c .put-step .ensures)
+    (seen (stepLineOf _) (d .before .before .read-step .ensures) (d .line .given .1)) (c .put-step .ensures)
     (c .before .before .turns .ensures .0) (c .before .before .turns .ensures .1)
     (search needs))
     (λ c. search needs)

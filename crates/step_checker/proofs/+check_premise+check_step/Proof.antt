@@ -1,6 +1,7 @@
 -- The premise checker and the step checker meet their contracts.
 use Prim.Native.Nat.{ℕ, _<_, _*_, _+_}
-use Rattle.step_checker.proofs.Outcomes.{premise-is, is-refused, is-closed, one-full, one, first-full, first-stops}
+use Rattle.step_checker.proofs.Outcomes.{premise-is, is-refused, is-closed, one-full, one, first-full}
+use Rattle.step_checker.proofs.Outcomes.{first-stops}
 use Rattle.step_checker.proofs.Outcomes.{second-full, both, none-left, goes-on}
 use native.Mathlib.Omega.{arith}
 use borrow.Author.Needs.{needs}

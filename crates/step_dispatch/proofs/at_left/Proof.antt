@@ -3,7 +3,7 @@ use mathlib.Core.Path.{sym}
 use native.Mathlib.Omega.{arith}
 use Rattle.labels.proofs.Sets.{member-below}
 use Rattle.steps.specs.Plans.{planOf, affirmed, left}
-use Rattle.step_plans.proofs.Tests.{holds, fails}
+use Rattle.step_plans.proofs.PlanTests.{holds, fails}
 use Rattle.step_dispatch.proofs.Numbers.{numbered, last-left, left-refused}
 use borrow.Author.Needs.{needs}
 use Rattle.step_dispatch.proofs.at_left.Statement.{statement}
@@ -14,8 +14,8 @@ returns c =
     let a = c .before .before in
     sym (left-refused _ _ _ _ _ (a .args .s) (fails (c .before .has .ensures) (c .if1 .taken)) (a .pre))
 
-held-at-requires : tie.Need-held-at-requires
-held-at-requires c κs =
+label-at-requires : tie.Need-label-at-requires
+label-at-requires c κs =
     member-below _ 64 _ (omega arith) (holds (c .before .has .ensures) (c .if1 .left))
 
 remove-requires : tie.Need-remove-requires
@@ -41,7 +41,7 @@ returns-8 c =
       holds (a .before .has .ensures) (a .if1 .left),
       b .remove .ensures,
       b .before .row-at .ensures,
-      b .before .before .held-at .ensures,
+      b .before .before .label-at .ensures,
     ))
 
 returns-11 : tie.Need-returns-11
@@ -58,7 +58,7 @@ returns-11 c =
       c .before .share .ensures,
       b .remove .ensures,
       b .before .row-at .ensures,
-      b .before .before .held-at .ensures,
+      b .before .before .label-at .ensures,
     ))
 
 returns-12 : tie.Need-returns-12
@@ -70,43 +70,43 @@ returns-12 c =
       last-left (a .before .before .args .s) (a .before .before .pre) (c .before .match .rest),
       holds (a .before .has .ensures) (a .if1 .left),
     )
-    (simp (c .ul .ensures, b .remove .ensures, b .before .row-at .ensures, b .before .before .held-at .ensures))
+    (simp (c .ul .ensures, b .remove .ensures, b .before .row-at .ensures, b .before .before .label-at .ensures))
 
 pub at-left-spec : {M : Type 1} → statement M
 unfolding planOf left
 at-left-spec =
     tie.close
-    (tie.spec (λ c κs. search needs) returns held-at-requires (λ c κs. search needs) remove-requires
+    (tie.spec (λ c κs. search needs) returns label-at-requires (λ c κs. search needs) remove-requires
     (λ c κs. search needs) (λ c κs. search needs) (λ c κs. search needs) (λ c κs. search needs)
     (λ c κs. search needs) (λ c. search needs) (λ c. search needs) (λ c κs. search needs) (λ c κs. search needs)
     (λ c κs. search needs) (λ c κs. search needs) (λ c κs. search needs) (λ c κs. search needs)
     (λ c. let b = c .before .before .before .before in
     let a = b .before .before .before in
     rw (numbered (a .before .before .args .s) (c .before .match .keys1), holds (a .before .has .ensures) (a .if1 .left))
-    (simp (c .ol .ensures, b .remove .ensures, b .before .row-at .ensures, b .before .before .held-at .ensures)))
+    (simp (c .ol .ensures, b .remove .ensures, b .before .row-at .ensures, b .before .before .label-at .ensures)))
     (λ c. let b = c .before .before .before .before in
     let a = b .before .before .before in
     rw (numbered (a .before .before .args .s) (c .before .match .keys2), holds (a .before .has .ensures) (a .if1 .left))
-    (simp (c .w1 .ensures, b .remove .ensures, b .before .row-at .ensures, b .before .before .held-at .ensures)))
+    (simp (c .w1 .ensures, b .remove .ensures, b .before .row-at .ensures, b .before .before .label-at .ensures)))
     (λ c. let b = c .before .before .before .before in
     let a = b .before .before .before in
     rw (numbered (a .before .before .args .s) (c .before .match .keys3), holds (a .before .has .ensures) (a .if1 .left))
-    (simp (c .w2 .ensures, b .remove .ensures, b .before .row-at .ensures, b .before .before .held-at .ensures)))
+    (simp (c .w2 .ensures, b .remove .ensures, b .before .row-at .ensures, b .before .before .label-at .ensures)))
     (λ c. let b = c .before .before .before .before in
     let a = b .before .before .before in
     rw (numbered (a .before .before .args .s) (c .before .match .keys4), holds (a .before .has .ensures) (a .if1 .left))
-    (simp (c .bl .ensures, b .remove .ensures, b .before .row-at .ensures, b .before .before .held-at .ensures)))
+    (simp (c .bl .ensures, b .remove .ensures, b .before .row-at .ensures, b .before .before .label-at .ensures)))
     (λ c. let b = c .before .before .before .before in
     let a = b .before .before .before in
     rw (numbered (a .before .before .args .s) (c .before .match .keys5), holds (a .before .has .ensures) (a .if1 .left))
-    (simp (c .hl .ensures, b .remove .ensures, b .before .row-at .ensures, b .before .before .held-at .ensures)))
+    (simp (c .hl .ensures, b .remove .ensures, b .before .row-at .ensures, b .before .before .label-at .ensures)))
     returns-7 returns-8
     (λ c. let b = c .before .before .before .before in
     let a = b .before .before .before in
     rw (numbered (a .before .before .args .s) (c .before .match .keys7), holds (a .before .has .ensures) (a .if1 .left))
-    (simp (c .tl .ensures, b .remove .ensures, b .before .row-at .ensures, b .before .before .held-at .ensures)))
+    (simp (c .tl .ensures, b .remove .ensures, b .before .row-at .ensures, b .before .before .label-at .ensures)))
     (λ c. let b = c .before .before .before .before in
     let a = b .before .before .before in
     rw (numbered (a .before .before .args .s) (c .before .match .keys8), holds (a .before .has .ensures) (a .if1 .left))
-    (simp (c .pl .ensures, b .remove .ensures, b .before .row-at .ensures, b .before .before .held-at .ensures)))
+    (simp (c .pl .ensures, b .remove .ensures, b .before .row-at .ensures, b .before .before .label-at .ensures)))
     returns-11 returns-12)

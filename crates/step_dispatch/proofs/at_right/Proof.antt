@@ -22,7 +22,7 @@ ax-returns c =
     (c .ax .ensures
     ∙ simp (
       c .before .row-at2 .ensures,
-      c .before .before .held-at .ensures,
+      c .before .before .label-at .ensures,
       c .before .before .before .before .before .before .row-at .ensures,
     ))
 

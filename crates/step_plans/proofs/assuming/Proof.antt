@@ -8,4 +8,4 @@ pub assuming-spec : {M : Type 1} → statement M
 assuming-spec =
     tie.close
     (tie.spec (λ c κs. search needs) (λ c κs. search needs)
-    (λ c. c .premise .ensures ∙ simp (c .before .held .ensures)))
+    (λ c. c .premise .ensures ∙ simp (c .before .over .ensures)))

@@ -8,4 +8,4 @@ pub both-spec : {M : Type 1} → statement M
 both-spec =
     tie.close
     (tie.spec (λ c κs. search needs) (λ c κs. search needs) (λ c κs. search needs)
-    (λ c. c .one .ensures ∙ simp (c .before .held2 .ensures, c .before .before .held .ensures)))
+    (λ c. c .one .ensures ∙ simp (c .before .over2 .ensures, c .before .before .over .ensures)))

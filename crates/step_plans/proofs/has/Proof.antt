@@ -1,7 +1,7 @@
 -- `has` meets its contract.
 use mathlib.Core.Path.{sym}
 use native.Mathlib.Omega.{arith}
-use Rattle.step_plans.proofs.Tests.{no-member}
+use Rattle.step_plans.proofs.PlanTests.{no-member}
 use borrow.Author.Needs.{needs}
 use Rattle.step_plans.proofs.has.Statement.{statement}
 use Rattle.step_plans.proofs.has.Tie as tie

@@ -7,4 +7,4 @@ use Rattle.step_plans.proofs.unrestricted.Tie as tie
 pub unrestricted-spec : {M : Type 1} → statement M
 unrestricted-spec =
     tie.close
-    (tie.spec (λ c κs. search needs) (λ c κs. search needs) (λ c. c .one .ensures ∙ simp (c .before .held .ensures)))
+    (tie.spec (λ c κs. search needs) (λ c κs. search needs) (λ c. c .one .ensures ∙ simp (c .before .over .ensures)))

@@ -26,7 +26,7 @@ returns-5 c =
 returns-6 : tie.Need-returns-6
 returns-6 c =
     let a = c .before .before .before .before in
-    simp (c .sequent2 .ensures, c .before .insert .ensures, c .before .before .put-held .ensures)
+    simp (c .sequent2 .ensures, c .before .insert .ensures, c .before .before .put-label .ensures)
     (sym (linear-begins _ _ _ _ (a .before .before .fresh .given .1) (a .if2 .left)))
 
 returns-7 : tie.Need-returns-7
@@ -36,15 +36,15 @@ returns-7 c =
       c .sequent3 .ensures,
       c .before .insert3 .ensures,
       c .before .before .insert2 .ensures,
-      c .before .before .before .put-held3 .ensures,
-      c .before .before .before .before .before .put-held2 .ensures,
+      c .before .before .before .put-label3 .ensures,
+      c .before .before .before .before .before .put-label2 .ensures,
     )
     (sym (both-begins _ _ _ _ (a .before .before .fresh2 .given .1) (a .if3 .left)))
 
 returns-8 : tie.Need-returns-8
 returns-8 c =
     let a = c .before .before .before .before in
-    simp (c .sequent4 .ensures, c .before .insert4 .ensures, c .before .before .put-held4 .ensures)
+    simp (c .sequent4 .ensures, c .before .insert4 .ensures, c .before .before .put-label4 .ensures)
     (sym (unrestricted-begins _ _ _ _ (a .before .before .fresh3 .given .1) (a .if4 .left)))
 
 pub begin-spec : {M : Type 1} → statement M

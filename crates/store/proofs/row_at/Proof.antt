@@ -5,7 +5,7 @@ use native.Mathlib.Omega.{arith}
 use borrow.Author.Needs.{needs}
 use Rattle.store_cells.specs.Layout.{lineCount}
 use denote.Ref.{now}
-use Rattle.store_cells.proofs.Rows.{row-below, row-past, row-wide}
+use Rattle.store_cells.proofs.CellWrites.{row-below, row-past, row-wide}
 use Rattle.store.proofs.row_at.Statement.{statement}
 use Rattle.store.proofs.row_at.Tie as tie
 

@@ -11,11 +11,11 @@ use Rattle.stream_sheets.proofs.copy.Statement.{statement}
 use Rattle.stream_sheets.proofs.copy.Tie as tie
 
 abbrev Inv-loop : tie.InvT-loop
-Inv-loop begun₀ held bytes i₀ begun i =
-    (i ≤ length bytes) × ((length begun ≡ most) × (take (held + i) begun ≡ take held begun₀ ++ take i bytes))
+Inv-loop begun₀ filled bytes i₀ begun i =
+    (i ≤ length bytes) × ((length begun ≡ most) × (take (filled + i) begun ≡ take filled begun₀ ++ take i bytes))
 
 abbrev μ-loop : tie.MeasureT-loop
-μ-loop begun₀ held bytes i₀ begun i = length bytes - i
+μ-loop begun₀ filled bytes i₀ begun i = length bytes - i
 
 loop-again : tie.Need-loop-again Inv-loop μ-loop
 loop-again c =
@@ -42,7 +42,7 @@ copy-spec =
     (tie.spec
     Inv-loop
     μ-loop
-    (λ c. (omega arith, (c .pre .0, copy-none (now (c .args .begun)) (c .args .held) (now (c .args .bytes)))))
+    (λ c. (omega arith, (c .pre .0, copy-none (now (c .args .begun)) (c .args .filled) (now (c .args .bytes)))))
     (λ c. omega arith)
     (λ c. omega arith)
     (λ c. omega arith)

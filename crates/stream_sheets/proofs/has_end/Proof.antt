@@ -9,7 +9,7 @@ use lib.ListN.{length, take, getD}
 use lib.Seq.{take-all}
 use borrow.Author.Needs.{needs}
 use Rattle.stream_sheets.specs.Sheets.{emptyLine}
-use Rattle.stream_sheets.proofs.Lines.{empty-first, ten-few, counted}
+use Rattle.stream_sheets.proofs.EmptyLines.{empty-first, ten-few, counted}
 use Rattle.stream_sheets.proofs.has_end.Statement.{statement}
 use Rattle.stream_sheets.proofs.has_end.Tie as tie
 

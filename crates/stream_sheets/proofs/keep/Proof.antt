@@ -14,7 +14,7 @@ slice-aggregate-copy : tie.Need-slice-aggregate-copy
 slice-aggregate-copy c =
     let test = c .before .before in
     let start = test .before .before .before in
-    sym (length-take-le (most - start .args .held) (now (start .args .bytes)) (omega (arith, test .if1 .left)))
+    sym (length-take-le (most - start .args .filled) (now (start .args .bytes)) (omega (arith, test .if1 .left)))
 
 copy-requires-2 : tie.Need-copy-requires-2
 copy-requires-2 c κs =
@@ -24,7 +24,7 @@ copy-requires-2 c κs =
       omega (
         arith,
         start .pre .1,
-        length-take-le (most - start .args .held) (now (start .args .bytes)) (omega (arith, test .if1 .left)),
+        length-take-le (most - start .args .filled) (now (start .args .bytes)) (omega (arith, test .if1 .left)),
       ),
     )
 
@@ -32,7 +32,7 @@ returns-2 : tie.Need-returns-2
 returns-2 c =
     let copied = c .before .before in
     let start = copied .before .before .before .before .before .before in
-    keep-first (most - start .args .held) _ (start .pre .0) (omega (arith, start .pre .1)) (copied .copy2 .ensures)
+    keep-first (most - start .args .filled) _ (start .pre .0) (omega (arith, start .pre .1)) (copied .copy2 .ensures)
 
 pub keep-spec : {M : Type 1} → statement M
 keep-spec =

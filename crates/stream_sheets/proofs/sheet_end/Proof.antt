@@ -7,7 +7,7 @@ use denote.Ref.{now}
 use lib.ListN.{length, take}
 use borrow.Author.Needs.{needs}
 use Rattle.stream_sheets.specs.Sheets.{emptyLine}
-use Rattle.stream_sheets.proofs.Lines.{any-before, end-first, end-at, end-on, no-end}
+use Rattle.stream_sheets.proofs.EmptyLines.{any-before, end-first, end-at, end-on, no-end}
 use Rattle.stream_sheets.proofs.sheet_end.Statement.{statement}
 use Rattle.stream_sheets.proofs.sheet_end.Tie as tie
 

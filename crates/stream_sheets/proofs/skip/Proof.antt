@@ -9,7 +9,7 @@ use lib.Seq.{length-take-le}
 use borrow.Author.Needs.{needs}
 use Rattle.stream_sheets.specs.Sheets.{emptyLine}
 use Rattle.stream_sheets.specs.Ends.{Skipped}
-use Rattle.stream_sheets.proofs.Lines.{empty-first, skip-on}
+use Rattle.stream_sheets.proofs.EmptyLines.{empty-first, skip-on}
 use Rattle.stream_sheets.proofs.skip.Statement.{statement}
 use Rattle.stream_sheets.proofs.skip.Tie as tie
 

@@ -3,7 +3,7 @@ use borrow.Author.Needs.{needs}
 use Rattle.request.specs.Text.{andThen}
 use Rattle.read_fields.specs.Field.{decimalOf}
 use Rattle.read_formulas.specs.Line.{atFields, spanOf}
-use Rattle.read_fields.proofs.Then.{told}
+use Rattle.read_fields.proofs.Then.{seen}
 use Rattle.read_formulas.proofs.formulas.at_fields.Statement.{statement}
 use Rattle.read_formulas.proofs.formulas.at_fields.Tie as tie
 
@@ -15,20 +15,20 @@ at-fields-spec =
     (λ c κs. search needs)
     (λ c. search needs)
     (λ c. search needs)
-    (λ c. simp (told (decimalOf _) (c .before .before .number .ensures) (c .enum-told .given .1)))
+    (λ c. simp (seen (decimalOf _) (c .before .before .number .ensures) (c .enum-told .given .1)))
     (λ c κs. search needs)
     (λ c. search needs)
     (λ c. search needs)
     (λ c. let d = c .before .before .before .before in
     simp (
-      told (decimalOf _) (d .before .before .number .ensures) (d .f .given .1),
-      told (spanOf _) (c .before .before .interval .ensures) (c .enum-told2 .given .1),
+      seen (decimalOf _) (d .before .before .number .ensures) (d .f .given .1),
+      seen (spanOf _) (c .before .before .interval .ensures) (c .enum-told2 .given .1),
     ))
     (λ c κs. search needs)
     (λ c. let b = c .before in
     let d = b .before .before .before .before in
     simp (
-      told (decimalOf _) (d .before .before .before .number .ensures) (d .before .f .given .1),
-      told (spanOf _) (b .before .before .before .interval .ensures) (b .before .g .given .1),
+      seen (decimalOf _) (d .before .before .before .number .ensures) (d .before .f .given .1),
+      seen (spanOf _) (b .before .before .before .interval .ensures) (b .before .g .given .1),
       c .none .ensures,
     )))

@@ -10,9 +10,10 @@ use Rattle.request.specs.Request.{Line}
 use Rattle.request.specs.Read.{part, parts, formulaLine}
 use Rattle.ledger.specs.Table.{lettered}
 use Rattle.read_formulas.specs.Line.{rowed}
-use Rattle.read_formulas.proofs.Letters.{one-row, numbers-line, at-row, superset-row}
-use Rattle.read_formulas.proofs.Letters.{letter-short, letter-fields, letter-one, letter-one-bare, letter-bare}
-use Rattle.read_formulas.proofs.Letters.{letter-other, row-told}
+use Rattle.read_formulas.proofs.FormulaLetters.{one-row, numbers-line, at-row, superset-row}
+use Rattle.read_formulas.proofs.FormulaLetters.{letter-short, letter-fields, letter-one, letter-one-bare}
+use Rattle.read_formulas.proofs.FormulaLetters.{letter-bare}
+use Rattle.read_formulas.proofs.FormulaLetters.{letter-other, row-told}
 use Rattle.read_formulas.proofs.formulas.formula_line.Statement.{statement}
 use Rattle.read_formulas.proofs.formulas.formula_line.Tie as tie
 

@@ -3,7 +3,7 @@ use borrow.Author.Needs.{needs}
 use Rattle.request.specs.Text.{andThen}
 use Rattle.read_fields.specs.Field.{decimalOf}
 use Rattle.read_formulas.specs.Line.{oneField}
-use Rattle.read_fields.proofs.Then.{told}
+use Rattle.read_fields.proofs.Then.{seen}
 use Rattle.read_formulas.proofs.formulas.one_field.Statement.{statement}
 use Rattle.read_formulas.proofs.formulas.one_field.Tie as tie
 
@@ -15,9 +15,9 @@ one-field-spec =
     (λ c κs. search needs)
     (λ c. search needs)
     (λ c. search needs)
-    (λ c. simp (told (decimalOf _) (c .before .before .number .ensures) (c .enum-told .given .1)))
+    (λ c. simp (seen (decimalOf _) (c .before .before .number .ensures) (c .enum-told .given .1)))
     (λ c κs. search needs)
     (λ c. simp (
-      told (decimalOf _) (c .before .before .before .before .number .ensures) (c .before .before .f .given .1),
+      seen (decimalOf _) (c .before .before .before .before .number .ensures) (c .before .before .f .given .1),
       c .lettered .ensures,
     )))

@@ -2,7 +2,7 @@
 use borrow.Author.Needs.{needs}
 use Rattle.request.specs.Text.{andThen}
 use Rattle.read_formulas.specs.Line.{supersetFields, spanOf}
-use Rattle.read_fields.proofs.Then.{told}
+use Rattle.read_fields.proofs.Then.{seen}
 use Rattle.read_formulas.proofs.formulas.superset_fields.Statement.{statement}
 use Rattle.read_formulas.proofs.formulas.superset_fields.Tie as tie
 
@@ -14,17 +14,17 @@ superset-fields-spec =
     (λ c κs. search needs)
     (λ c. search needs)
     (λ c. search needs)
-    (λ c. simp (told (spanOf _) (c .before .before .interval .ensures) (c .enum-told .given .1)))
+    (λ c. simp (seen (spanOf _) (c .before .before .interval .ensures) (c .enum-told .given .1)))
     (λ c κs. search needs)
     (λ c. search needs)
     (λ c. search needs)
     (λ c. let d = c .before .before .before .before in
     simp (
-      told (spanOf _) (d .before .before .interval .ensures) (d .f .given .1),
-      told (spanOf _) (c .before .before .interval2 .ensures) (c .enum-told2 .given .1),
+      seen (spanOf _) (d .before .before .interval .ensures) (d .f .given .1),
+      seen (spanOf _) (c .before .before .interval2 .ensures) (c .enum-told2 .given .1),
     ))
     (λ c. let d = c .before .before .before .before in
     simp (
-      told (spanOf _) (d .before .before .before .interval .ensures) (d .before .f .given .1),
-      told (spanOf _) (c .before .before .before .interval2 .ensures) (c .before .g .given .1),
+      seen (spanOf _) (d .before .before .before .interval .ensures) (d .before .f .given .1),
+      seen (spanOf _) (c .before .before .before .interval2 .ensures) (c .before .g .given .1),
     )))

@@ -1,6 +1,6 @@
 -- `put_step` meets its contract.
 use native.Mathlib.Numerals.{add-one, add-two, add-three, add-four, add-five}
-use Rattle.step_rows.specs.Lines.{putStepRow}
+use Rattle.step_rows.specs.StepRows.{putStepRow}
 use borrow.Author.Needs.{needs}
 use Rattle.step_rows.proofs.lines.put_step.Statement.{statement}
 use Rattle.step_rows.proofs.lines.put_step.Tie as tie

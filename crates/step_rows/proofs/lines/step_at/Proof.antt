@@ -1,5 +1,5 @@
 -- `step_at` meets its contract.
-use Rattle.step_rows.specs.Lines.{stepRowAt}
+use Rattle.step_rows.specs.StepRows.{stepRowAt}
 use borrow.Author.Needs.{needs}
 use Rattle.step_rows.proofs.lines.step_at.Statement.{statement}
 use Rattle.step_rows.proofs.lines.step_at.Tie as tie
