@@ -140,7 +140,8 @@ known t t′ h h′ cs n l g = every-map (λ c q. record {
   given = ap (λ (f : ℕ → Option Given). f (c .serial)) g ∙ q .given;
   below = omega (arith, q .below);
   there = omega (arith, q .there, ap length l);
-  fits = subst (λ (ls : List Line). FitsKind (c .kind) (formula (record { lines = ls; live = []; next = 0 }) (c .formula)))
+  fits = subst
+      (λ (ls : List Line). FitsKind (c .kind) (formula (record { lines = ls; live = []; next = 0 }) (c .formula)))
       (sym l) (q .fits);
 }) cs
 

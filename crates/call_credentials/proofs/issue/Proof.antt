@@ -59,7 +59,8 @@ issue-checked-requires c κs =
     record {
       good = present there .pre;
       there = by-verdict (there .before .before .check-present .ensures) (there .enum-told3 .given .1);
-      so-far = past-10 there .1 ▸ shown (issuable .before .before .check-issuable .ensures) (issuable .enum-told5 .given .1);
+      so-far = past-10 there .1
+          ▸ shown (issuable .before .before .check-issuable .ensures) (issuable .enum-told5 .given .1);
     }
 
 pub issue-spec : {M : Type 1} → statement M
