@@ -11,7 +11,7 @@ use lib.Dec.{eqb, leb, ltb}
 use lib.ListN.{length, drop, length-drop}
 use borrow.Author.Tests.{ne-eqb, eqb-true, eqb-false, le-leb, lt-leb, ltb-true, ltb-false}
 use Rattle.logic.proofs.Tests.{no-truth}
-use Rattle.request.specs.Text.{andThen, reads, hexDigit, labelSetIn}
+use Rattle.request.specs.Text.{andThen, reads, hexFirst, hexLast, hexShift, hexDigit, labelSetIn}
 use Rattle.read_fields.specs.Field.{DigitRead, Stop, fieldTo, setIn}
 use Rattle.read_fields.proofs.Then.{by-test}
 use Rattle.read_fields.proofs.Decimals.{digit-range}
@@ -30,31 +30,31 @@ hex-number v x e =
       value = refl;
     }
 
-pub letter-range : (x : ℕ) → (ltb x 97 || ltb 102 x) ≡ false → (97 ≤ x) × (x ≤ 102)
+pub letter-range : (x : ℕ) → (ltb x hexFirst || ltb hexLast x) ≡ false → (hexFirst ≤ x) × (x ≤ hexLast)
 letter-range x e =
-    by-test (ltb x 97) (λ h. absurd (no-truth (sym (rw h at e))))
-    (λ h. (ltb-false x 97 h, ltb-false 102 x (rw h at e)))
+    by-test (ltb x hexFirst) (λ h. absurd (no-truth (sym (rw h at e))))
+    (λ h. (ltb-false x hexFirst h, ltb-false hexLast x (rw h at e)))
 
-pub hex-letter : (v x : ℕ) → (ltb x 97 || ltb 102 x) ≡ false → DigitRead v x (v * 16 + (x - 87))
+pub hex-letter : (v x : ℕ) → (ltb x hexFirst || ltb hexLast x) ≡ false → DigitRead v x (v * 16 + (x - hexShift))
 unfolding hexDigit
 hex-letter v x e =
     let r = letter-range x e in
     record {
-      digit = x - 87;
+      digit = x - hexShift;
       is = rw (
         le-leb 48 x (omega (arith, r)),
         lt-leb x 57 (omega (arith, r)),
-        le-leb 97 x (r .0),
-        le-leb x 102 (r .1),
+        le-leb hexFirst x (r .0),
+        le-leb x hexLast (r .1),
         hexDigit,
       );
       below = omega (arith, r);
       value = refl;
     }
 
-pub hex-none : (x : ℕ) → (ltb x 48 || ltb 57 x) ≡ true → (ltb x 97 || ltb 102 x) ≡ true → hexDigit x ≡ none
+pub hex-none : (x : ℕ) → (ltb x 48 || ltb 57 x) ≡ true → (ltb x hexFirst || ltb hexLast x) ≡ true → hexDigit x ≡ none
 unfolding hexDigit
-hex-none x e f = rw (range 48 57 x e, range 97 102 x f, hexDigit)
+hex-none x e f = rw (range 48 57 x e, range hexFirst hexLast x f, hexDigit)
   where
     range : (a b x : ℕ) → (ltb x a || ltb b x) ≡ true → (leb a x && leb x b) ≡ false
     range a b x e =

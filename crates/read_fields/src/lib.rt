@@ -7,6 +7,13 @@ ghost use Rattle.request.specs.Text.{numberIn, labelSetIn};
 ghost use Rattle.read_fields.specs.Field.{Stop, NumberAsked, fieldTo, strip, moreIn, decimalOf};
 ghost use Rattle.read_fields.specs.Field.{DigitsAre, labelsOf, pastOf};
 
+// The letters of hexadecimal digits, and how far above their value they stand.
+const HEX_FIRST: u8 = b'a';
+
+const HEX_LAST: u8 = b'f';
+
+const HEX_SHIFT: u8 = HEX_FIRST - 10;
+
 // A number of a range and the position after the byte that ends it.
 pub enum Decimal {
     Number(u32, u32),
@@ -93,10 +100,10 @@ fn with_digit(v: u64, b: u8) -> Digits
     ensures { λ r. ⌜ DigitsAre v b r ⌝ }
 {
     if (b < 48) | (57 < b) {
-        if (b < 97) | (102 < b) {
+        if (b < HEX_FIRST) | (HEX_LAST < b) {
             return Digits::Broken;
         }
-        return Digits::Value(v * 16 + (b - 87) as u64);
+        return Digits::Value(v * 16 + (b - HEX_SHIFT) as u64);
     }
     Digits::Value(v * 16 + (b - 48) as u64)
 }
