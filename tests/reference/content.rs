@@ -73,6 +73,13 @@ impl Content {
         self.shares().iter().all(|share| share.weight == 0)
     }
 
+    /// The sessions whose weight is not 0, rising, and their weights.
+    pub fn weights(&self) -> impl Iterator<Item = (u16, i8)> + '_ {
+        let heavy = self.shares().iter().filter(|share| share.weight != 0);
+        heavy.map(|share| (share.session, share.weight))
+    }
+
+    /// Seats and places of a session.
     pub fn atoms(&self, session: u16) -> Atoms {
         // most formulas have one session
         if self.shares[0].session == session {
