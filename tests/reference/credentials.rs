@@ -97,6 +97,7 @@ impl Credentials {
         let (mut seats, mut open, mut placed) = (0, 0, 0);
         for credential in self.live[..self.count].iter().filter(|credential| credential.linear) {
             let found = atoms[credential.formula as usize];
+            // most have nothing of the session
             if found == NO_ATOMS {
                 continue;
             }

@@ -7,9 +7,10 @@ use super::refusal;
 pub const MAX_FORMULAS: usize = 200;
 const MAX_SIZE: u32 = 64;
 
-/// A set of formulas, by number.
+/// A set of formulas: bit n % 64 of word n / 64 stands for formula n.
 type Set = [u64; SET_WORDS];
 const SET_WORDS: usize = MAX_FORMULAS.div_ceil(64);
+/// Sessions fall into so many groups, by their remainder.
 const GROUPS: usize = 64;
 
 /// What is known of one formula besides its line.
@@ -31,8 +32,8 @@ pub struct Formulas {
     lines: [Formula; MAX_FORMULAS],
     facts: [Facts; MAX_FORMULAS],
     contents: [Content; MAX_FORMULAS],
-    /// For each remainder by `GROUPS`, the formulas in which a session with that remainder stands.
-    /// A tally asks for one session, and need not look into the others.
+    /// For each group of sessions the formulas in which one of them stands; a tally of one session
+    /// looks into these alone.
     groups: [Set; GROUPS],
 }
 

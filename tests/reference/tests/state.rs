@@ -383,6 +383,105 @@ fn live_serials_are_found_as_in_a_plain_list() {
     }
 }
 
+/// Sessions of the random wordings below.
+const SESSIONS: [u32; 7] = [0, 7, 255, 263, 32_767, 65_279, 65_535];
+
+/// A wording line as letter and numbers, for the plain recursions below.
+type Line = (char, usize, usize);
+
+/// The weight for a session, read from the paper's sentence.
+fn weight(lines: &[Line], id: usize, session: usize) -> i32 {
+    let (letter, i, j) = lines[id];
+    let part = |part| weight(lines, part, session);
+    match letter {
+        'a' => i32::from((i == 1 || i == 2) && j == session),
+        't' => part(i) + part(j),
+        'w' | 'p' => part(i),
+        'l' => part(j) - part(i),
+        'u' => part(j),
+        'b' => part(i),
+        _ => part(j),
+    }
+}
+
+/// "In every part, itself included", for a session.
+fn even(lines: &[Line], id: usize, session: usize) -> bool {
+    let (letter, i, j) = lines[id];
+    let weigh = |part| weight(lines, part, session);
+    match letter {
+        'a' => true,
+        'b' => weigh(i) == 0 && even(lines, i, session),
+        's' => even(lines, j, session),
+        _ => {
+            let itself = match letter {
+                'w' | 'p' => weigh(i) == weigh(j),
+                'u' => weigh(i) == 0,
+                _ => true,
+            };
+            itself && even(lines, i, session) && even(lines, j, session)
+        }
+    }
+}
+
+/// How many atoms of a predicate and session stand in a wording.
+fn count(lines: &[Line], id: usize, predicate: usize, session: usize) -> u32 {
+    let (letter, i, j) = lines[id];
+    match letter {
+        'a' => u32::from(i == predicate && j == session),
+        'b' => count(lines, i, predicate, session),
+        's' => count(lines, j, predicate, session),
+        _ => count(lines, i, predicate, session) + count(lines, j, predicate, session),
+    }
+}
+
+/// Adds a random line if the till takes it.
+fn grow(till: &mut Till, lines: &mut Vec<Line>, numbers: &mut Numbers) {
+    let letter = ['a', 't', 'w', 'p', 'l', 'u', 'b', 's', 't', 'l'][numbers.below(10)];
+    let count = lines.len();
+    let line = match letter {
+        'a' => (letter, numbers.below(4), SESSIONS[numbers.below(SESSIONS.len())] as usize),
+        _ if count == 0 => return,
+        's' => (letter, numbers.below(256), numbers.below(count)),
+        _ => (letter, numbers.below(count), numbers.below(count)),
+    };
+    let (_, i, j) = line;
+    let text = if letter == 'b' { format!("word,b,{i}") } else { format!("word,{letter},{i},{j}") };
+    if let Done(number) = ask(till, &text) {
+        assert_eq!(number as usize, count);
+        lines.push(line);
+    }
+}
+
+#[test]
+fn balance_and_tally_are_those_of_a_plain_recursion() {
+    let mut numbers = Numbers(1);
+    for _ in 0..300 {
+        let (mut till, mut lines) = (Till::new(), Vec::new());
+        for _ in 0..150 {
+            grow(&mut till, &mut lines, &mut numbers);
+        }
+        let mut singles = Vec::new();
+        for id in 0..lines.len() {
+            let all = |holds: fn(&[Line], usize, usize) -> bool| {
+                SESSIONS.iter().all(|&session| holds(&lines, id, session as usize))
+            };
+            let balanced = all(even) && all(|lines, id, session| weight(lines, id, session) == 0);
+            let accepted = matches!(ask(&mut till, &format!("issue,r,{id},0,9")), Done(_));
+            assert_eq!(accepted, balanced, "{id} of {lines:?}");
+            if matches!(ask(&mut till, &format!("issue,s,{id},0,9")), Done(_)) {
+                singles.push(id);
+            }
+        }
+        for session in SESSIONS {
+            let sum = |predicate| {
+                singles.iter().map(|&id| count(&lines, id, predicate, session as usize)).sum::<u32>()
+            };
+            assert_eq!(ask(&mut till, &format!("tally,{session},0")), Counted(sum(1), 0, sum(2)));
+            assert_eq!(ask(&mut till, &format!("tally,{session},10")), Counted(0, sum(1), sum(2)));
+        }
+    }
+}
+
 #[test]
 fn no_bytes_make_the_call_panic() {
     let steps = "cp,0\nll,3,0000000000000006,540,600\ntr,0000000000000002\nsr\nsl,1\naf\n".to_string()
