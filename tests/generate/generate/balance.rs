@@ -21,7 +21,7 @@ fn offer(desk: &mut Desk, part: &Part, good: bool, name: &str) {
     desk.expect(format!("issue,r,{n},0,9\n").as_bytes(), answer, &[mark]);
 }
 
-/// The last sheet offered this wording at random; does it name two sessions alike?
+/// Marks the last sheet, which offered this wording, where a byte could not tell whether it is balanced.
 fn mark_alike(desk: &mut Desk, part: &Part) {
     let by_a_byte = part.renumbered(&|s| s % 256).balanced();
     if part.names_alike() && by_a_byte {

@@ -105,37 +105,34 @@ fn m1(session: u32) -> Session {
     desk.session("tour: M1", 0)
 }
 
-/// Two hundred sessions in one till, from the first on by equal steps: a seat or a place, one to four coupons each.
+/// A seat's session or a place's, by turns, with so many live ones.
+fn counted(k: usize, live: u32) -> String {
+    if k.is_multiple_of(2) { format!("ok,{live},0,0") } else { format!("ok,0,0,{live}") }
+}
+
+/// Two hundred sessions in one till, from the first on by equal steps, one to four coupons each.
 fn straight(first: u32, step: u32, mark: &'static str) -> Session {
     let mut desk = Desk::new();
-    let session = |k: u32| first + k * step;
+    let session = |k: usize| first + k as u32 * step;
+    let (mut live, mut firsts) = ([0; 200], [0; 200]);
     for k in 0..200 {
         desk.words(&[&format!("a,{},{}", 1 + k % 2, session(k))]);
-    }
-    let mut counts = [0; 200];
-    let mut firsts = vec![];
-    for k in 0..200 {
-        firsts.push(desk.model.given + 1);
-        for _ in 0..=k % 4 {
-            counts[k as usize] += 1;
-            let serial = desk.model.given + 1;
+        firsts[k] = desk.model.given + 1;
+        live[k] = 1 + k as u32 % 4;
+        for serial in firsts[k]..firsts[k] + live[k] {
             desk.script(&format!("issue,s,{k},0,9"), &format!("ok,{serial}"), "");
         }
+        desk.script(&format!("tally,{},9", session(k)), &counted(k, live[k]), mark);
     }
-    let tallies = |desk: &mut Desk, counts: &[u32]| {
-        for (k, n) in counts.iter().enumerate() {
-            let figures = if k % 2 == 0 { format!("ok,{n},0,0") } else { format!("ok,0,0,{n}") };
-            desk.script(&format!("tally,{},9", session(k as u32)), &figures, mark);
-        }
-    };
-    tallies(&mut desk, &counts);
     for k in (0..200).step_by(3) {
         desk.script(&format!("withdraw,{}", firsts[k]), &format!("ok,{}", firsts[k]), "");
-        counts[k] -= 1;
+        live[k] -= 1;
     }
-    tallies(&mut desk, &counts);
-    let taken = |s: u32| (0..200).any(|k| session(k) == s);
-    for other in (first % 256..=LAST_SESSION).step_by(256).filter(|s| !taken(*s)) {
+    for k in 0..200 {
+        desk.script(&format!("tally,{},9", session(k)), &counted(k, live[k]), mark);
+    }
+    let named = |s: u32| (0..200).any(|k| session(k) == s);
+    for other in (first % 256..=LAST_SESSION).step_by(256).filter(|s| !named(*s)) {
         desk.script(&format!("tally,{other},9"), "ok,0,0,0", mark);
     }
     desk.session("tour: straight through", 0)
