@@ -15,7 +15,9 @@ fn same_row(x: Row, y: Row) -> bool
     ensures { λ r. ⌜ r ≡ sameRow x y ⌝ }
 {
     if (x.letter == y.letter) & ((x.a == y.a) & (x.b == y.b)) {
-        return intervals::same(x.first, y.first) & intervals::same(x.second, y.second);
+        if intervals::same(x.first, y.first) {
+            return intervals::same(x.second, y.second);
+        }
     }
     false
 }

@@ -1,5 +1,5 @@
--- `same_row` meets its contract: what is left of `sameRow` where the letters and numbers are equal, or are not.
-use mathlib.Core.Path.{_≡_, refl, sym, ap₂, _∙_}
+-- `same_row` meets its contract: what is left of `sameRow` after each test.
+use mathlib.Core.Path.{_≡_, refl, sym, _∙_}
 use mathlib.Core.Bool.{Bool, true, false, _&&_, and-assoc}
 use borrow.Author.Needs.{needs}
 use lib.Dec.{eqb}
@@ -13,24 +13,35 @@ module _ (x y : Row) where
   abbrev heads : Bool
   heads = eqb (x .letter) (y .letter) && (eqb (x .a) (y .a) && eqb (x .b) (y .b))
 
-  abbrev tails : Bool
-  tails = sameInterval (x .first) (y .first) && sameInterval (x .second) (y .second)
+  abbrev firsts : Bool
+  firsts = sameInterval (x .first) (y .first)
 
-  in-two : sameRow x y ≡ (heads && tails)
+  abbrev seconds : Bool
+  seconds = sameInterval (x .second) (y .second)
+
+  in-three : sameRow x y ≡ (heads && (firsts && seconds))
   unfolding sameRow
-  in-two = sym (rw (and-assoc, and-assoc) refl)
+  in-three = sym (rw (and-assoc, and-assoc) refl)
 
-  heads-same : heads ≡ true → tails ≡ sameRow x y
-  heads-same e = sym (in-two ∙ rw e)
+  all-same : heads ≡ true → firsts ≡ true → seconds ≡ sameRow x y
+  all-same e f = sym (in-three ∙ rw (e, f))
+
+  firsts-differ : heads ≡ true → firsts ≡ false → false ≡ sameRow x y
+  firsts-differ e f = sym (in-three ∙ rw (e, f))
 
   heads-differ : heads ≡ false → false ≡ sameRow x y
-  heads-differ e = sym (in-two ∙ rw e)
+  heads-differ e = sym (in-three ∙ rw e)
 
 returns : tie.Need-returns
-returns c = ap₂ _&&_ (c .before .same .ensures) (c .same2 .ensures) ∙ heads-same _ _ (c .before .before .if1 .taken)
+returns c =
+    let b = c .before .before in
+    c .same2 .ensures ∙ all-same _ _ (b .before .if1 .taken) (sym (b .same .ensures) ∙ c .before .if2 .taken)
 
 returns-2 : tie.Need-returns-2
-returns-2 c = heads-differ _ _ (c .if1 .left)
+returns-2 c = firsts-differ _ _ (c .before .before .if1 .taken) (sym (c .before .same .ensures) ∙ c .if2 .left)
+
+returns-3 : tie.Need-returns-3
+returns-3 c = heads-differ _ _ (c .if1 .left)
 
 pub same-row-spec : {M : Type 1} → statement M
-same-row-spec = tie.close (tie.spec (λ c κs. search needs) (λ c κs. search needs) returns returns-2)
+same-row-spec = tie.close (tie.spec (λ c κs. search needs) (λ c κs. search needs) returns returns-2 returns-3)
