@@ -25,7 +25,7 @@ use Rattle.request.proofs.Fields.{formula-exact, session-exact, holds-e
 use Rattle.request.proofs.Fields.{minute-exact, interval-exact, kind-exact}
 use Rattle.request.proofs.LineReaders.{formula-line-exact, step-line-exact, hold-line-exact}
 
--- The first line: at most 40 bytes
+-- The first line: at most 71 bytes, a booking's at most 56
 
 abbrev HeadInRange : Head → Type 0
 HeadInRange (alone (word l)) = InRange (word l)
@@ -45,7 +45,7 @@ headTexts : Head → Texts
 headTexts (alone r) = headFields r
 headTexts (booking now n i h k) = bookFields now n i h k
 
-head-reads : (h : Head) → HeadInRange h → Reads 48 firstLine h (headTexts h) 40
+head-reads : (h : Head) → HeadInRange h → Reads 48 firstLine h (headTexts h) 71
 unfolding firstLine headTexts headFields bookFields bookLine bytes sameBytes choose named allOf
 head-reads (alone (word l)) h = one-reads formula-line-exact _ "word" l h refl (λ us. refl)
 head-reads (alone (issue k n i)) h =
@@ -60,7 +60,7 @@ head-reads (booking now n i h k) r =
     (reads-then _ (formula-exact .reads n (r .formula)) (reads-then _ (interval-exact .reads i (r .interval))
     (reads-then _ (holds-exact .reads h (r .holdCount)) (reads-last _ (steps-exact .reads k (r .stepCount)))))))
 
-head-exact : Exact 48 firstLine HeadInRange headTexts 40
+head-exact : Exact 48 firstLine HeadInRange headTexts 71
 unfolding firstLine headTexts headFields bookFields bookLine minutes
 head-exact = record {
   reads = head-reads;
@@ -78,7 +78,7 @@ head-exact = record {
 
 -- All lines
 
-head-line : Exact 44 (line firstLine) HeadInRange (λ h. joined (headTexts h) ∷ []) 40
+head-line : Exact 44 (line firstLine) HeadInRange (λ h. joined (headTexts h) ∷ []) 71
 unfolding firstLine choose
 head-line = line-exact refl head-exact
 
@@ -86,7 +86,7 @@ hold-line : Exact 44 (line holdLine) (λ n. n inRange serial) (λ n. joined (hol
 unfolding holdLine choose
 hold-line = line-exact refl hold-line-exact
 
-step-line : Exact 44 (line stepLine) StepInRange (λ s. joined (stepFields s) ∷ []) 39
+step-line : Exact 44 (line stepLine) StepInRange (λ s. joined (stepFields s) ∷ []) 55
 unfolding stepLine choose
 step-line = line-exact refl step-line-exact
 
