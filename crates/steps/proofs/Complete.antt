@@ -79,7 +79,7 @@ set-in : (s : ℕ) → s < 2 ^ maxLabels → LabelSet s
 unfolding maxLabels
 set-in s l = l
 
-interval-in : (j : Interval) → WellFormed j → j .to ≤ minute .last → IntervalInRange j
+pub interval-in : (j : Interval) → WellFormed j → j .to ≤ minute .last → IntervalInRange j
 interval-in j w l =
     let b = break-within j w in
     record {
