@@ -1,15 +1,15 @@
--- `put_line` meets its contract: ten stores are the row.
+-- `put_line` meets its contract: fourteen stores are the row.
 use native.Mathlib.Numerals.{towards-suc}
 use Rattle.store_cells.specs.Layout.{putRow, putLine}
 use borrow.Author.Needs.{needs}
-use Rattle.store_cells.proofs.Cells.{add-nine}
+use Rattle.store_cells.proofs.Cells.{past-eight}
 use Rattle.store_cells.proofs.lines.put_line.Statement.{statement}
 use Rattle.store_cells.proofs.lines.put_line.Tie as tie
 
 returns : tie.Need-returns
 unfolding putLine putRow
 returns c =
-    rw (c .before .before .before .bit-of .ensures, c .before .before .bit-of2 .ensures) (simp (towards-suc, add-nine))
+    rw (c .before .before .before .bit-of .ensures, c .before .before .bit-of2 .ensures) (simp (towards-suc, past-eight))
 
 pub put-line-spec : {M : Type 1} → statement M
 put-line-spec =
@@ -20,4 +20,7 @@ put-line-spec =
     (λ c. search needs) (λ c. search needs) (λ c. search needs) (λ c. search needs) (λ c. search needs)
     (λ c. search needs) (λ c. search needs) (λ c. search needs) (λ c. search needs) (λ c. search needs)
     (λ c. search needs) (λ c. search needs) (λ c. search needs) (λ c. search needs) (λ c. search needs)
-    (λ c. search needs) (λ c. search needs) (λ c. search needs) (λ c. search needs) returns)
+    (λ c. search needs) (λ c. search needs) (λ c. search needs) (λ c. search needs) (λ c. search needs)
+    (λ c. search needs) (λ c. search needs) (λ c. search needs) (λ c. search needs) (λ c. search needs)
+    (λ c. search needs) (λ c. search needs) (λ c. search needs) (λ c. search needs) (λ c. search needs)
+    (λ c. search needs) returns)
