@@ -11,19 +11,19 @@ use Rattle.store_cells.specs.Layout.{cell, putRow}
 use Rattle.logic.proofs.Stores.{sets-below, sets-above, sets-in}
 
 -- the cells of a row past those that `towards-suc` counts up to
-add-nine : (n : ℕ) → n + 9 ≡ suc (n + 8)
+pub add-nine : (n : ℕ) → n + 9 ≡ suc (n + 8)
 add-nine n = add-suc n 8
 
-add-ten : (n : ℕ) → n + 10 ≡ suc (n + 9)
+pub add-ten : (n : ℕ) → n + 10 ≡ suc (n + 9)
 add-ten n = add-suc n 9
 
-add-eleven : (n : ℕ) → n + 11 ≡ suc (n + 10)
+pub add-eleven : (n : ℕ) → n + 11 ≡ suc (n + 10)
 add-eleven n = add-suc n 10
 
-add-twelve : (n : ℕ) → n + 12 ≡ suc (n + 11)
+pub add-twelve : (n : ℕ) → n + 12 ≡ suc (n + 11)
 add-twelve n = add-suc n 11
 
-add-thirteen : (n : ℕ) → n + 13 ≡ suc (n + 12)
+pub add-thirteen : (n : ℕ) → n + 13 ≡ suc (n + 12)
 add-thirteen n = add-suc n 12
 
 pub ruleset past-eight = (add-nine, add-ten, add-eleven, add-twelve, add-thirteen)
