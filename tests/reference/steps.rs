@@ -90,7 +90,7 @@ pub struct Checker<'a> {
 
 impl<'a> Checker<'a> {
     pub fn new(formulas: &'a Formulas, steps: &'a [Step]) -> Checker<'a> {
-        let nothing = Hypothesis { formula: 0, interval: Interval { from: 0, to: 0 } };
+        let nothing = Hypothesis { formula: 0, interval: Interval::ZERO };
         Checker { formulas, steps, read: 0, hypotheses: [nothing; MAX_LABELS], taken: 0 }
     }
 
