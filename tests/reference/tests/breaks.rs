@@ -436,6 +436,26 @@ fn every_rule_goes_by_the_set_for_all_windows_of_seven_minutes() {
 }
 
 #[test]
+fn the_part_of_sl_keeps_the_break() {
+    let all = windows(6);
+    let mut till = till_after(&[&WORDS[..], &["word,s,1,3", "word,s,1,1"]].concat());
+    for &one in &all {
+        for &other in &all {
+            // ⟨1⟩(P ⊸ Q) at one gives P ⊸ Q there, used at the other; Q at that closes the goal ⟨1⟩Q at one
+            let share = format!("ll,3,0000000000000000,{}", fields(other));
+            let steps = ["cp,1", "sr", "sl,2", &share, "cp,0", "ax,4", "af", "ax,5"];
+            let coupons = ["r,0,0,6,0,0".to_string(), format!("r,9,{}", fields(one))];
+            let wanted = match (includes(one, other), one == other) {
+                (false, _) => Some((40, 4)),
+                (true, false) => Some((40, 8)),
+                (true, true) => None,
+            };
+            assert_eq!(try_out(&mut till, &coupons, 10, one, &steps), wanted, "{one:?} {other:?}");
+        }
+    }
+}
+
+#[test]
 fn gr_goes_by_the_set() {
     let all = windows(6);
     let share = "ll,1,0000000000000000,0,0,0,0";
