@@ -84,7 +84,7 @@ fn refusal_2_for_any_broken_form() {
         "issue,s,0,0,9,,0", "issue,s,0,0,9,00,0", "issue,s,0,0,9,0,00", "issue,s,0,0,9,03,4",
         "issue,s,0,0,9,0,0\n", "withdraw", "withdraw,", "withdraw,1,1", "withdraw,01", "tally,7",
         "tally,7,540,", "tally,7,540,1", "tally,7,540\ntally,7,540", "hold,1", "ax,0", "book",
-        "books,0,0,0,0,0,0,0,1\nor", "", "ok,0",
+        "books,0,0,0,0,0,0,0,1\nor", "", "ok,0", "\0word,a,1,7", "word,a,1,7\0",
     ];
     for sheet in broken {
         assert_eq!(after(&["word,o"], sheet), Refused(2, 0), "{sheet}");
