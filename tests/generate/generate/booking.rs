@@ -71,7 +71,7 @@ pub fn place(desk: &mut Desk, deriv: Deriv, holds: Vec<Hold>, now: u32) -> Optio
 impl Booking {
     pub fn sheet(&self, serials: &[u32], steps: &[String]) -> Vec<u8> {
         let (w, h, n) = (self.window, serials.len(), steps.len());
-        let mut text = format!("book,{},{},{},{},{h},{n}\n", self.now, self.goal, w.from, w.to);
+        let mut text = format!("book,{},{},{},{h},{n}\n", self.now, self.goal, w.text());
         serials.iter().for_each(|s| text += &format!("hold,{s}\n"));
         steps.iter().for_each(|s| text += &format!("{s}\n"));
         text.into_bytes()

@@ -23,7 +23,7 @@ pub struct Session {
 pub struct Desk {
     pub model: Model,
     pub cases: Vec<Case>,
-    /// Set once an answer is unknown: from then on only checks 1 to 3 are known.
+    /// Set once an answer is unknown: from then on only checks 1 to 3 and 43 are known.
     lost: bool,
 }
 
@@ -97,10 +97,10 @@ impl Desk {
         match &**part {
             Wording::Atom(p, s) => format!("a,{p},{s}"),
             Wording::One => "o".to_string(),
-            Wording::At(a, w) => format!("h,{},{},{}", number(a), w.from, w.to),
+            Wording::At(a, w) => format!("h,{},{}", number(a), w.text()),
             Wording::Says(k, a) => format!("s,{k},{}", number(a)),
             Wording::Bang(a) => format!("b,{}", number(a)),
-            Wording::Covers(o, i) => format!("g,{},{},{},{}", o.from, o.to, i.from, i.to),
+            Wording::Covers(o, i) => format!("g,{},{}", o.text(), i.text()),
             other => {
                 let p = other.parts();
                 format!("{},{},{}", other.letter(), number(&p[0]), number(&p[1]))
@@ -127,7 +127,7 @@ impl Desk {
         let n = self.enter(part);
         let serial = self.model.given + 1;
         let letter = if kind == Kind::Single { 's' } else { 'r' };
-        let sheet = format!("issue,{letter},{n},{},{}\n", w.from, w.to);
+        let sheet = format!("issue,{letter},{n},{}\n", w.text());
         self.expect(sheet.as_bytes(), Answer::Done(serial), &[]);
         serial
     }
