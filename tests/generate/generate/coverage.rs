@@ -47,7 +47,7 @@ fn required(long: bool) -> Vec<(&'static str, Vec<String>)> {
         ("faults found later", all(&later.concat())),
         ("every step on every connective", all(&matrix::MATRIX)),
         ("label 64", all(&late::WANTS_64)),
-        ("windows", all(&spans::SPANS)),
+        ("windows", all(&[&spans::SPANS[..], &spans::NEW_COUPON].concat())),
         ("balance", all(&balance::BALANCE)),
         ("limits of the till", all(&capacity::CAPACITY)),
         ("ranges", all(&[&ranges::RANGES[..], &ranges::BACKWARD, &MORE].concat())),
