@@ -11,11 +11,13 @@ pub mod derivation;
 pub mod drills;
 pub mod form;
 pub mod full;
+pub mod grid;
 pub mod grow;
 pub mod late;
 pub mod life;
 pub mod long;
 pub mod matrix;
+pub mod midday;
 pub mod model;
 pub mod pairs;
 pub mod papers;
@@ -63,11 +65,15 @@ fn fixed(seed: u64, seen: &mut Seen) -> Vec<Session> {
     all.extend(ranges::sessions(seed));
     all.extend(pairs::sessions(seed));
     all.extend(tour::sessions());
+    all.extend(midday::sessions());
+    all.extend(grid::sessions());
     all.push(full::session(seed));
     all.extend([life::fixed(), life::many(seed), life::session(seed, 120), balance::random(seed)]);
     all.extend(spans::sessions(seed));
     all.extend([damage::fixed(seed), damage::calls(seed), damage::random(seed)]);
-    all.extend(drills::DRILLS.iter().map(|letters| drills::session(letters, seed, seen)));
+    for paused in [false, true] {
+        all.extend(drills::DRILLS.iter().map(|letters| drills::session(letters, paused, seed, seen)));
+    }
     all
 }
 
