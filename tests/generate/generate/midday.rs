@@ -1,5 +1,5 @@
-//! Document 02, ask 2: windows with a break, refusal 43 in every place, what comes before it, now and tally about a break,
-//! and breaks at the ends of the range.
+//! Document 02, ask 2: windows with a break. Refusal 43 in every place, what comes before it, now and tally about a
+//! break, and breaks at the ends of the range.
 
 use super::model::Steps;
 use super::papers;
@@ -95,7 +95,8 @@ const BAD_FIELDS: [(usize, &str); 36] = [
     (0, "0,9"), (0, "9,0"), (0, "3,9"), (1, "0,9,0"), (1, "0,9,5"), (1, "9,0,0"), (2, "0,9,0,0,0"), (2, "0,9,4,5,0"),
     (2, "0,9,4,5,6,7"), (2, "9,0,5,0,0"), (2, "0,9,0,0,"), (3, "10000000,9,0,0"), (3, "10000000,9999999,0,5"),
     (4, "0,10000000,0,0"), (4, "5,4294967305,5,0"), (5, "0,9,10000000,0"), (5, "0,9,10000000,5"),
-    (5, "9,0,10000000,10000000"), (5, "0,9,4294967300,5"), (5, "0,9,18446744073709551620,5"), (5, "0,9999999,99999990,5"),
+    (5, "9,0,10000000,10000000"), (5, "0,9,4294967300,5"), (5, "0,9,18446744073709551620,5"),
+    (5, "0,9999999,99999990,5"),
     (6, "0,9,0,10000000"), (6, "0,9,5,10000000"), (6, "0,9,4,4294967301"), (6, "0,9,4,18446744073709551621"),
     (6, "0,9999999,4,99999990"), (7, "0,9,,"), (7, "0,9,,5"), (7, "0,9,4,"), (7, "0,9,-4,5"), (7, "0,9,4,+5"),
     (7, "0,9,4, 5"), (7, "0,9,4,x"), (8, "0,9,00,0"), (8, "0,9,0,00"), (8, "0,9,04,05"),
@@ -227,13 +228,14 @@ fn now() -> Session {
     desk.session("midday: now", 0)
 }
 
-pub const TALLY: [&str; 4] =
-    ["tally: every minute about breaks", "tally: largest break", "tally: after a booking", "tally: breaks that overlap"];
+pub const TALLY: [&str; 4] = [
+    "tally: every minute about a break", "tally: largest break", "tally: after a booking", "tally: many breaks",
+];
 
 /// Seats and places by their own minutes: wordings 0 a seat, 1 a place, 2 two seats, 3 seat and place, 4 ⟨1⟩ seat.
 const COUNTED: [(u32, (u32, u32, u32, u32)); 9] = [
-    (0, (0, 9, 4, 6)), (2, (0, 9, 5, 5)), (0, (2, 8, 0, 0)), (3, (3, 12, 7, 10)), (1, (0, 9, 4, 6)), (4, (0, 13, 1, 12)),
-    (2, (4, 6, 5, 5)), (0, (5, 5, 0, 0)), (3, (1, 11, 6, 8)),
+    (0, (0, 9, 4, 6)), (2, (0, 9, 5, 5)), (0, (2, 8, 0, 0)), (3, (3, 12, 7, 10)), (1, (0, 9, 4, 6)),
+    (4, (0, 13, 1, 12)), (2, (4, 6, 5, 5)), (0, (5, 5, 0, 0)), (3, (1, 11, 6, 8)),
 ];
 const SEATS: [u32; 5] = [1, 0, 2, 1, 1];
 
@@ -285,15 +287,15 @@ fn figures(desk: &mut Desk, live: &[(u32, Window)], mark: &'static str) {
 }
 
 pub const JOINED: [&str; 7] = [
-    "touching a break: not joined", "touching without a gap: not joined", "minutes before a break", "minutes behind a break",
-    "minutes over a break", "minutes over a break, with one", "largest break: both ends",
+    "touching a break: not joined", "touching without a gap: not joined", "minutes before a break",
+    "minutes behind a break", "minutes over a break", "minutes over a break, with one", "largest break: both ends",
 ];
 
 /// Goal, holds, steps, answer and name.
 type Try = (&'static str, &'static [u32], &'static str, &'static str, usize);
 
-/// Coupons of the atom 0: single 1 0..4, 2 6..9, 3 5..9, 4 and 5 0..9 without 5; standing 6 0..4, 7 6..9, 8 0..9 without 5,
-/// 9 and 10 all but 1..9,999,998, 10 being 1⊸a.
+/// Coupons of the atom 0: single 1 0..4, 2 6..9, 3 5..9, 4 and 5 0..9 without 5; standing 6 0..4, 7 6..9, 8 0..9
+/// without 5, 9 all but 1..9,999,998, and 10 the same for 1⊸a.
 const JOIN: [Try; 27] = [
     ("0,0,9,5,5", &[1], "ax,0", "no,40,1", 0), ("0,0,9,5,5", &[2], "ax,0", "no,40,1", 0),
     ("0,0,9,5,5", &[1, 2], "ax,0", "no,40,1", 0), ("0,0,9,5,5", &[1, 2], "ax,1", "no,40,1", 0),

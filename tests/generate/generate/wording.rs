@@ -45,8 +45,8 @@ impl Window {
         window(self.from, self.to)
     }
 
-    /// self ⊇ inner, as sets of minutes. Both ends are minutes of a window, and minutes of inner part the places that its
-    /// set leaves free: before it, its break, behind it. So the break of self lies in one of these.
+    /// self ⊇ inner, as sets of minutes. A window has its own ends; so those of self lie around those of inner, and the
+    /// break of self lies where inner has no minute: before it, in its break or behind it, whole in one of these.
     pub fn contains(self, inner: Window) -> bool {
         let before = self.last < inner.from;
         let behind = inner.to < self.first;
