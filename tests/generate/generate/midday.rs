@@ -286,17 +286,18 @@ fn figures(desk: &mut Desk, live: &[(u32, Window)], mark: &'static str) {
     }
 }
 
-pub const JOINED: [&str; 7] = [
+pub const JOINED: [&str; 8] = [
     "touching a break: not joined", "touching without a gap: not joined", "minutes before a break",
     "minutes behind a break", "minutes over a break", "minutes over a break, with one", "largest break: both ends",
+    "part of sl keeps its break",
 ];
 
 /// Goal, holds, steps, answer and name.
 type Try = (&'static str, &'static [u32], &'static str, &'static str, usize);
 
 /// Coupons of the atom 0: single 1 0..4, 2 6..9, 3 5..9, 4 and 5 0..9 without 5; standing 6 0..4, 7 6..9, 8 0..9
-/// without 5, 9 all but 1..9,999,998, and 10 the same for 1⊸a.
-const JOIN: [Try; 27] = [
+/// without 5, 9 all but 1..9,999,998, and 10 the same for 1⊸a; then single 11 ⟨1⟩a 0..9 without 5, standing 12 a⊸b.
+const JOIN: [Try; 30] = [
     ("0,0,9,5,5", &[1], "ax,0", "no,40,1", 0), ("0,0,9,5,5", &[2], "ax,0", "no,40,1", 0),
     ("0,0,9,5,5", &[1, 2], "ax,0", "no,40,1", 0), ("0,0,9,5,5", &[1, 2], "ax,1", "no,40,1", 0),
     ("0,0,9,5,5", &[6, 7], "cp,0|ax,2", "no,40,2", 0), ("0,0,9,5,5", &[6, 7], "cp,1|ax,2", "no,40,2", 0),
@@ -313,14 +314,17 @@ const JOIN: [Try; 27] = [
     ("0,0,9999999,1,9999998", &[9], "cp,0|ax,1", "ok", 6), ("0,0,9999999,2,9999998", &[9], "cp,0|ax,1", "no,40,2", 6),
     ("0,0,9999999,1,9999998", &[10], "cp,0|ll,1,0000000000000000,0,9999999,1,9999998|or|ax,2", "ok", 6),
     ("0,0,9999999,1,9999998", &[10], "cp,0|ll,1,0000000000000000,0,9999999,1,9999997|or|ax,2", "no,40,2", 6),
+    ("6,0,4,0,0", &[11, 12], "sr|sl,0|cp,1|ll,3,0000000000000004,0,9,0,0|ax,2|af|ax,4", "no,40,5", 7),
+    ("6,0,4,0,0", &[11, 12], "sr|sl,0|cp,1|ll,3,0000000000000004,0,9,4,4|ax,2|af|ax,4", "no,40,5", 7),
+    ("6,0,4,0,0", &[11, 12], "sr|sl,0|cp,1|ll,3,0000000000000004,0,9,5,5|ax,2|af|ax,4", "ok", 7),
 ];
 
 fn joined() -> Session {
     let mut desk = Desk::new();
-    desk.words(&["a,9,7", "o", "t,0,0", "l,1,0"]);
+    desk.words(&["a,9,7", "o", "t,0,0", "l,1,0", "s,1,0", "a,8,7", "s,1,5", "l,0,5"]);
     let coupons = [
         "s,0,0,4,0,0", "s,0,6,9,0,0", "s,0,5,9,0,0", "s,0,0,9,5,5", "s,0,0,9,5,5", "r,0,0,4,0,0", "r,0,6,9,0,0",
-        "r,0,0,9,5,5", "r,0,0,9999999,1,9999998", "r,3,0,9999999,1,9999998",
+        "r,0,0,9,5,5", "r,0,0,9999999,1,9999998", "r,3,0,9999999,1,9999998", "s,4,0,9,5,5", "r,7,0,9999999,0,0",
     ];
     for (n, coupon) in coupons.iter().enumerate() {
         desk.script(&format!("issue,{coupon}"), &format!("ok,{}", n + 1), "");

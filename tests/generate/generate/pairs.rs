@@ -194,12 +194,12 @@ pub const STEP_ORDER: [&str; 17] = [
     "standing held twice", "single held twice", "held twice, another between", "pair: 2 and 3, a line too many",
     "pair: 43 after the close", "pair: 43, then 3 after the close", "pair: 2 and 43, a line too many",
 ];
-pub const CALL_PAIRS: [&str; 19] = [
+pub const CALL_PAIRS: [&str; 21] = [
     "pair: word 2 and 3", "pair: word 2 and 10", "pair: word 2 and 13", "pair: word 3 and 10",
     "pair: word 3 and 12", "pair: word 10 and 12", "pair: word 3 and 14", "pair: word 10 and 14",
     "pair: word 12 and 14", "pair: word 13 and 14", "pair: issue", "pair: withdraw 2 and 24",
     "pair: overlong", "pair: word 2 and 14", "pair: word 2 and 43", "pair: word 3 and 43", "pair: word 43 and 10",
-    "pair: word 43 and 12", "pair: word 43 and 14",
+    "pair: word 43 and 12", "pair: word 43 and 14", "pair: issue 43", "pair: issue 43, full till",
 ];
 
 fn words(desk: &mut Desk) {
@@ -266,8 +266,14 @@ const ISSUES: [(&str, &str); 31] = [
 
 fn other_calls(desk: &mut Desk) {
     let long = "0".repeat(16_400);
+    let full = desk.model.live.len() == 512;
     for (text, answer) in ISSUES {
-        desk.script(text, answer, "pair: issue");
+        let mark = match (answer, full) {
+            ("no,43,0", true) => "pair: issue 43, full till",
+            ("no,43,0", false) => "pair: issue 43",
+            _ => "pair: issue",
+        };
+        desk.script(text, answer, mark);
     }
     desk.script(&format!("issue,s,7,9,8,0,0{long}"), "no,1,0", "pair: overlong");
     desk.script(&format!("tally,256,5{long}"), "no,1,0", "pair: overlong");

@@ -11,16 +11,17 @@ macro_rules! spans {
     ($clause:literal) => {
         spans!(@ $clause; "ax" "sl" "ll" "ul" "gr" "left part of ll at J" "right part of ll at J"
             "right part of ul at J" "hl gives J" "hr gives J" "left part of ul at J" "part of bl" "left part of tl"
-            "right part of tl" "w1" "w2" "first arm of pl" "second arm of pl" "part of sl")
+            "right part of tl" "w1" "w2" "first arm of pl" "second arm of pl" "part of sl" "left part of tr"
+            "right part of tr" "sr and af" "first arm of wr" "second arm of wr" "p1" "p2" "part of br")
     };
     (@ $clause:literal; $($name:literal)*) => { [$(concat!("span: ", $name, $clause)),*] };
 }
 
-pub const SPANS: [&str; 19] = spans!("");
+pub const SPANS: [&str; 27] = spans!("");
 /// W ⊇ I for the sake of I's break alone: I without its break would not lie in W.
-pub const RIGHT_BY_BREAK: [&str; 19] = spans!(", right only by a break");
+pub const RIGHT_BY_BREAK: [&str; 27] = spans!(", right only by a break");
 /// W without its break would contain I.
-pub const WRONG_BY_BREAK: [&str; 19] = spans!(", wrong only by a break");
+pub const WRONG_BY_BREAK: [&str; 27] = spans!(", wrong only by a break");
 pub const NEW_COUPON: [&str; 3] =
     ["span: new coupon", "span: new coupon, without its break", "span: new coupon, its break shorter"];
 
@@ -72,8 +73,9 @@ fn two_breaks(i: Window) -> Vec<Window> {
 type Case = (&'static [&'static str], u32, &'static str, u32);
 
 /// Wordings: 0 a, 1 b, 2 ⟨1⟩a, 3 1, 4 b⊸a, 5 1⊃a, 6 1⊸a, 7 a@I, 8 (a@I)⊸b, 9 b⊃a, 10 !a, 11 a⊗1, 12 1⊗a,
-/// 13 a&b, 14 b&a, 15 a⊕a, 16 (a@I)⊕a, 17 a⊸b, 18 ⟨1⟩b; and for each w: `{G}` (w ⊇ i)⊸a, `{H}` a@w.
-const CASES: [Case; 19] = [
+/// 13 a&b, 14 b&a, 15 a⊕a, 16 (a@I)⊕a, 17 a⊸b, 18 ⟨1⟩b, 19 a⊗b, 20 b⊗a, 21 a&a, 22 (a&a)⊸b, 23 a⊕b, 24 (a⊕b)⊸b,
+/// 25 b⊕a, 26 (b⊕a)⊸b, 27 !a⊸b; and for each w: `{G}` (w ⊇ i)⊸a, `{H}` a@w, `{K}` (a@w & a)⊸b.
+const CASES: [Case; 27] = [
     (&["s,0,{W}"], 0, "ax,0", 1),
     (&["s,2,{W}"], 2, "sr|sl,0|af|ax,1", 2),
     (&["r,4,{W}", "s,1,{A}"], 0, "cp,0|ll,2,0000000000000002,{I}|ax,1|ax,3", 2),
@@ -93,6 +95,14 @@ const CASES: [Case; 19] = [
     (&["r,15,{W}"], 0, "cp,0|pl,1|ax,2|ax,3", 3),
     (&["r,16,{W}"], 0, "cp,0|pl,1|hl,2|ax,3|ax,4", 5),
     (&["s,2,{W}", "r,17,{A}"], 18, "sr|sl,0|cp,1|ll,3,0000000000000004,{W}|ax,2|af|ax,4", 2),
+    (&["s,0,{W}", "s,1,{A}"], 19, "tr,0000000000000001|ax,0|ax,1", 2),
+    (&["s,1,{A}", "s,0,{W}"], 20, "tr,0000000000000001|ax,0|ax,1", 3),
+    (&["s,0,{W}"], 2, "sr|af|ax,0", 3),
+    (&["r,22,{A}", "s,0,{W}"], 1, "cp,0|ll,2,0000000000000002,{I}|wr|ax,1|ax,1|ax,3", 4),
+    (&["r,{K},{A}", "s,0,{W}"], 1, "cp,0|ll,2,0000000000000002,{I}|wr|hr|ax,1|ax,1|ax,3", 6),
+    (&["r,24,{A}", "s,0,{W}"], 1, "cp,0|ll,2,0000000000000002,{I}|p1|ax,1|ax,3", 4),
+    (&["r,26,{A}", "s,0,{W}"], 1, "cp,0|ll,2,0000000000000002,{I}|p2|ax,1|ax,3", 4),
+    (&["r,27,{A}", "r,0,{W}"], 1, "cp,0|ll,2,0000000000000000,{I}|br|cp,1|ax,3|ax,4", 5),
 ];
 
 fn enter(desk: &mut Desk, line: &str) -> u32 {
@@ -112,14 +122,27 @@ fn marks(rule: usize, w: Window, i: Window, good: bool) -> Vec<&'static str> {
     marks
 }
 
+/// The wording of an offer that is made for w and i.
+fn made_for(desk: &mut Desk, offer: &str, w: Window, i: Window) -> u32 {
+    if offer.contains("{G}") {
+        let covered = enter(desk, &format!("g,{},{}", w.text(), i.text()));
+        return enter(desk, &format!("l,{covered},0"));
+    }
+    let at_w = enter(desk, &format!("h,0,{}", w.text()));
+    if offer.contains("{H}") {
+        return at_w;
+    }
+    let arms = enter(desk, &format!("w,{at_w},0"));
+    enter(desk, &format!("l,{arms},1"))
+}
+
 fn try_one(desk: &mut Desk, rule: usize, w: Window, i: Window, good: bool) {
     let (offers, goal, steps, step) = CASES[rule];
-    let covered = enter(desk, &format!("g,{},{}", w.text(), i.text()));
-    let offer = enter(desk, &format!("l,{covered},0")).to_string();
-    let at_w = enter(desk, &format!("h,0,{}", w.text())).to_string();
+    let special = ["{G}", "{H}", "{K}"].iter().any(|letter| offers[0].contains(letter));
+    let number = if special { made_for(desk, offers[0], w, i).to_string() } else { String::new() };
     let fill = |text: &str| {
-        let text = text.replace("{W}", &w.text()).replace("{I}", &i.text());
-        text.replace("{G}", &offer).replace("{H}", &at_w).replace("{A}", "0,9999999,0,0")
+        let text = text.replace("{W}", &w.text()).replace("{I}", &i.text()).replace("{A}", "0,9999999,0,0");
+        text.replace("{G}", &number).replace("{H}", &number).replace("{K}", &number)
     };
     let (before, mut holds) = (desk.model.given, String::new());
     for offer in offers {
@@ -171,8 +194,8 @@ fn minute_by_minute(w: Window, i: Window) -> bool {
     good
 }
 
-/// A third of the rules, against every relation of one sort.
-fn session(seed: u64, third: usize, sort: usize) -> Session {
+/// Seven of the rules, against every relation of one sort.
+fn session(seed: u64, part: usize, sort: usize) -> Session {
     let mut rng = Rng::new(seed);
     let from = rng.between(20, 5_000_000);
     let to = from + rng.between(24, 900);
@@ -183,9 +206,10 @@ fn session(seed: u64, third: usize, sort: usize) -> Session {
     let mut desk = Desk::new();
     let at_i = format!("h,0,{}", i.text());
     desk.words(&["a,9,7", "a,8,7", "s,1,0", "o", "l,1,0", "u,3,0", "l,3,0", &at_i, "l,7,1", "u,1,0", "b,0"]);
-    desk.words(&["t,0,3", "t,3,0", "w,0,1", "w,1,0", "p,0,0", "p,7,0", "l,0,1", "s,1,1"]);
+    desk.words(&["t,0,3", "t,3,0", "w,0,1", "w,1,0", "p,0,0", "p,7,0", "l,0,1", "s,1,1", "t,0,1", "t,1,0"]);
+    desk.words(&["w,0,0", "l,21,1", "p,0,1", "l,23,1", "p,1,0", "l,25,1", "l,10,1"]);
     for w in outer {
-        for rule in third * 7..CASES.len().min(third * 7 + 7) {
+        for rule in part * 7..CASES.len().min(part * 7 + 7) {
             try_one(&mut desk, rule, w, i, minute_by_minute(w, i));
         }
     }
@@ -194,5 +218,5 @@ fn session(seed: u64, third: usize, sort: usize) -> Session {
 }
 
 pub fn sessions(seed: u64) -> Vec<Session> {
-    (0..9).map(|n| session(seed, n % 3, n / 3)).collect()
+    (0..12).map(|n| session(seed, n % 4, n / 4)).collect()
 }
