@@ -7,7 +7,7 @@ use native.Mathlib.Omega.{arith}
 use lib.Dec.{ltb}
 use lib.ListN.{length, drop, length-drop}
 use borrow.Author.Tests.{eq-eqb, ne-eqb}
-use Rattle.logic.specs.Interval.{reversed}
+use Rattle.logic.specs.Interval.{reversed, broken}
 use Rattle.request.specs.Request.{stepsIntervals}
 use Rattle.request.specs.Read.{stepLine}
 use Rattle.ledger.specs.Checks.{anyOf}
@@ -18,19 +18,20 @@ use Rattle.logic.specs.Choice.{pick}
 use Rattle.read_formulas.specs.Line.{readLine}
 use Rattle.read_fields.proofs.Then.{then-some, then-no}
 use Rattle.read_rest.proofs.Several.{prefixed, lines-begin, lines-end, lines-turn, lines-broken}
-use Rattle.read_rest.proofs.Reversals.{reversals-next}
-use Rattle.read_rest.specs.LinesRead.{readLines, allLines, rowReversed, StepsAre}
+use Rattle.read_rest.proofs.Reversals.{fails-next}
+use Rattle.read_rest.specs.LinesRead.{readLines, allLines, rowReversed, rowBroken, StepsAre}
 
--- k of the lines are read, n of them with a reversed interval; the next begins at a position
-pub record Reading (s : List ℕ) (count : ℕ) (t : List ℕ) (at k n : ℕ) : Type 0 where
+-- k of the lines are read, n of them with a reversed interval, x with a broken one; the next begins at a position
+pub record Reading (s : List ℕ) (count : ℕ) (t : List ℕ) (at k n x : ℕ) : Type 0 where
   pub among : k ≤ count
-  pub small : n ≤ k
+  pub small : (n ≤ k) × (x ≤ k)
   pub place : at < 4294967296
   pub long : length t ≡ stepCells
   pub turns : anyOf reversed (stepsIntervals (stepsFrom t 0 k)) ≡ ltb 0 n
+  pub breaks : anyOf broken (stepsIntervals (stepsFrom t 0 k)) ≡ ltb 0 x
   pub lines : readLines count stepLine s ≡ prefixed (stepsFrom t 0 k) (readLines (count - k) stepLine (drop at s))
 
-pub first-reading : (s : List ℕ) (count : ℕ) (t : List ℕ) → length t ≡ stepCells → Reading s count t 0 0 0
+pub first-reading : (s : List ℕ) (count : ℕ) (t : List ℕ) → length t ≡ stepCells → Reading s count t 0 0 0 0
 unfolding stepsFrom stepsIntervals anyOf
 first-reading s count t h = record {
   among = omega arith;
@@ -38,27 +39,30 @@ first-reading s count t h = record {
   place = omega arith;
   long = h;
   turns = refl;
+  breaks = refl;
   lines = lines-begin stepLine count s;
 }
 
-module _ {s : List ℕ} {count : ℕ} {t : List ℕ} {at k n : ℕ} (h : Reading s count t at k n) where
+module _ {s : List ℕ} {count : ℕ} {t : List ℕ} {at k n x : ℕ} (h : Reading s count t at k n x) where
   -- a line that is broken
   pub no-step : k < count → readLine stepLine (drop at s) ≡ none → allLines count stepLine s ≡ none
   unfolding allLines
   no-step l e = then-no _ (h .lines ∙ lines-broken stepLine count k (drop at s) l e (stepsFrom t 0 k))
 
   -- one more
-  pub next-reading : (r : StepRow) (i m : ℕ) (u : List ℕ) → k < count → count ≤ maxSteps
+  pub next-reading : (r : StepRow) (i m y : ℕ) (u : List ℕ) → k < count → count ≤ maxSteps
       → readLine stepLine (drop at s) ≡ some (stepOf r, drop i s) → u ≡ putStepRow t k r
-      → m ≡ pick (rowReversed r) 1 0 → m ≤ 1 → i < 4294967296 → Reading s count u i (k + 1) (n + m)
-  next-reading r i m u l f e p q b w =
+      → (m ≡ pick (rowReversed r) 1 0) × (m ≤ 1) → (y ≡ pick (rowBroken r) 1 0) × (y ≤ 1) → i < 4294967296
+      → Reading s count u i (k + 1) (n + m) (x + y)
+  next-reading r i m y u l f e p q z w =
       let g = steps-next t k r (omega (arith, h .long)) in
       record {
         among = omega arith;
-        small = omega (arith, h .small);
+        small = (omega (arith, h .small .0, q .1), omega (arith, h .small .1, z .1));
         place = w;
         long = rw (p, length-put t k r) (h .long);
-        turns = rw (p, ← g, q) (reversals-next (stepsFrom t 0 k) r n (h .turns));
+        turns = rw (p, ← g, q .0) (fails-next reversed (stepsFrom t 0 k) r n (h .turns));
+        breaks = rw (p, ← g, z .0) (fails-next broken (stepsFrom t 0 k) r x (h .breaks));
         lines = h .lines ∙ lines-turn stepLine count k (drop at s) l e (stepsFrom t 0 k)
             ∙ rw (p, g);
       }
@@ -78,7 +82,7 @@ module _ {s : List ℕ} {count : ℕ} {t : List ℕ} {at k n : ℕ} (h : Reading
   unfolding allLines
   steps-are l b = then-some _ (all-read l) ∙ rw (eq-eqb (length (drop at s)) 0 (omega (arith, length-drop at s)))
 
-  pub all-lines-read : count ≤ k → length s ≤ at → StepsAre (allLines count stepLine s) (stepsFrom t 0 count) (ltb 0 n)
+  pub all-lines-read : count ≤ k → length s ≤ at → StepsAre (allLines count stepLine s) (stepsFrom t 0 count) (ltb 0 n) (ltb 0 x)
   all-lines-read l b =
       let q : count ≡ k = omega (arith, h .among) in
-      record { steps = steps-are l b; reversals = rw q (h .turns) }
+      record { steps = steps-are l b; reversals = rw q (h .turns); breaks = rw q (h .breaks) }
