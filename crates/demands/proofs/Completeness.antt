@@ -40,7 +40,8 @@ use Rattle.ledger.specs.Statements.{SoFar, _▸_}
 use Rattle.ledger.proofs.Answers.{some-inj, first-passes, heard}
 use Rattle.ledger.proofs.Credentials.{take-out, any-none, Alive, held-length}
 use Rattle.ledger.specs.Bounds.{Rises, Bounded}
-use Rattle.ledger.proofs.Firsts.{first-fails, if-false, if-true, stopped-at, none-stops, not-true, past-form, past-intervals}
+use Rattle.ledger.proofs.Firsts.{first-fails, if-false, if-true, stopped-at, none-stops, not-true, past-form}
+use Rattle.ledger.proofs.Firsts.{past-intervals}
 use Rattle.demands.specs.Demands.{hyp, startLabels, booking, StepsComplete, May, PastSteps, Completeness}
 use Rattle.demands.proofs.Demand1.{demand-1, call-accepts}
 use Rattle.demands.proofs.Start.{unrolls, start}
@@ -138,9 +139,11 @@ module _ (t : Ledger) (b : Booking) (r : BookingInRange b) (p : Passing t b) whe
 steps-formed : (ss : List Step) → Every Writable ss → Every WellFormed (stepsIntervals ss)
 unfolding stepsIntervals
 steps-formed [] w = tt
-steps-formed (s ∷ ss) w = every-append WellFormed (stepIntervals s) (stepsIntervals ss) (w .0 .1) (steps-formed ss (w .1))
+steps-formed (s ∷ ss) w =
+    every-append WellFormed (stepIntervals s) (stepsIntervals ss) (w .0 .1) (steps-formed ss (w .1))
 
-booking-formed : (b : Booking) → WellFormed (b .interval) → Every Writable (b .steps) → Every WellFormed (intervals (book b))
+booking-formed : (b : Booking) → WellFormed (b .interval) → Every Writable (b .steps)
+    → Every WellFormed (intervals (book b))
 unfolding intervals
 booking-formed b f w = (f, steps-formed (b .steps) w)
 
@@ -150,7 +153,10 @@ writable-in-range ss = every-map (λ s w. w .0) ss
 in-range : (t : Ledger) → Bounded t → (b : Booking) → May t (b .now) (b .formula) (b .interval) (b .holds)
     → length (b .steps) inRange stepCount → Every Writable (b .steps) → BookingInRange b
 in-range t bd b m count w = record {
-  now = record { least = omega arith; most = omega (arith, has-decides (b .interval) (b .now) .0 (m .inside) .to, m .ranged) };
+  now = record {
+    least = omega arith;
+    most = omega (arith, has-decides (b .interval) (b .now) .0 (m .inside) .to, m .ranged);
+  };
   formula = record {
     least = omega arith;
     most = omega (arith, leb-false (length (t .lines)) (b .formula) (m .there), bd .lines);

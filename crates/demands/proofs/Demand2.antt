@@ -118,6 +118,7 @@ every-step (s ∷ ss) r o = (
   every-step ss (r .1) (every-right WellFormed (stepIntervals s) (stepsIntervals ss) o),
 )
 
-pub writable-steps : (b : Booking) → BookingInRange b → Every WellFormed (intervals (book b)) → Every Writable (b .steps)
+pub writable-steps : (b : Booking) → BookingInRange b → Every WellFormed (intervals (book b))
+    → Every Writable (b .steps)
 unfolding intervals
 writable-steps b r w = every-step (b .steps) (r .steps) (w .1)

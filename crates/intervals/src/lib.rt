@@ -17,14 +17,15 @@ pub fn contains(i: Interval, j: Interval) -> bool
     covers(i, from, lesser(end, j.first as u64)) & covers(i, greater(from, j.last as u64 + 1), end)
 }
 
-// The interval has all minutes from p to before q. These may be one past the last minute: to + 1 as a u32 could overflow.
+// The interval has all minutes from p to before q. As a u64, to + 1 cannot overflow.
 fn covers(i: Interval, p: u64, q: u64) -> bool
     ensures { λ r. ⌜ r ≡ coversOf i p q ⌝ }
 {
     (q <= p)
         | ((i.from as u64 <= p)
             & ((q <= i.to as u64 + 1)
-                & ((i.last == 0) | ((i.last < i.first) | (((i.last as u64) < p) | (q <= i.first as u64))))))
+                & ((i.last == 0)
+                    | ((i.last < i.first) | (((i.last as u64) < p) | (q <= i.first as u64))))))
 }
 
 fn lesser(a: u64, b: u64) -> u64
@@ -43,7 +44,8 @@ fn greater(a: u64, b: u64) -> u64
 pub fn has(i: Interval, minute: u32) -> bool
     ensures { λ r. ⌜ r ≡ hasOf i minute ⌝ }
 {
-    ((i.from <= minute) & (minute <= i.to)) & !((0 < i.last) & ((i.first <= minute) & (minute <= i.last)))
+    ((i.from <= minute) & (minute <= i.to))
+        & !((0 < i.last) & ((i.first <= minute) & (minute <= i.last)))
 }
 
 // The interval is reversed (refusal 3).
@@ -57,14 +59,20 @@ pub fn reversed(i: Interval) -> bool
 pub fn broken(i: Interval) -> bool
     ensures { λ r. ⌜ r ≡ brokenOf i ⌝ }
 {
-    !(((i.first == 0) & (i.last == 0)) | ((i.from < i.first) & ((i.first <= i.last) & (i.last < i.to))))
+    !(((i.first == 0) & (i.last == 0))
+        | ((i.from < i.first) & ((i.first <= i.last) & (i.last < i.to))))
 }
 
 // What stands where there is no interval.
 pub fn none() -> Interval
     ensures { λ r. ⌜ r ≡ noInterval ⌝ }
 {
-    Interval { from: 0, to: 0, first: 0, last: 0 }
+    Interval {
+        from: 0,
+        to: 0,
+        first: 0,
+        last: 0,
+    }
 }
 
 // Both are the same interval.

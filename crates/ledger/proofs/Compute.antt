@@ -25,10 +25,10 @@ use Rattle.ledger.specs.Sessions.{ofLines}
 -- what a list of requests, each given by its lines, is answered from the empty ledger on
 unfoldable pub played : List (List String) → List Told
 unfolding inBreak has covers contains sameInterval reversed broken size count plain sum up even sessionsOf allOf
-    balanced bytes sameBytes andThen push fields pushLine lines reads decimalDigit hexDigit decimal numberIn labelSetIn return _>>=_ next many
-    named choose ended whole line stepsIntervals intervals number labelSet interval kind part parts formulaLine
-    labelled stepLine holdLine bookLine firstLine rest requestLines requestOf when right affirmed left planOf
-    maxLabels begin judged onward follow premiseOf finished checkOf build formulas find withoutSerial held linearCount
-    spend _if_ first anyOf sameRow twice labelsOf verdict steps checks checksOf openSeats
-    shutSeats placed accept decide call answers ofLines
+    balanced bytes sameBytes andThen push fields pushLine lines reads decimalDigit hexDigit decimal numberIn labelSetIn
+    return _>>=_ next many named choose ended whole line stepsIntervals intervals number labelSet interval kind part
+    parts formulaLine labelled stepLine holdLine bookLine firstLine rest requestLines requestOf when right affirmed left
+    planOf maxLabels begin judged onward follow premiseOf finished checkOf build formulas find withoutSerial held
+    linearCount spend _if_ first anyOf sameRow twice labelsOf verdict steps checks checksOf openSeats shutSeats placed
+    accept decide call answers ofLines
 played rs = map told (answers empty (map ofLines rs))

@@ -166,8 +166,8 @@ sessions =
     ("withdraw,3\n" ⇒ accepted 3) ∷
     ("tally,255,5\n" ⇒ ok (0 ∷ 0 ∷ 0 ∷ [])) ∷ []
 
--- Document 02, ask 2: "Lines of the old length break the form" (2); 3 over the whole sheet, then 43 over the whole sheet,
--- then 10; "0,0 is no break; otherwise from < first ≤ last < to". The break's fields are minutes.
+-- Document 02, ask 2: "Lines of the old length break the form" (2); 3 over the whole sheet, then 43 over the whole
+-- sheet, then 10; "0,0 is no break; otherwise from < first ≤ last < to". The break's fields are minutes.
 abbrev pub breakOrder : List Turn
 breakOrder =
     ("issue,s,0,0,9\n" ⇒ refused 2) ∷

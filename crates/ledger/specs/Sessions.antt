@@ -1,5 +1,5 @@
--- Document 01's sessions M1 to M10: inputs, as the bytes of the requests, with their answers. Its lines are quoted without
--- breaks; "M1 to M10 get 0,0 in each window" (document 02, ask 2).
+-- Document 01's sessions M1 to M10: inputs, as the bytes of the requests, with their answers. Its lines are quoted as
+-- they stand there; "M1 to M10 get 0,0 in each window" (document 02, ask 2).
 use mathlib.Core.Path.{_≡_}
 use mathlib.Core.List.{List, [], _∷_, _++_, map}
 use Prim.Native.Nat.{ℕ, zero, suc}
@@ -42,8 +42,8 @@ words = each ("word,a,1,7" ∷ "word,a,2,7" ∷ "word,a,9,7" ∷ "word,s,1,0" �
 -- M1's booking: its first line, third hold and third step
 abbrev pub booking : String → String → String → List String
 booking head hold third =
-    head ∷ "hold,1" ∷ "hold,2" ∷ hold ∷ "cp,0" ∷ "ll,3,0000000000000006,540,600,0,0" ∷ third ∷ "sr" ∷ "sl,1" ∷ "af" ∷ "ax,4"
-    ∷ "sr" ∷ "sl,2" ∷ "af" ∷ "ax,5" ∷ "sr" ∷ "sl,6" ∷ "af" ∷ "ax,7" ∷ []
+    head ∷ "hold,1" ∷ "hold,2" ∷ hold ∷ "cp,0" ∷ "ll,3,0000000000000006,540,600,0,0" ∷ third ∷ "sr" ∷ "sl,1" ∷ "af"
+    ∷ "ax,4" ∷ "sr" ∷ "sl,2" ∷ "af" ∷ "ax,5" ∷ "sr" ∷ "sl,6" ∷ "af" ∷ "ax,7" ∷ []
 
 -- M1, with the issue of serial 2 and a booking
 abbrev pub m1With : String → List String → List (List String)
@@ -154,7 +154,8 @@ abbrev pub M10 : Session
 M10 = record {
   requests =
       words ++ each ("issue,r,2,0,9,0,0" ∷ times 511 "issue,s,2,0,9,0,0")
-      ++ (("book,0,2,0,9,0,0,1,1" ∷ "hold,2" ∷ "ax,0" ∷ []) ∷ ("book,0,2,0,9,0,0,1,2" ∷ "hold,1" ∷ "cp,0" ∷ "ax,1" ∷ []) ∷ []);
+      ++ (("book,0,2,0,9,0,0,1,1" ∷ "hold,2" ∷ "ax,0" ∷ []) ∷
+      ("book,0,2,0,9,0,0,1,2" ∷ "hold,1" ∷ "cp,0" ∷ "ax,1" ∷ []) ∷ []);
   replies =
       oks (0 ∷ 1 ∷ 2 ∷ 3 ∷ 4 ∷ 5 ∷ 6 ∷ 7 ∷ counting 513 1) ++ (Told.no 22 0 ∷ []);
 }

@@ -35,8 +35,8 @@ break-decides i m =
 pub has-decides : (i : Interval) (m : ℕ) → Decides (has i m) (Has i m)
 unfolding has
 has-decides i m =
-    let d = and-decides (and-decides (le-decides (i .from) m) (le-decides m (i .to))) (not-decides (break-decides i m)) in
-    (
+    let d = and-decides (and-decides (le-decides (i .from) m) (le-decides m (i .to)))
+    (not-decides (break-decides i m)) in (
       λ e. let h = d .0 e in record { from = h .0 .0; to = h .0 .1; apart = h .1 },
       λ r. d .1 ((r .from, r .to), r .apart),
     )
@@ -91,13 +91,19 @@ covers-test i p q h = not-not (test-decides i p q) (λ n.
     let l : p < q = below (λ e. n (inl e)) in
     let a = h p (omega arith) l in
     let b = h (q - 1) (omega arith) (omega arith) in
-    n (inr (a .from, (omega (arith, b .to), not-not (clear-decides i p q) (λ k.
-    let s : 0 < i .last = below (λ e. k (inl (omega arith))) in
-    let t : i .first ≤ i .last = up-to (λ e. k (inr (inl e))) in
-    let u : p ≤ i .last = up-to (λ e. k (inr (inr (inl e)))) in
-    let v : i .first < q = below (λ e. k (inr (inr (inr e)))) in
-    h (max p (i .first)) (omega arith) (omega arith) .apart
-    (record { some = s; from = omega arith; to = omega arith }))))))
+    n (inr (
+      a .from,
+      (
+        omega (arith, b .to),
+        not-not (clear-decides i p q) (λ k.
+            let s : 0 < i .last = below (λ e. k (inl (omega arith))) in
+            let t : i .first ≤ i .last = up-to (λ e. k (inr (inl e))) in
+            let u : p ≤ i .last = up-to (λ e. k (inr (inr (inl e)))) in
+            let v : i .first < q = below (λ e. k (inr (inr (inr e)))) in
+            h (max p (i .first)) (omega arith) (omega arith) .apart
+            (record { some = s; from = omega arith; to = omega arith })),
+      ),
+    )))
 
 covers-decides : (i : Interval) (p q : ℕ) → Decides (covers i p q) (Covers i p q)
 covers-decides i p q =
@@ -125,15 +131,13 @@ module _ (i j : Interval) where
           (covers i (j .from) (min (j .to + 1) (j .first)) && covers i (max (j .from) (j .last + 1)) (j .to + 1))) All
       go true e =
           let d = covers-decides i (j .from) (j .to + 1) in
-          let z = eqb-true (j .last) 0 e in
-          (
+          let z = eqb-true (j .last) 0 e in (
             λ c m h. d .0 c m (h .from) (omega (arith, h .to)),
             λ f. d .1 (λ m a b. f m (record { from = a; to = omega arith; apart = λ r. omega (arith, r .some) })),
           )
       go false e =
           let d = and-decides (covers-decides i (j .from) (min (j .to + 1) (j .first)))
-          (covers-decides i (max (j .from) (j .last + 1)) (j .to + 1)) in
-          (
+          (covers-decides i (max (j .from) (j .last + 1)) (j .to + 1)) in (
             λ c. let w = d .0 c in both-pieces (eqb-false (j .last) 0 e) (w .0) (w .1),
             λ f. d .1 (
               λ m a b. f m (record { from = a; to = omega arith; apart = λ r. omega (arith, r .from) }),
@@ -144,8 +148,7 @@ module _ (i j : Interval) where
 -- The test decides ⊇, for any four numbers of both.
 pub contains-decides : (i j : Interval) → Decides (contains i j) (i ⊇ j)
 contains-decides i j =
-    let d = all-decides i j in
-    (
+    let d = all-decides i j in (
       λ e. record { minute = λ m h. has-decides i m .1 (d .0 e m (has-decides j m .0 h)) },
       λ c. d .1 (λ m h. has-decides i m .0 (c .minute m (has-decides j m .1 h))),
     )
@@ -170,8 +173,7 @@ inside-decides : (i : Interval)
     → Decides (ltb (i .from) (i .first) && (leb (i .first) (i .last) && ltb (i .last) (i .to))) (Inside i)
 inside-decides i =
     let d = and₃-decides (lt-decides (i .from) (i .first)) (le-decides (i .first) (i .last))
-    (lt-decides (i .last) (i .to)) in
-    (
+    (lt-decides (i .last) (i .to)) in (
       λ e. let h = d .0 e in record { begins = h .0; lasts = h .1; ends = h .2 },
       λ h. d .1 (h .begins, h .lasts, h .ends),
     )
@@ -261,9 +263,12 @@ unbroken-has a b m = (
 unbroken-⊇ : (a b c d : ℕ) → c ≤ d → (span a b 0 0 ⊇ span c d 0 0) ↔ ((a ≤ c) × (d ≤ b))
 unbroken-⊇ a b c d l = (
   within-ends (span c d 0 0) (record { ordered = l; parted = inl (refl, refl) }) (span a b 0 0),
-  λ h. record { minute = λ m e.
-      let k = has-decides (span c d 0 0) m .0 e in
-      has-decides (span a b 0 0) m .1 (unbroken-has a b m .1 (omega (arith, h .0, k .from), omega (arith, h .1, k .to))) },
+  λ h. record {
+    minute = λ m e.
+        let k = has-decides (span c d 0 0) m .0 e in
+        has-decides (span a b 0 0) m .1
+        (unbroken-has a b m .1 (omega (arith, h .0, k .from), omega (arith, h .1, k .to)));
+  },
 )
 
 pub as-before : AsBefore

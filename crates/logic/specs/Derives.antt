@@ -25,8 +25,8 @@ pub data Judgment : Type 0 where
 
 -- Derives R D g: g from the unrestricted hypotheses R (document 01: standing), used as often as wanted, and the linear
 -- hypotheses D (single-use), each used just once. `same` leaves the order of hypotheses free and is no use of a rule.
--- The interval J that `ll` and `ul` choose is one: "A window from..to needs from ≤ to", and its break is 0,0 or strictly
--- inside.
+-- The interval J that `ll` and `ul` choose is one: "A window from..to needs from ≤ to", and its break is 0,0 or
+-- strictly inside.
 pub data Derives : List Hyp → List Hyp → Judgment → Type 0 where
   same : {R S D E : List Hyp} {g : Judgment} → Perm R S → Perm D E → Derives R D g → Derives S E g
   ax : {R : List Hyp} {p s : ℕ} {i j : Interval} → i ⊇ j → Derives R (atom p s ⟦ i ⟧ ∷ []) (holds (atom p s) j)

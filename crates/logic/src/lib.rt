@@ -1,8 +1,8 @@
 // The logic: the ground part of η-logic that document 01 names. This file has the type that definitions and code share;
 // specs/ has the definitions and what is proved of them, proofs/ the proofs.
 
-// The minutes from `from` to `to`, both included (document 01: a window), without those from `first` to `last` (document
-// 02, ask 2: the break); 0, 0 is no break.
+// The minutes from `from` to `to`, both included (document 01: a window), without those from `first` to `last`
+// (document 02, ask 2: the break); 0, 0 is no break.
 pub struct Interval {
     pub from: u32,
     pub to: u32,

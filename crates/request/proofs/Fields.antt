@@ -64,7 +64,8 @@ unfolding interval minutes
 interval-exact = record {
   reads = λ i h.
       reads-then _ (minute-exact .reads (i .from) (h .from)) (reads-then _ (minute-exact .reads (i .to) (h .to))
-      (reads-then _ (minute-exact .reads (i .first) (h .first)) (reads-last _ (minute-exact .reads (i .last) (h .last)))));
+      (reads-then _ (minute-exact .reads (i .first) (h .first))
+      (reads-last _ (minute-exact .reads (i .last) (h .last)))));
   only = only-then _ (minute-exact .only) (λ i h. only-then _ (minute-exact .only) (λ j k.
       two-only minute-exact minute-exact _ (λ p q l m. (record { from = h; to = k; first = l; last = m }, refl))));
 }

@@ -104,7 +104,8 @@ single-reads r h e =
     rw e (reads-within (omega arith) (reads-then _ (head-line .reads (alone r) h) (reads-return 44 r)))
 
 book-head : (b : Booking) → BookingInRange b → Reads 44 (line firstLine)
-    (booking (b .now) (b .formula) (b .interval) (length (b .holds)) (length (b .steps))) (joined (headFields (book b)) ∷ []) 56
+    (booking (b .now) (b .formula) (b .interval) (length (b .holds)) (length (b .steps)))
+    (joined (headFields (book b)) ∷ []) 56
 unfolding firstLine choose headFields
 book-head b h = line-reads refl (book-reads _ _ _ _ _ (record {
   now = h .now;

@@ -8,7 +8,8 @@ use Rattle.request.specs.Range.{minute}
 use Rattle.request.specs.Request.{Step, stepIntervals}
 use Rattle.request.specs.InRange.{StepInRange}
 
--- "minutes in range": the intervals that a derivation chooses, at `ll` and `ul`, end by the last minute, so their breaks do
+-- "minutes in range": the intervals that a derivation chooses, at `ll` and `ul`, end by the last minute, and so do
+-- their breaks
 abbrev pub Minutes : {R D : List Hyp} {g : Judgment} → Derives R D g → Type 0
 Minutes (Derives.same m n d) = Minutes d
 Minutes (Derives.ax c) = Unit {0}

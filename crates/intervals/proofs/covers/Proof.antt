@@ -7,5 +7,5 @@ use Rattle.intervals.proofs.covers.Tie as tie
 pub covers-spec : {M : Type 1} → statement M
 unfolding covers
 covers-spec =
-    tie.close (tie.spec (λ c. search needs) (λ c. search needs) (λ c. search needs) (λ c. search needs) (λ c. search needs)
-    (λ c. search needs))
+    tie.close (tie.spec (λ c. search needs) (λ c. search needs) (λ c. search needs) (λ c. search needs)
+    (λ c. search needs) (λ c. search needs))
