@@ -39,7 +39,15 @@ pub fn interval(s: &[u8], at: u32, stop: u8) -> Span
     let Decimal::Number(last, l) = e else {
         return Span::Broken;
     };
-    Span::Minutes(Interval { from, to, first, last }, l)
+    Span::Minutes(
+        Interval {
+            from,
+            to,
+            first,
+            last,
+        },
+        l,
+    )
 }
 
 // A letter and two numbers, without intervals.
