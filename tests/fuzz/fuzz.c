@@ -11,7 +11,7 @@
 #include <sys/mman.h>
 #include <time.h>
 
-enum { TILLS = 6, PAGE = 4096, LONG = 10, NUMBERS = 43, SHOWN = 10, SUMS = 32 };
+enum { TILLS = 6, PAGE = 4096, LONG = 10, NUMBERS = 44, SHOWN = 10, SUMS = 32 };
 
 struct Session {
     struct Sheet *sheets;
@@ -286,7 +286,7 @@ static void open_pages(struct Fuzz *fuzz) {
 
 static void report(struct Fuzz *fuzz, int all) {
     static const char *const KINDS[] = {"word", "issue", "withdraw", "book", "tally"};
-    static const uint8_t REFUSALS[] = {1, 2, 3, 10, 12, 13, 14, 20, 21, 22, 23, 24, 30, 31, 40, 41, 42};
+    static const uint8_t REFUSALS[] = {1, 2, 3, 10, 12, 13, 14, 20, 21, 22, 23, 24, 30, 31, 40, 41, 42, 43};
     printf("%llu calls, %llu tallies for sums, %zu tills begun\naccepted:", (unsigned long long)fuzz->calls,
            (unsigned long long)fuzz->tallies, fuzz->begun);
     for (int i = 0; i < 5; i++) printf(" %s %llu", KINDS[i], (unsigned long long)fuzz->accepted[i]);
