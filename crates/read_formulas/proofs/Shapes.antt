@@ -6,6 +6,7 @@ use mathlib.Core.Bool.{true}
 use Prim.Native.Nat.{ℕ}
 use lib.Dec.{eqb}
 use borrow.Author.Tests.{eqb-true}
+use Rattle.logic.specs.declared.Interval.{Interval}
 use Rattle.logic.specs.Interval.{span}
 use Rattle.request.specs.Range.{Range, minute}
 use Rattle.request.specs.Text.{andThen, numberIn}
@@ -14,7 +15,7 @@ use Rattle.request.specs.Read.{number, interval}
 use Rattle.logic.specs.Choice.{pick}
 use Rattle.read_fields.specs.Field.{ends, Stop, cut, fieldTo}
 use Rattle.read_formulas.specs.Line.{readLine, intervalTo}
-use Rattle.read_fields.proofs.Then.{then-then, then-same, then-given, by-test}
+use Rattle.read_fields.proofs.Then.{then-then, then-same, then-given, then-pair, by-test}
 use Rattle.read_formulas.proofs.Cut.{atStop, line-cut, line-same, line-return, whole-none, stop-none, cut-stop}
 
 -- p reads bytewise, up to a byte that ends the last of its fields, what r reads from fields
@@ -100,41 +101,51 @@ module _ {A B : Type 0} {r : Reader A} {s : Reader B} {p : ℕ → List ℕ → 
   both-more k h b =
       d .more _ (λ a. rw (e .some-field, andThen)) b ∙ then-same (p 44 b) (λ x. e .more (k (x .0)) (h (x .0)) (x .1))
 
--- A reader made of others
+-- an interval's four fields, in a longer line
+grouped : {A : Type 0} (k : Interval → Reader A) (ts : List (List ℕ))
+    → (interval >>= k) ts ≡ (number minute >>= (λ i. number minute >>= (λ j.
+    number minute >>= (λ p. number minute >>= (λ q. k (span i j p q)))))) ts
+unfolding interval _>>=_ return
+grouped k ts =
+    then-then (number minute ts) _ _ ∙ then-same (number minute ts) (λ x.
+    then-then (number minute (x .1)) _ _ ∙ then-same (number minute (x .1)) (λ y.
+    then-pair (number minute (y .1)) _ _ _))
 
-module _ {A B : Type 0} {r : Reader A} {p : ℕ → List ℕ → Option (A × List ℕ)} (d : Shape r p) where
-  -- what is made of the one thing that r reads
-  made-shape : (f : A → B)
-      → Shape (r >>= (λ a. return (f a))) (λ stop b. andThen (p stop b) (λ x. some (f (x .0), x .1)))
-  unfolding _>>=_ return andThen
-  made-shape f = record {
-    some-field = rw (d .some-field, andThen);
-    more = λ k h b.
-        line-same (λ ts. then-then (r ts) _ _) b ∙ d .more (λ a. k (f a)) (λ a. h (f a)) b
-        ∙ sym (then-then (p 44 b) _ _);
-    last = λ g b.
-        line-same (λ ts. then-then (r ts) _ _) b ∙ d .last (λ a. g (f a)) b ∙ sym (then-then (p 10 b) _ _);
-  }
+interval-then : {A : Type 0} (stop : ℕ) (b : List ℕ) (k : Interval × List ℕ → Option A)
+    → andThen (intervalTo stop b) k ≡ andThen (fieldTo 44 (numberIn minute) b) (λ x.
+    andThen (fieldTo 44 (numberIn minute) (x .1)) (λ y.
+    andThen (fieldTo 44 (numberIn minute) (y .1)) (λ u.
+    andThen (fieldTo stop (numberIn minute) (u .1)) (λ v. k (span (x .0) (y .0) (u .0) (v .0), v .1)))))
+unfolding intervalTo
+interval-then stop b k =
+    then-then (fieldTo 44 (numberIn minute) b) _ _ ∙ then-same (fieldTo 44 (numberIn minute) b) (λ x.
+    then-then (fieldTo 44 (numberIn minute) (x .1)) _ _ ∙ then-same (fieldTo 44 (numberIn minute) (x .1)) (λ y.
+    then-pair (fieldTo 44 (numberIn minute) (y .1)) (λ u. fieldTo stop (numberIn minute) (u .1))
+    (λ u v. (span (x .0) (y .0) (u .0) (v .0), v .1)) k))
 
-  -- r, and what follows it
-  then-shape : {s : A → Reader B} {q : A → ℕ → List ℕ → Option (B × List ℕ)} → ((a : A) → Shape (s a) (q a))
-      → Shape (r >>= s) (λ stop b. andThen (p 44 b) (λ x. q (x .0) stop (x .1)))
-  unfolding _>>=_ andThen
-  then-shape {s} {q} e = record {
-    some-field = rw (d .some-field, andThen);
-    more = λ k h b.
-        line-same (λ ts. then-then (r ts) _ _) b
-        ∙ d .more (λ a. s a >>= k) (λ a. rw (e a .some-field, andThen)) b
-        ∙ then-same (p 44 b) (λ x. e (x .0) .more k h (x .1)) ∙ sym (then-then (p 44 b) _ _);
-    last = λ g b.
-        line-same (λ ts. then-then (r ts) _ _) b
-        ∙ d .more (λ a. s a >>= (λ c. return (g c))) (λ a. rw (e a .some-field, andThen)) b
-        ∙ then-same (p 44 b) (λ x. e (x .0) .last g (x .1)) ∙ sym (then-then (p 44 b) _ _);
-  }
+-- the first two of the four, whatever the line goes on with
+begins : {A : Type 0} (k : ℕ → ℕ → ℕ → Reader A) (b : List ℕ)
+    → readLine (number minute >>= (λ i. number minute >>= (λ j. number minute >>= (λ p. k i j p)))) b
+    ≡ andThen (fieldTo 44 (numberIn minute) b) (λ x. andThen (fieldTo 44 (numberIn minute) (x .1)) (λ y.
+    readLine (number minute >>= (λ p. k (x .0) (y .0) p)) (y .1)))
+unfolding number next _>>=_ andThen
+begins k b =
+    both-more (number-shape minute) (number-shape minute) (λ i j. number minute >>= (λ p. k i j p)) (λ i j. refl) b
 
--- an interval's four fields
 pub interval-shape : Shape interval intervalTo
-unfolding interval intervalTo
-interval-shape =
-    then-shape (number-shape minute) (λ i. then-shape (number-shape minute) (λ j.
-    then-shape (number-shape minute) (λ p. made-shape (number-shape minute) (λ q. span i j p q))))
+unfolding interval number next _>>=_ andThen
+interval-shape = record {
+  some-field = refl;
+  more = λ k h b.
+      line-same (grouped k) b
+      ∙ begins (λ i j p. number minute >>= (λ q. k (span i j p q))) b
+      ∙ then-same (fieldTo 44 (numberIn minute) b) (λ x. then-same (fieldTo 44 (numberIn minute) (x .1)) (λ y.
+      both-more (number-shape minute) (number-shape minute) (λ p q. k (span (x .0) (y .0) p q)) (λ p q. h _) (y .1)))
+      ∙ sym (interval-then 44 b _);
+  last = λ f b.
+      line-same (grouped (λ i. return (f i))) b
+      ∙ begins (λ i j p. number minute >>= (λ q. return (f (span i j p q)))) b
+      ∙ then-same (fieldTo 44 (numberIn minute) b) (λ x. then-same (fieldTo 44 (numberIn minute) (x .1)) (λ y.
+      both-last (number-shape minute) (number-shape minute) (λ p q. f (span (x .0) (y .0) p q)) (y .1)))
+      ∙ sym (interval-then 10 b _);
+}

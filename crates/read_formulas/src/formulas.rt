@@ -35,8 +35,8 @@ pub fn interval(s: &[u8], at: u32, stop: u8) -> Span
     let Decimal::Number(first, k) = h else {
         return Span::Broken;
     };
-    let e = number(s, k, 0, ranges::MINUTE_LAST, stop);
-    let Decimal::Number(last, l) = e else {
+    let l = number(s, k, 0, ranges::MINUTE_LAST, stop);
+    let Decimal::Number(last, end) = l else {
         return Span::Broken;
     };
     Span::Minutes(
@@ -46,7 +46,7 @@ pub fn interval(s: &[u8], at: u32, stop: u8) -> Span
             first,
             last,
         },
-        l,
+        end,
     )
 }
 

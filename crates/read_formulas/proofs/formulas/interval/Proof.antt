@@ -46,12 +46,13 @@ interval-spec =
       seen (decimalOf _) (d .before .before .number3 .ensures) (d .h .given .1),
       seen (decimalOf _) (c .before .before .number4 .ensures) (c .enum-told4 .given .1),
     ))
-    (λ c. let d = c .before .before .before .before in
+    (λ c. let b = c .before in
+    let d = b .before .before .before .before in
     let e = d .before .before .before .before in
     let f = e .before .before .before .before in
     simp (
-      seen (decimalOf _) (f .before .before .before .number .ensures) (f .before .f .given .1),
-      seen (decimalOf _) (e .before .before .before .number2 .ensures) (e .before .g .given .1),
-      seen (decimalOf _) (d .before .before .before .number3 .ensures) (d .before .h .given .1),
-      seen (decimalOf _) (c .before .before .before .number4 .ensures) (c .before .e .given .1),
+      seen (decimalOf _) (f .before .before .number .ensures) (f .f .given .1),
+      seen (decimalOf _) (e .before .before .number2 .ensures) (e .g .given .1),
+      seen (decimalOf _) (d .before .before .number3 .ensures) (d .h .given .1),
+      seen (decimalOf _) (b .before .before .number4 .ensures) (b .l .given .1),
     )))
