@@ -1,5 +1,5 @@
-// What a row tells of its formula line: the numbers that it names, whether an interval is reversed or broken, whether its
-// letter is that of a plain formula.
+// What a row tells of its formula line: the numbers that it names, whether an interval is reversed or broken, whether
+// its letter is that of a plain formula.
 use steps::Row;
 use steps::letters;
 ghost use mathlib.Core.Path.{_≡_};

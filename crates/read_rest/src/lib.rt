@@ -23,8 +23,8 @@ pub enum HoldsRead {
     Broken,
 }
 
-// The step lines of a booking were read; whether an interval among them is reversed (refusal 3), and whether one is broken
-// (43).
+// The step lines of a booking were read; whether an interval among them is reversed (refusal 3), and whether one is
+// broken (43).
 pub enum StepsRead {
     Read(bool, bool),
     Broken,
