@@ -52,7 +52,7 @@ pub past-3 : (l : List ℕ) (x : Row) {v : Verdict} → Tells 3 v (anyOf reverse
     → Past l x (after-3 l x)
 past-3 l x h e = from-start ▸ shown (intervals-told reversed x h) e
 
-module _ {l : List ℕ} {x : Row} where
+module _ (l : List ℕ) (x : Row) where
   pub past-43 : {v : Verdict} → Past l x (after-3 l x) → Tells 43 v (anyOf broken (lineIntervals (lineOf x)))
       → v ≡ Passed
       → Past l x ((10 if anyOf (missing (ledgerOf l)) (names (lineOf x))) ∷ fitChecks (ledgerOf l) (lineOf x))
@@ -68,7 +68,6 @@ module _ {l : List ℕ} {x : Row} where
       → Handled l (word (lineOf x)) (Refused 43 0) l
   word-broken g s h e = refused g s (shown (intervals-told broken x h) e)
 
-module _ (l : List ℕ) (x : Row) where
   -- 12, 13 and 14 as the code tests them
   pub sized : {z : ℕ} {v : Verdict} → z ≡ size (form (formula (ledgerOf l)) (lineOf x)) → Tells 12 v (ltb maxSize z)
       → Tells 12 v (oversize (ledgerOf l) (lineOf x))

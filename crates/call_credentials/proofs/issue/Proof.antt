@@ -14,7 +14,7 @@ use Rattle.call_credentials.proofs.issue.Tie as tie
 
 -- the way back to the start from where the interval is well formed, and where the formula is there
 abbrev formed : tie.After-enum-told3 → tie.Start
-formed c = c .before .before .before .before .before .before .before
+formed c = c .before .before .before .before .before .before
 
 abbrev present : tie.After-enum-told5 → tie.Start
 present c = formed (c .before .before .before .before)
@@ -26,7 +26,7 @@ returns c =
 
 returns-2 : tie.Need-returns-2
 returns-2 c =
-    let ordered = c .before .before .before .before in
+    let ordered = c .before .before .before in
     issue-broken (ordered .before .before .before .pre)
     (past-3 _ _ _ _ (ordered .before .before .check-ordered .ensures) (ordered .enum-told .given .1))
     (c .before .before .check-unbroken .ensures) (c .enum-told4 .given .1)
@@ -36,7 +36,7 @@ abbrev past-intervals : (c : tie.After-enum-told3) →
     let a = formed c .args in
     (rest : List Check) × Past (now (a .store)) (a .kind) (a .formula) (a .interval) rest
 past-intervals c =
-    let ordered = c .before .before .before .before in (
+    let ordered = c .before .before .before in (
       _,
       past-43 _ _ _ _
           (past-3 _ _ _ _ (ordered .before .before .check-ordered .ensures) (ordered .enum-told .given .1))

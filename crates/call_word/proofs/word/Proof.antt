@@ -13,28 +13,28 @@ use Rattle.call_word.proofs.word.Tie as tie
 
 returns : tie.Need-returns
 returns c =
-    word-reversed (c .before .before .before .pre .0) (c .before .before .check-line-ordered .ensures)
+    word-reversed _ _ (c .before .before .before .pre .0) (c .before .before .check-line-ordered .ensures)
     (c .enum-told2 .given .1)
 
 returns-2 : tie.Need-returns-2
 returns-2 c =
-    let ordered = c .before .before .before .before in
-    word-broken (ordered .before .before .before .pre .0)
+    let ordered = c .before .before .before in
+    word-broken _ _ (ordered .before .before .before .pre .0)
     (past-3 _ _ (ordered .before .before .check-line-ordered .ensures) (ordered .enum-told .given .1))
     (c .before .before .check-line-unbroken .ensures) (c .enum-told4 .given .1)
 
 -- the way back to the start from where the intervals are well formed
 abbrev formed : tie.After-enum-told3 → tie.Start
-formed c = c .before .before .before .before .before .before .before
+formed c = c .before .before .before .before .before .before
 
 -- 3 and 43 have passed
 abbrev past-intervals : (c : tie.After-enum-told3) →
     let a = formed c .args in
     (rest : List Check) × Past (now (a .store)) (a .row) rest
 past-intervals c =
-    let ordered = c .before .before .before .before in (
+    let ordered = c .before .before .before in (
       _,
-      past-43 (past-3 _ _ (ordered .before .before .check-line-ordered .ensures) (ordered .enum-told .given .1))
+      past-43 _ _ (past-3 _ _ (ordered .before .before .check-line-ordered .ensures) (ordered .enum-told .given .1))
           (c .before .before .check-line-unbroken .ensures) (c .enum-told3 .given .1),
     )
 
