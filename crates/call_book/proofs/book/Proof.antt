@@ -98,7 +98,7 @@ returns-4 c =
 returns-5 : tie.Need-returns-5
 returns-5 c =
     let unbroken = c .before .before in
-    let passed = unbroken .before .before in
+    let passed = unbroken .before in
     let ordered = passed .before .before in
     lines-broken (steps-read (ordered .before .before)) (ordered .check-lines-ordered .ensures)
     (passed .enum-told5 .given .1) (unbroken .check-lines-unbroken .ensures) (c .enum-told8 .given .1)
@@ -107,7 +107,7 @@ book-read-requires : tie.Need-book-read-requires
 book-read-requires c κs =
     let formed = c .before .before .before in
     let unbroken = formed .before .before in
-    let passed = unbroken .before .before in
+    let passed = unbroken .before in
     let ordered = passed .before .before in
     lines-read (steps-read (ordered .before .before)) (ordered .check-lines-ordered .ensures)
     (passed .enum-told5 .given .1) (unbroken .check-lines-unbroken .ensures) (formed .enum-told7 .given .1)
@@ -115,7 +115,7 @@ book-read-requires c κs =
 returns-6 : tie.Need-returns-6
 returns-6 c =
     let unbroken = c .before .before .before .before .before .before in
-    let ordered = unbroken .before .before .before .before in
+    let ordered = unbroken .before .before .before in
     lines-handled (steps-read (ordered .before .before)) (c .book-read .ensures)
 
 pub book-spec : {M : Type 1} → statement M
