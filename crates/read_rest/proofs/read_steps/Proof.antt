@@ -36,12 +36,12 @@ read-steps-spec =
     (λ c. search needs)
     (λ c. search needs)
     (λ c. let e = c .before .before in
-    let d = e .before .before .before .before in
+    let d = e .before .before .before in
     let l = d .before .before .before in
     next-reading (l .before .loop .inv) _ _ _ _ _ (l .loop-test .taken)
     (l .before .before .before .before .before .pre .few)
     (seen (stepLineOf _) (d .before .before .read-step .ensures) (d .line .given .1)) (c .put-step .ensures)
-    (e .before .before .turns .ensures) (e .breaks .ensures)
+    (e .before .turns .ensures) (e .breaks .ensures)
     (search needs))
     (λ c. search needs)
     (λ c. more-bytes (c .before .before .loop .inv) (c .before .loop-test .left) (c .if1 .taken))
