@@ -14,7 +14,7 @@ use Rattle.step_rows.specs.LabelRows.{labelWidth, labelCells, labelPlace
 use Rattle.logic.proofs.Stores.{sets-outside, sets-in}
 
 abbrev cells : Hypothesis → List ℕ
-cells h = h .formula ∷ h .interval .from ∷ h .interval .to ∷ h .interval .first ∷ h .interval .last ∷ []
+cells h = let i = h .interval in h .formula ∷ i .from ∷ i .to ∷ i .first ∷ i .last ∷ []
 
 stays : (t : List ℕ) (n : ℕ) (h : Hypothesis) → length t ≡ labelCells → length (putLabel t n h) ≡ labelCells
 unfolding putLabel

@@ -14,9 +14,7 @@ use Rattle.step_rows.specs.StepRows.{stepWidth, stepPlace, stepRowAt, pu
 use Rattle.logic.proofs.Stores.{sets-outside, sets-in}
 
 abbrev cells : StepRow → List ℕ
-cells r =
-    r .op ∷ r .label ∷ r .high ∷ r .low ∷ r .interval .from ∷ r .interval .to ∷ r .interval .first ∷
-    r .interval .last ∷ []
+cells r = let i = r .interval in r .op ∷ r .label ∷ r .high ∷ r .low ∷ i .from ∷ i .to ∷ i .first ∷ i .last ∷ []
 
 pub length-put : (l : List ℕ) (k : ℕ) (r : StepRow) → length (putStepRow l k r) ≡ length l
 unfolding putStepRow

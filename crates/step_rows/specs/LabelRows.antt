@@ -1,4 +1,4 @@
--- The table of labels: label k's formula and interval, as from, to, first and last.
+-- The table of labels: label k's formula, and its interval's from, to, first and last.
 use mathlib.Core.List.{List, [], _∷_}
 use Prim.Native.Nat.{ℕ, _+_, _*_}
 use lib.ListN.{getD}
@@ -32,5 +32,5 @@ labelAt t k = record {
 
 unfoldable pub putLabel : List ℕ → ℕ → Hypothesis → List ℕ
 putLabel t k h =
-    sets t (labelPlace k)
-    (h .formula ∷ h .interval .from ∷ h .interval .to ∷ h .interval .first ∷ h .interval .last ∷ [])
+    let i = h .interval in
+    sets t (labelPlace k) (h .formula ∷ i .from ∷ i .to ∷ i .first ∷ i .last ∷ [])
