@@ -42,7 +42,7 @@ trait Side {
 }
 
 struct Proved {
-    block: [u32; 7748],
+    block: [u32; 8148],
     scratch: [u32; 1536],
 }
 
@@ -176,7 +176,7 @@ impl Together {
 }
 
 fn main() {
-    let mut proved = Box::new(Proved { block: [0; 7748], scratch: [0; 1536] });
+    let mut proved = Box::new(Proved { block: [0; 8148], scratch: [0; 1536] });
     let mut reference = Box::new(Till::new());
     let words: Vec<String> = std::env::args().skip(1).collect();
     if words[0] == "--once" {

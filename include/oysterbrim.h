@@ -14,8 +14,8 @@
 extern "C" {
 #endif
 
-/* A till: a block of 7,748 numbers of 32 bits (30,992 bytes), aligned as uint32_t. It holds no pointer. */
-#define TILL_NUMBERS 7748
+/* A till: a block of 8,148 numbers of 32 bits (32,592 bytes), aligned as uint32_t. It holds no pointer. */
+#define TILL_NUMBERS 8148
 
 /* No sheet has more bytes; a longer one is refused with 1. */
 #define TILL_SHEET_BYTES 16384

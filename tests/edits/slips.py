@@ -214,9 +214,10 @@ class Log:
     """What a check printed of a crate with slips: how each function stands, and the errors in the proofs."""
 
     STATE = re.compile(r"^fn (\w+)::([\w:]+): (proved|not proved|no proof)(.*)$", re.M)
-    ERROR = re.compile(r"^(?:.*/)?proofs/(.+?)\.antt:\d+:\d+: error: (?:`([^`]+)`: )?(.*)$", re.M)
+    # what it says may go on in lines that are indented
+    ERROR = re.compile(r"^(?:.*/)?proofs/(.+?)\.antt:\d+:\d+: error: (?:`([^`]+)`: )?(.*(?:\n  .*)*)$", re.M)
     # the proof no longer fits the code's shape, or gave up: nothing is shown
-    SHAPE = re.compile(r"has no `Need-|has no field|broke off")
+    SHAPE = re.compile(r"has no\s+`Need-|has no\s+field|broke off")
     FOLLOWS = re.compile(r"^`([^`]+)` was not admitted")
 
     def __init__(self, crate, text):

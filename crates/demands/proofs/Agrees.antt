@@ -24,9 +24,9 @@ use Rattle.demands.specs.History.{issued}
 use Rattle.demands.specs.History.{seatsAndPlacesOf, withdrawn}
 use Rattle.ledger.proofs.Credentials.{take-out, linearly}
 use Rattle.ledger.specs.Bounds.{There, Tabled}
-use Rattle.ledger.proofs.Tables.{formula-snoc, formula-stays, line-tabled}
+use Rattle.ledger.proofs.FormulaTable.{formula-snoc, formula-stays, line-tabled}
 use Rattle.ledger.proofs.Bounds.{same-table}
-use Rattle.ledger.proofs.Passed.{Fair}
+use Rattle.ledger.proofs.Passed.{FitsKind}
 
 pub note-silent : (o : Option Request) (n k : ℕ) (h : History) → note o (Refused n k) h ≡ h
 note-silent none n k h = refl
@@ -37,7 +37,7 @@ pub record Right (t : Ledger) (h : History) (c : Credential) : Type 0 where
   pub given : givenIn h (c .serial) ≡ some (record { kind = c .kind; formula = c .formula })
   pub below : c .serial < t .next
   pub there : c .formula < length (t .lines)
-  pub fair : Fair (c .kind) (formula t (c .formula))
+  pub fits : FitsKind (c .kind) (formula t (c .formula))
 
 -- seats and places of a session in a credential's formula
 abbrev pub seatsAndPlacesIn : Ledger → ℕ → Credential → ℕ
@@ -67,7 +67,7 @@ word-keeps t h l a r = record {
     given = r .given;
     below = r .below;
     there = omega (arith, length-append (t .lines) (l ∷ []), r .there);
-    fair = subst (Fair (c .kind)) (sym (formula-stays t l (c .formula) (r .there))) (r .fair);
+    fits = subst (FitsKind (c .kind)) (sym (formula-stays t l (c .formula) (r .there))) (r .fits);
   }) (t .live) (a .credentials);
   totals = λ s. omega (
     arith,
@@ -92,7 +92,7 @@ unlearned n k x f lt = rw (ne-eqb n k (λ e. omega arith), learn)
 
 pub given-right : (t : Ledger) (h : History) (e : Event) (cs : List Credential) (k : Kind) (n : ℕ) (i : Interval)
     → givenIn (e ∷ h) ≡ learn (Accepted (t .next)) (some (record { kind = k; formula = n })) (givenIn h)
-    → Every (Right t h) cs → n < length (t .lines) → Fair k (formula t n)
+    → Every (Right t h) cs → n < length (t .lines) → FitsKind k (formula t n)
     → Every (Right (withCredential (withLive t cs) k n i) (e ∷ h)) (cs ++ (new t k n i ∷ []))
 given-right t h e cs k n i q r lt f =
     every-snoc _ cs (new t k n i)
@@ -101,17 +101,17 @@ given-right t h e cs k n i q r lt f =
           ∙ unlearned (c .serial) (t .next) _ (givenIn h) (r .below) ∙ r .given;
       below = omega (arith, r .below);
       there = r .there;
-      fair = r .fair;
+      fits = r .fits;
     }) cs r)
     (record {
       given = ap (λ (g : ℕ → Option Given). g (t .next)) q ∙ learned (t .next) _ (givenIn h);
       below = omega arith;
       there = lt;
-      fair = f;
+      fits = f;
     })
 
 pub issue-keeps : (t : Ledger) (h : History) (k : Kind) (n : ℕ) (i : Interval) → Agrees t h → n < length (t .lines)
-    → Fair k (formula t n) → Agrees (withCredential t k n i) (event (issue k n i) (t .next) ∷ h)
+    → FitsKind k (formula t n) → Agrees (withCredential t k n i) (event (issue k n i) (t .next) ∷ h)
 unfolding formulaIn givenIn issued withdrawn
 issue-keeps t h k n i a lt f = record {
   tabled = same-table t _ _ (a .tabled);
@@ -140,8 +140,9 @@ known t t′ h h′ cs n l g = every-map (λ c q. record {
   given = ap (λ (f : ℕ → Option Given). f (c .serial)) g ∙ q .given;
   below = omega (arith, q .below);
   there = omega (arith, q .there, ap length l);
-  fair = subst (λ (ls : List Line). Fair (c .kind) (formula (record { lines = ls; live = []; next = 0 }) (c .formula)))
-      (sym l) (q .fair);
+  fits = subst
+      (λ (ls : List Line). FitsKind (c .kind) (formula (record { lines = ls; live = []; next = 0 }) (c .formula)))
+      (sym l) (q .fits);
 }) cs
 
 pub withdraw-keeps : (t : Ledger) (h : History) (n : ℕ) (c : Credential) → find (t .live) n ≡ some c → Agrees t h

@@ -1,14 +1,13 @@
 -- Demand 2: completeness, down to bytes.
-use mathlib.Core.Path.{_≡_, refl, sym, ap, subst, _∙_}
+use mathlib.Core.Path.{_≡_, refl, sym, ap, _∙_}
 use mathlib.Core.Logic.{inl, inr}
 use mathlib.Core.List.{List, [], _∷_, _++_}
 use mathlib.Core.Option.{Option, none, some}
 use mathlib.Core.Bool.{Bool, true, false, _||_}
 use Prim.Native.Nat.{ℕ, _+_, _<_, _≤_}
 use native.Mathlib.Omega.{arith}
-use lib.Dec.{ltb}
 use lib.ListN.{length, length-map}
-use borrow.Author.Tests.{leb-false, le-ltb}
+use borrow.Author.Tests.{leb-false}
 use Rattle.logic.specs.declared.Interval.{Interval}
 use Rattle.logic.specs.Interval.{Ordered, has, reversed}
 use Rattle.logic.specs.Multiset.{Every}
@@ -16,31 +15,30 @@ use Rattle.logic.specs.Derives.{uses, taken}
 use Rattle.logic.proofs.Tests.{no-truth, and-decides, le-decides}
 use Rattle.logic.proofs.Intervals.{ordered-decides}
 use Rattle.logic.proofs.Multisets.{every-out, every-map}
-use Rattle.request.specs.Range.{serial, maxBytes, steps as stepCount}
-use Rattle.request.specs.Request.{Step, Booking, Request, book, stepIntervals, stepsIntervals, intervals}
-use Rattle.request.specs.Read.{requestOf}
+use Rattle.request.specs.Range.{serial, steps as stepCount}
+use Rattle.request.specs.Request.{Step, Booking, book, stepIntervals, stepsIntervals, intervals}
 use Rattle.request.specs.Write.{write}
-use Rattle.request.specs.InRange.{_∈_, BookingInRange, StepInRange}
+use Rattle.request.specs.InRange.{_inRange_, BookingInRange, StepInRange}
 use Rattle.request.proofs.Requests.{write-read, write-short}
 use Rattle.steps.specs.declared.Sequent.{Sequent}
 use Rattle.steps.specs.declared.Goal.the-variants.{Holds}
 use Rattle.steps.specs.Check.{maxLabels, done, premiseOf, finished, checkOf}
-use Rattle.steps.specs.Letters.{letterOf}
+use Rattle.steps.specs.StepLetters.{letterOf}
 use Rattle.steps.specs.Limits.{Writable}
-use Rattle.steps.proofs.Tables.{label-table}
+use Rattle.steps.proofs.LabelTables.{label-table}
 use Rattle.steps.proofs.Steps.{passing}
 use Rattle.ledger.specs.declared.Credential.{Credential}
 use Rattle.ledger.specs.Ledger.{Ledger, row, find, isNone, held, linearCount}
-use Rattle.ledger.specs.Checks.{LabelTable, Refusal, _if_, any, dead, twice, noRoom, usedUp}
+use Rattle.ledger.specs.Checks.{LabelTable, _if_, first, anyOf, dead, noRoom, usedUp}
 use Rattle.ledger.specs.Checks.{readLabel}
 use Rattle.ledger.specs.Checks.{writeLabel}
-use Rattle.ledger.specs.Checks.{verdict, steps, checks, readChecks, checksOf}
-use Rattle.ledger.specs.Calls.{ok, accept, says}
-use Rattle.ledger.specs.Statements.{Pass, FirstFails}
-use Rattle.ledger.proofs.Answers.{some-inj, heard}
+use Rattle.ledger.specs.Checks.{verdict, steps, checks, checksOf}
+use Rattle.ledger.specs.Calls.{Told, ok, accept, toldOf}
+use Rattle.ledger.specs.Statements.{SoFar, _▸_}
+use Rattle.ledger.proofs.Answers.{some-inj, first-passes, heard}
 use Rattle.ledger.proofs.Credentials.{take-out, any-none, Alive, held-length}
 use Rattle.ledger.specs.Bounds.{Rises, Bounded}
-use Rattle.ledger.proofs.Firsts.{if-false, if-true, skip, hit, not-true}
+use Rattle.ledger.proofs.Firsts.{first-fails, if-false, if-true, stopped-at, none-stops, not-true, past-form}
 use Rattle.demands.specs.Demands.{hyp, startLabels, booking, StepsComplete, May, PastSteps, Completeness}
 use Rattle.demands.proofs.Demand1.{demand-1, call-accepts}
 use Rattle.demands.proofs.Start.{unrolls, start}
@@ -78,10 +76,10 @@ rises-least : (lo : ℕ) (cs : List Credential) → Rises lo cs → Every (λ c.
 rises-least lo [] r = tt
 rises-least lo (c ∷ cs) r = let l = r .0 in (omega arith, rises-least (c .serial) cs (r .1))
 
-live-in-range : (t : Ledger) → Bounded t → (n : ℕ) → Alive (t .live) n → n ∈ serial
+live-in-range : (t : Ledger) → Bounded t → (n : ℕ) → Alive (t .live) n → n inRange serial
 live-in-range t b n a = go (find (t .live) n) refl a
   where
-    go : (o : Option Credential) → find (t .live) n ≡ o → isNone o ≡ false → n ∈ serial
+    go : (o : Option Credential) → find (t .live) n ≡ o → isNone o ≡ false → n inRange serial
     go none e q = absurd (no-truth (sym q))
     go (some c) e q =
         let out = take-out (t .live) n e in
@@ -92,7 +90,7 @@ live-in-range t b n a = go (find (t .live) n) refl a
 -- A booking that passes every check up to 42
 
 record Passing (t : Ledger) (b : Booking) : Type 0 where
-  straight : any reversed (intervals (book b)) ≡ false
+  straight : anyOf reversed (intervals (book b)) ≡ false
   may : May t (b .now) (b .formula) (b .interval) (b .holds)
   closes : steps t (held (t .live) (b .holds)) (b .formula) (b .interval) (b .steps) ≡ none
 
@@ -100,108 +98,68 @@ module _ (t : Ledger) (b : Booking) (r : BookingInRange b) (p : Passing t b) whe
   bytes : List ℕ
   bytes = write (book b)
 
-  reads : requestOf bytes ≡ some (book b)
-  unfolding bytes
-  reads = write-read (book b) r
-
   full : Bool
   full = noRoom t (linearCount (held (t .live) (b .holds)))
 
   -- the checks before 22 pass
-  up-to-42 : (f : Refusal) → FirstFails f ((22 if full) ∷ (23 if usedUp t) ∷ []) → FirstFails f (checks t (book b))
-  unfolding checks full
-  up-to-42 f h =
+  so-far : SoFar (checksOf t bytes) ((22 if full) ∷ (23 if usedUp t) ∷ [])
+  unfolding bytes checks full
+  so-far =
       let m = p .may in
-      skip (if-false 10 _ (m .there)) (skip (if-false 20 _ (not-true _ (m .plain)))
-      (skip (if-false 30 _ (not-true _ (m .inside))) (skip (if-false 24 _ (m .live))
-      (skip (if-false 31 _ (m .apart)) (skip (p .closes) h)))))
+      past-form t bytes (write-short (book b) r) (write-read (book b) r)
+      ▸ if-false 3 _ (p .straight)
+      ▸ if-false 10 _ (m .there)
+      ▸ if-false 20 _ (not-true _ (m .plain))
+      ▸ if-false 30 _ (not-true _ (m .inside))
+      ▸ if-false 24 _ (m .live)
+      ▸ if-false 31 _ (m .apart)
+      ▸ p .closes
 
-  all-pass : full ≡ false → usedUp t ≡ false → Pass (checks t (book b))
-  unfolding checks full
-  all-pass x y =
-      let m = p .may in
-      let last : Pass ((22 if full) ∷ (23 if usedUp t) ∷ []) = (if-false 22 _ x, (if-false 23 _ y, tt)) in
-      let holds : Pass ((24 if any (dead t) (b .holds)) ∷ (31 if twice (b .holds)) ∷ []) =
-      (if-false 24 _ (m .live), (if-false 31 _ (m .apart), tt)) in (
-        if-false 10 _ (m .there),
-        (
-          if-false 20 _ (not-true _ (m .plain)),
-          (
-            if-false 30 _ (not-true _ (m .inside)),
-            (holds .0, (holds .1 .0, (p .closes, last))),
-          ),
-        ),
-      )
+  refused : {n : ℕ} → first (checksOf t bytes) ≡ some (record { number = n; step = 0 }) → toldOf t bytes ≡ Told.no n 0
+  refused e = demand-1 t bytes .refused _ 0 .1 (first-fails (checksOf t bytes) e)
 
-  -- with the checks of the bytes before them
-  short : (1 if ltb maxBytes (length bytes)) ≡ none
-  unfolding bytes
-  short = if-false 1 _ (le-ltb maxBytes (length (write (book b))) (write-short (book b) r))
+  accepted : first (checksOf t bytes) ≡ none → toldOf t bytes ≡ ok (t .next ∷ [])
+  unfolding bytes accept
+  accepted e =
+      let c = call-accepts t bytes (demand-1 t bytes .accepted .1 (first-passes (checksOf t bytes) e)) in
+      ap heard (c .2 ∙ ap (accept t) (some-inj (sym (c .1) ∙ write-read (book b) r)))
 
-  formed : (2 if isNone (requestOf bytes)) ≡ none
-  formed = if-false 2 _ (ap isNone reads)
-
-  fails : (f : Refusal) → FirstFails f (checks t (book b)) → FirstFails f (checksOf t bytes)
-  unfolding checksOf
-  fails f h =
-      skip short (skip formed (subst (λ (o : Option Request). FirstFails f (readChecks t o)) (sym reads)
-      (skip (if-false 3 _ (p .straight)) h)))
-
-  passes : Pass (checks t (book b)) → Pass (checksOf t bytes)
-  unfolding checksOf
-  passes h = (
-    short,
-    (
-      formed,
-      subst (λ (o : Option Request). Pass (readChecks t o)) (sym reads)
-          (if-false 3 _ (p .straight), h),
-    ),
-  )
-
-  accepted : Pass (checksOf t bytes) → says t bytes ≡ ok (t .next ∷ [])
-  unfolding accept
-  accepted h =
-      let c = call-accepts t bytes (demand-1 t bytes .accepted .1 h) in
-      ap heard (c .2 ∙ ap (accept t) (some-inj (sym (c .1) ∙ reads)))
-
-  past : PastSteps t (says t bytes)
+  past : PastSteps t (toldOf t bytes)
   past = go full refl (usedUp t) refl
     where
-      go : (x : Bool) → full ≡ x → (y : Bool) → usedUp t ≡ y → PastSteps t (says t bytes)
-      go true e y q = inr (inl (demand-1 t bytes .refused 22 0 .1 (fails _ (up-to-42 _ (hit (if-true 22 _ e))))))
-      go false e true q =
-          inr (inr (demand-1 t bytes .refused 23 0 .1
-          (fails _ (up-to-42 _ (skip (if-false 22 _ e) (hit (if-true 23 _ q)))))))
-      go false e false q = inl (accepted (passes (all-pass e q)))
+      go : (x : Bool) → full ≡ x → (y : Bool) → usedUp t ≡ y → PastSteps t (toldOf t bytes)
+      go true e y q = inr (inl (refused (stopped-at so-far (if-true 22 _ e))))
+      go false e true q = inr (inr (refused (stopped-at (so-far ▸ if-false 22 _ e) (if-true 23 _ q))))
+      go false e false q = inl (accepted (none-stops (so-far ▸ if-false 22 _ e ▸ if-false 23 _ q)))
 
 -- The booking that it makes, down to bytes
 
-any-append : (xs ys : List Interval) → any reversed xs ≡ false → any reversed ys ≡ false
-    → any reversed (xs ++ ys) ≡ false
-unfolding any
+any-append : (xs ys : List Interval) → anyOf reversed xs ≡ false → anyOf reversed ys ≡ false
+    → anyOf reversed (xs ++ ys) ≡ false
+unfolding anyOf
 any-append [] ys x y = y
 any-append (i ∷ xs) ys x y = go (reversed i) x (λ e. any-append xs ys e y)
   where
-    go : (b : Bool) → (b || any reversed xs) ≡ false
-        → (any reversed xs ≡ false → any reversed (xs ++ ys) ≡ false) → (b || any reversed (xs ++ ys)) ≡ false
+    go : (b : Bool) → (b || anyOf reversed xs) ≡ false
+        → (anyOf reversed xs ≡ false → anyOf reversed (xs ++ ys) ≡ false) → (b || anyOf reversed (xs ++ ys)) ≡ false
     go true e ih = absurd (no-truth (sym e))
     go false e ih = ih e
 
-ordered-straight : (is : List Interval) → Every Ordered is → any reversed is ≡ false
-unfolding any
+ordered-straight : (is : List Interval) → Every Ordered is → anyOf reversed is ≡ false
+unfolding anyOf
 ordered-straight [] o = refl
 ordered-straight (i ∷ is) o = rw (ordered-decides i .1 (o .0)) (ordered-straight is (o .1))
 
-steps-straight : (ss : List Step) → Every Writable ss → any reversed (stepsIntervals ss) ≡ false
-unfolding stepsIntervals any
+steps-straight : (ss : List Step) → Every Writable ss → anyOf reversed (stepsIntervals ss) ≡ false
+unfolding stepsIntervals anyOf
 steps-straight [] w = refl
 steps-straight (s ∷ ss) w =
     any-append (stepIntervals s) (stepsIntervals ss) (ordered-straight (stepIntervals s) (w .0 .1))
     (steps-straight ss (w .1))
 
 booking-straight : (b : Booking) → Ordered (b .interval) → Every Writable (b .steps)
-    → any reversed (intervals (book b)) ≡ false
-unfolding intervals any
+    → anyOf reversed (intervals (book b)) ≡ false
+unfolding intervals anyOf
 booking-straight b o w = rw (ordered-decides (b .interval) .1 o) (steps-straight (b .steps) w)
 
 has-most : (i : Interval) (m : ℕ) → has i m ≡ true → m ≤ i .to
@@ -212,7 +170,7 @@ writable-in-range : (ss : List Step) → Every Writable ss → Every StepInRange
 writable-in-range ss = every-map (λ s w. w .0) ss
 
 in-range : (t : Ledger) → Bounded t → (b : Booking) → May t (b .now) (b .formula) (b .interval) (b .holds)
-    → length (b .steps) ∈ stepCount → Every Writable (b .steps) → BookingInRange b
+    → length (b .steps) inRange stepCount → Every Writable (b .steps) → BookingInRange b
 in-range t bd b m count w = record {
   now = record { least = omega arith; most = omega (arith, has-most (b .interval) (b .now) (m .inside), m .ranged) };
   formula = record {

@@ -7,7 +7,7 @@ use Rattle.request.specs.Request.{Request}
 use Rattle.request.specs.Read.{requestOf}
 use Rattle.ledger.specs.Ledger.{Ledger}
 use Rattle.ledger.specs.Checks.{Refusal, checksOf}
-use Rattle.ledger.specs.Calls.{Reply, Told, accept, call, says}
+use Rattle.ledger.specs.Calls.{Reply, Told, accept, call, toldOf}
 use Rattle.ledger.specs.Statements.{IsAccepted}
 use Rattle.ledger.proofs.Answers.{some-none, some-inj, Does, refuses, accepts, does, accept-accepts, refusalOf, heard}
 use Rattle.ledger.proofs.Firsts.{pass-first, first-fails, fails-first}
@@ -32,7 +32,7 @@ demand-1 t b = go (does t b)
               (λ h. absurd (subst IsAccepted a h), λ p. absurd (some-none (sym e ∙ pass-first (checksOf t b) p)));
         }
     go (accepts r e p c q) =
-        let a : IsAccepted (says t b) = subst (λ (d : Reply). IsAccepted (heard d)) (sym q) (accept-accepts t r) in
+        let a : IsAccepted (toldOf t b) = subst (λ (d : Reply). IsAccepted (heard d)) (sym q) (accept-accepts t r) in
         record {
           refused = λ n k. (
             λ h. absurd (refused-not _ a h),

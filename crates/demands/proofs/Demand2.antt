@@ -18,18 +18,18 @@ use Rattle.request.specs.Range.{holds as heldRange}
 use Rattle.request.specs.InRange.{StepInRange, BookingInRange}
 use Rattle.steps.specs.declared.Goal.the-variants.{Holds}
 use Rattle.steps.specs.Check.{maxLabels, Outcome, done, stopped, puts, finished, checkOf}
-use Rattle.steps.specs.Letters.{lettersOf}
+use Rattle.steps.specs.StepLetters.{lettersOf}
 use Rattle.steps.specs.Limits.{Minutes, Writable}
 use Rattle.steps.specs.Spells.{Labels, Spells, Refused}
 use Rattle.steps.specs.Statements.{ExactlyAt}
-use Rattle.steps.proofs.Holds.{begins-fits}
-use Rattle.steps.proofs.Tables.{label-table}
+use Rattle.steps.proofs.HoldLabels.{begins-fits}
+use Rattle.steps.proofs.LabelTables.{label-table}
 use Rattle.steps.proofs.Steps.{exactly, sound}
 use Rattle.ledger.specs.declared.Credential.{Credential}
 use Rattle.ledger.specs.Ledger.{Ledger, formula, row, held}
 use Rattle.ledger.specs.Checks.{Refusal, LabelTable, noLabels, readLabel, writeLabel, hypothesis, verdict}
 use Rattle.ledger.specs.Checks.{steps}
-use Rattle.ledger.specs.Checks.{any, bookingSequent}
+use Rattle.ledger.specs.Checks.{anyOf, bookingSequent}
 use Rattle.ledger.proofs.Answers.{some-none, some-inj}
 use Rattle.ledger.proofs.Credentials.{any-none, held-length}
 use Rattle.ledger.specs.Bounds.{Tabled}
@@ -119,10 +119,10 @@ every-step (s ∷ ss) r o = (
   every-step ss (r .1) (every-right Ordered (stepIntervals s) (stepsIntervals ss) o),
 )
 
-none-reversed : (is : List Interval) → any reversed is ≡ false → Every Ordered is
+none-reversed : (is : List Interval) → anyOf reversed is ≡ false → Every Ordered is
 none-reversed is e = every-map (λ i. ordered-decides i .0) is (any-none reversed is e)
 
-pub writable-steps : (b : Booking) → BookingInRange b → any reversed (intervals (book b)) ≡ false
+pub writable-steps : (b : Booking) → BookingInRange b → anyOf reversed (intervals (book b)) ≡ false
     → Every Writable (b .steps)
 unfolding intervals
 writable-steps b r e = every-step (b .steps) (r .steps) (none-reversed (intervals (book b)) e .1)

@@ -27,18 +27,18 @@ use Rattle.request.proofs.Requests.{write-read, read-in-range, write-short}
 use Rattle.ledger.specs.declared.Credential.{Credential}
 use Rattle.ledger.specs.Table.{build, formulas}
 use Rattle.ledger.specs.Ledger.{Ledger, empty, formula, byKind, held, spend}
-use Rattle.ledger.specs.Checks.{any, steps, checks}
+use Rattle.ledger.specs.Checks.{steps, checks}
 use Rattle.ledger.specs.Calls.{withLive, withCredential, only, seatsOf, placesOf, openSeats, shutSeats, placed}
 use Rattle.ledger.specs.Calls.{accept}
 use Rattle.ledger.specs.Calls.{call, after}
 use Rattle.demands.specs.History.{History, note, historyOf, formulaIn, givenIn, seatsAndPlaces, issued}
 use Rattle.demands.specs.History.{withdrawn}
-use Rattle.ledger.proofs.Answers.{if-none, heard}
-use Rattle.ledger.proofs.Firsts.{if-false, handle-passes, call-read}
+use Rattle.ledger.proofs.Answers.{heard}
+use Rattle.ledger.proofs.Firsts.{none-stops, handle-passes, no-intervals, call-read}
 use Rattle.ledger.proofs.Walk.{Keeps, walk}
 use Rattle.ledger.proofs.Credentials.{linearly, only-sum, splits}
 use Rattle.ledger.proofs.Bounds.{same-table}
-use Rattle.ledger.proofs.Passed.{Fair, passed-word, passed-issue, passed-withdraw, PassedBook, passed-book}
+use Rattle.ledger.proofs.Passed.{FitsKind, passed-word, passed-issue, passed-withdraw, PassedBook, passed-book}
 use Rattle.demands.specs.Demands.{hyp, hypsOf, Demand3}
 use Rattle.steps.specs.Limits.{Writable}
 use Rattle.demands.proofs.Demand2.{few-held, writable-steps, steps-derive}
@@ -59,9 +59,9 @@ weigh : (t : Ledger) (h : History) (s : ℕ) (cs : List Credential) → Every (R
     → Weighs s (hypsOf t Unrestricted cs) (hypsOf t Linear cs) (sum (linearly (seatsAndPlacesIn t s)) cs)
 unfolding sum hypsOf
 weigh t h s [] r = record { balanced = tt; even = tt; taken = refl; added = refl }
-weigh t h s (c ∷ cs) r = go (c .kind) (r .0 .fair) (weigh t h s cs (r .1))
+weigh t h s (c ∷ cs) r = go (c .kind) (r .0 .fits) (weigh t h s cs (r .1))
   where
-    go : (k : Kind) → Fair k (formula t (c .formula))
+    go : (k : Kind) → FitsKind k (formula t (c .formula))
         → Weighs s (hypsOf t Unrestricted cs) (hypsOf t Linear cs) (sum (linearly (seatsAndPlacesIn t s)) cs)
         → Weighs s
         (elim (byKind k false true) as (λ z. List Hyp)
@@ -119,14 +119,14 @@ book-keeps t h b a p le w =
 -- Every accepted request keeps ledger and history agreed, so every list of calls does.
 accept-keeps : Keeps note Agrees
 unfolding accept
-accept-keeps t h b (word l) e p a = word-keeps t h l a (passed-word t l (p .1) .there)
+accept-keeps t h b (word l) e p a = word-keeps t h l a (passed-word t l (p .rest) .there)
 accept-keeps t h b (issue k n i) e p a =
-    let q = passed-issue t k n i (p .1) in issue-keeps t h k n i a (q .there) (q .fair)
+    let q = passed-issue t k n i (p .rest) in issue-keeps t h k n i a (q .there) (q .fits)
 accept-keeps t h b (withdraw n) e p a =
-    let q = passed-withdraw t n (p .1) in withdraw-keeps t h n (q .credential) (q .found) a
+    let q = passed-withdraw t n (p .rest) in withdraw-keeps t h n (q .credential) (q .found) a
 accept-keeps t h b (book x) e p a =
     let r = read-in-range b (book x) e in
-    book-keeps t h x a (passed-book t x (p .1)) (r .holdCount .most) (writable-steps x r (if-none 3 _ (p .0)))
+    book-keeps t h x a (passed-book t x (p .rest)) (r .holdCount .most) (writable-steps x r (p .straight))
 accept-keeps t h b (tally s m) e p a = tally-keeps t h s m _ _ _ a
 
 empty-agrees : Agrees empty []
@@ -164,9 +164,9 @@ tally-sum t s m (c ∷ cs) =
 -- a tally is always accepted
 tally-accepted : (t : Ledger) (s m : ℕ) (b : List ℕ) → length b ≤ maxBytes → requestOf b ≡ some (tally s m)
     → call t b ≡ accept t (tally s m)
-unfolding checks any intervals
+unfolding checks intervals
 tally-accepted t s m b le e =
-    call-read t b (tally s m) le e ∙ handle-passes t (tally s m) (if-false 3 false refl, tt)
+    call-read t b (tally s m) le e ∙ handle-passes t (tally s m) (none-stops (no-intervals t (tally s m) refl))
 
 pub demand-3 : Demand3
 unfolding accept openSeats shutSeats placed

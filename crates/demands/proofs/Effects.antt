@@ -13,7 +13,7 @@ use Rattle.request.specs.declared.Kind.the-variants.{Linear, Unrestricted}
 use Rattle.request.specs.Request.{Request, word, issue, withdraw, book, tally}
 use Rattle.ledger.specs.declared.Credential.{Credential}
 use Rattle.ledger.specs.Ledger.{Ledger, empty, byKind, find, withoutSerial, held, spend}
-use Rattle.ledger.specs.Checks.{any}
+use Rattle.ledger.specs.Checks.{anyOf}
 use Rattle.ledger.specs.Calls.{Reply, told, accept, call}
 use Rattle.ledger.proofs.Answers.{some-inj}
 use Rattle.demands.specs.History.{History, note}
@@ -118,7 +118,7 @@ eqb-sym m n = go (eqb n m) refl
 -- the linear ones of a list taken out
 find-spend : (lo : ℕ) (cs hs : List Credential) (m : ℕ) → Rises lo cs
     → find (spend cs hs) m ≡ Found (spent hs m) none (find cs m)
-unfolding spend spent any
+unfolding spend spent anyOf
 find-spend lo cs [] m r = refl
 find-spend lo cs (h ∷ hs) m r = go (h .kind) (λ ds. find-spend lo ds hs m)
   where

@@ -18,8 +18,8 @@ use Rattle.steps.specs.Check.{maxLabels, puts}
 use Rattle.steps.specs.Spells.{Labels}
 use Rattle.steps.specs.Unroll.{letter, made, Unrolls}
 use Rattle.steps.proofs.Labelling.{length-snoc}
-use Rattle.steps.proofs.Tables.{label-table}
-use Rattle.steps.proofs.Holds.{Begins, begins-same, begins-none, add-linear, add-unrestricted}
+use Rattle.steps.proofs.LabelTables.{label-table}
+use Rattle.steps.proofs.HoldLabels.{Begins, begins-same, begins-none, add-linear, add-unrestricted}
 use Rattle.ledger.specs.declared.Credential.{Credential}
 use Rattle.ledger.specs.Table.{form, rowOf}
 use Rattle.ledger.specs.Ledger.{Ledger, formula, row, isKind}

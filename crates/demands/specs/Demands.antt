@@ -18,16 +18,16 @@ use Rattle.request.specs.Range.{session, minute, steps as stepCount, holds as h
 use Rattle.request.specs.Request.{Step, Booking, Request, book, tally}
 use Rattle.request.specs.Read.{requestOf}
 use Rattle.request.specs.Write.{write}
-use Rattle.request.specs.InRange.{_∈_}
+use Rattle.request.specs.InRange.{_inRange_}
 use Rattle.steps.specs.Check.{maxLabels}
-use Rattle.steps.specs.Letters.{lettersOf}
+use Rattle.steps.specs.StepLetters.{lettersOf}
 use Rattle.steps.specs.Limits.{Minutes, Writable}
 use Rattle.steps.specs.Spells.{Labels, Labelled, Spells, Refused as StepsRefused}
 use Rattle.ledger.specs.declared.Credential.{Credential}
 use Rattle.ledger.specs.Ledger.{Ledger, empty, formula, isKind, held}
-use Rattle.ledger.specs.Checks.{Check, any, missing, dead, twice, labelsOf, steps}
+use Rattle.ledger.specs.Checks.{Check, anyOf, missing, dead, twice, labelsOf, steps}
 use Rattle.ledger.specs.Checks.{checksOf}
-use Rattle.ledger.specs.Calls.{Told, ok, accept, call, says, after}
+use Rattle.ledger.specs.Calls.{Told, ok, accept, call, toldOf, after}
 use Rattle.demands.specs.History.{historyOf, issued, withdrawn}
 use Rattle.ledger.specs.Statements.{Pass, FirstFails, IsAccepted}
 
@@ -43,11 +43,11 @@ pub record Reached (t : Ledger) : Type 0 where
 pub record Demand1 (t : Ledger) (bytes : List ℕ) : Type 0 where
   -- refused with these two numbers exactly where they are the first check's that fails
   pub refused : (n k : ℕ)
-      → (says t bytes ≡ Told.no n k) ↔ FirstFails (record { number = n; step = k }) (checksOf t bytes)
+      → (toldOf t bytes ≡ Told.no n k) ↔ FirstFails (record { number = n; step = k }) (checksOf t bytes)
   -- and the ledger is as before
-  pub stays : (n k : ℕ) → says t bytes ≡ Told.no n k → call t bytes .ledger ≡ t
+  pub stays : (n k : ℕ) → toldOf t bytes ≡ Told.no n k → call t bytes .ledger ≡ t
   -- accepted exactly where no check fails
-  pub accepted : IsAccepted (says t bytes) ↔ Pass (checksOf t bytes)
+  pub accepted : IsAccepted (toldOf t bytes) ↔ Pass (checksOf t bytes)
 
 -- DEMAND 2. "A booking is accepted exactly when the other checks pass and its steps are a derivation; every derivation
 -- within the limits has step lines that pass. Other sheets pass exactly when no check fails; each accepted call does
@@ -76,7 +76,7 @@ pub record SoundFor (t : Ledger) (b : Booking) : Type 0 where
 
 abbrev pub Soundness : Type 0
 Soundness = (t : Ledger) → Reached t → (bytes : List ℕ) (b : Booking) → requestOf bytes ≡ some (book b)
-    → IsAccepted (says t bytes) → SoundFor t b
+    → IsAccepted (toldOf t bytes) → SoundFor t b
 
 -- Completeness. "Its limits there: 32 coupons, 256 uses of rules, 64 for coupons plus labels taken, minutes in range,
 -- wordings of this till."
@@ -97,7 +97,7 @@ stepsOf t b = steps t (held (t .live) (b .holds)) (b .formula) (b .interval) (b 
 pub record StepsFor (t : Ledger) (n : ℕ) (i : Interval) (hs : List ℕ) (rules : List Letter) : Type 0 where
   pub lines : List Step
   pub letters : lettersOf lines ≡ rules
-  pub count : length lines ∈ stepCount
+  pub count : length lines inRange stepCount
   pub writable : Every Writable lines
   pub pass : (now : ℕ) → stepsOf t (booking now n i hs lines) ≡ none
 
@@ -111,7 +111,7 @@ StepsComplete = (t : Ledger) → Reached t → (n : ℕ) (i : Interval) (hs : Li
 -- goal a plain formula of the ledger, its interval in range and not reversed, with the minute in it.
 pub record May (t : Ledger) (now n : ℕ) (i : Interval) (hs : List ℕ) : Type 0 where
   pub few : length hs ≤ holdCount .last
-  pub live : any (dead t) hs ≡ false
+  pub live : anyOf (dead t) hs ≡ false
   pub apart : twice hs ≡ false
   pub there : missing t n ≡ false
   pub plain : plain (formula t n) ≡ true
@@ -127,7 +127,7 @@ PastSteps t a = (a ≡ ok (t .next ∷ [])) ⊎ (a ≡ Told.no 22 0) ⊎ (a ≡ 
 abbrev pub Completeness : Type 0
 Completeness = (t : Ledger) → Reached t → (now n : ℕ) (i : Interval) (hs : List ℕ) → May t now n i hs
     → (x : Derivation t (held (t .live) hs) n i) → WithinLimits (length hs) x
-    → (ss : List Step) × (lettersOf ss ≡ letters x) × PastSteps t (says t (write (book (booking now n i hs ss))))
+    → (ss : List Step) × (lettersOf ss ≡ letters x) × PastSteps t (toldOf t (write (book (booking now n i hs ss))))
 
 -- Exactly
 
@@ -161,7 +161,7 @@ OnlySteps (some f) = (40 ≤ f .number) × (f .number ≤ 42)
 
 pub record ExactlyFor (t : Ledger) (bytes : List ℕ) (b : Booking) : Type 0 where
   -- accepted exactly when the other checks pass and its steps are a derivation
-  pub accepted : IsAccepted (says t bytes) ↔ (Every OnlySteps (checksOf t bytes) × StepsDerive t b)
+  pub accepted : IsAccepted (toldOf t bytes) ↔ (Every OnlySteps (checksOf t bytes) × StepsDerive t b)
   -- 40 to 42 are the first fault of the steps, with its step
   pub stopped : (c k : ℕ) → (stepsOf t b ≡ some (record { number = c; step = k })) ↔ StepsStop t b c k
 
@@ -173,7 +173,7 @@ Exactness = (t : Ledger) → Reached t → (bytes : List ℕ) (b : Booking) → 
 
 -- an accepted call answers and leaves what `accept` says of the request that its bytes are
 abbrev pub Accepts : Type 0
-Accepts = (t : Ledger) (bytes : List ℕ) → IsAccepted (says t bytes)
+Accepts = (t : Ledger) (bytes : List ℕ) → IsAccepted (toldOf t bytes)
     → (r : Request) × (requestOf bytes ≡ some r) × (call t bytes ≡ accept t r)
 
 -- DEMAND 3. "For every list of calls from an empty till, for every session and minute: open + shut + placed +
@@ -185,8 +185,8 @@ pub record AddsUp (calls : List (List ℕ)) (s m : ℕ) : Type 0 where
   pub openSeats : ℕ
   pub shutSeats : ℕ
   pub placed : ℕ
-  pub answer : says (after empty calls) (write (tally s m)) ≡ ok (openSeats ∷ shutSeats ∷ placed ∷ [])
+  pub answer : toldOf (after empty calls) (write (tally s m)) ≡ ok (openSeats ∷ shutSeats ∷ placed ∷ [])
   pub sum : openSeats + shutSeats + placed + withdrawn s (historyOf calls) ≡ issued s (historyOf calls)
 
 abbrev pub Demand3 : Type 0
-Demand3 = (calls : List (List ℕ)) (s m : ℕ) → s ∈ session → m ∈ minute → AddsUp calls s m
+Demand3 = (calls : List (List ℕ)) (s m : ℕ) → s inRange session → m inRange minute → AddsUp calls s m

@@ -16,8 +16,8 @@ use Rattle.ledger.specs.declared.Credential.{Credential}
 use Rattle.ledger.specs.declared.Answer.{Answer}
 use Rattle.ledger.specs.declared.Answer.the-variants.{Accepted, Counted, Refused}
 use Rattle.ledger.specs.Ledger.{Ledger, isKind, find, held}
-use Rattle.ledger.specs.Checks.{any}
-use Rattle.ledger.specs.Calls.{Told, ok, openSeats, shutSeats, placed, withLine, call, says}
+use Rattle.ledger.specs.Checks.{anyOf}
+use Rattle.ledger.specs.Calls.{Told, ok, openSeats, shutSeats, placed, withLine, call, toldOf}
 use Rattle.demands.specs.History.{History, historyOf}
 use Rattle.ledger.specs.Statements.{IsAccepted}
 use Rattle.demands.specs.Demands.{Reached}
@@ -57,7 +57,7 @@ nothing m = false
 
 -- a booking: the serials of the linear credentials held
 unfoldable pub spent : List Credential → ℕ → Bool
-spent hs m = any (λ c. isKind Linear (c .kind) && eqb (c .serial) m) hs
+spent hs m = anyOf (λ c. isKind Linear (c .kind) && eqb (c .serial) m) hs
 
 abbrev pub EffectOf : Ledger → Request → Told → Ledger → Type 0
 EffectOf t (word l) = Words t l
@@ -68,7 +68,7 @@ EffectOf t (tally s m) = Tallies t s m
 
 abbrev pub Effects : Type 0
 Effects = (t : Ledger) → Reached t → (bytes : List ℕ) (r : Request) → requestOf bytes ≡ some r
-    → IsAccepted (says t bytes) → EffectOf t r (says t bytes) (call t bytes .ledger)
+    → IsAccepted (toldOf t bytes) → EffectOf t r (toldOf t bytes) (call t bytes .ledger)
 
 -- "Serials run from 1, given only by accepted calls and never given again": of a list of calls, those that issues and
 -- bookings answered, the latest first

@@ -1,5 +1,6 @@
-// What the floor staff asked for. Each function here does nothing: its `ensures` is a demand, and that it is proved is
-// the point. The statements are in specs/Demands.antt and specs/Effects.antt, the proofs in proofs/.
+// What the floor staff asked for: the three demands. Each function here does nothing: its `ensures` is a demand, and
+// that it is proved is the point. The statements are in specs/Demands.antt and specs/Effects.antt, the proofs in
+// proofs/.
 
 ghost use Prim.Native.Nat.{ℕ};
 ghost use mathlib.Core.List.{List};

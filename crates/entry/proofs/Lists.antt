@@ -10,7 +10,7 @@ use Rattle.request.specs.Read.{requestOf}
 use Rattle.request.specs.Write.{write}
 use Rattle.ledger.specs.Ledger.{Ledger, empty}
 use Rattle.ledger.specs.Checks.{checksOf}
-use Rattle.ledger.specs.Calls.{Reply, Told, ok, told, accept, call, says, after, answers}
+use Rattle.ledger.specs.Calls.{Reply, Told, ok, told, accept, call, toldOf, after, answers}
 use Rattle.ledger.specs.Statements.{IsAccepted}
 use Rattle.ledger.proofs.Answers.{some-inj, Does, refuses, accepts, does}
 use Rattle.ledger.proofs.Firsts.{first-fails}
@@ -30,7 +30,7 @@ unfolding after answers
 played t e none = (e, refl)
 played t e (more {b = b} h p) =
     let rest = played (call t b .ledger) (h .ledger ∙ ap (λ (u : Ledger). call u b .ledger) e) p in
-    (rest .0, ap₂ _∷_ (h .answer ∙ ap (λ (u : Ledger). numbers (says u b)) e) (rest .1))
+    (rest .0, ap₂ _∷_ (h .answer ∙ ap (λ (u : Ledger). numbers (toldOf u b)) e) (rest .1))
 
 pub played-is : PlayedIs
 played-is l l′ bs ns s p = played empty (s .ledger) p
@@ -44,8 +44,8 @@ module _ (l l₁ b n l₂ : List ℕ) (bs ns : List (List ℕ)) (g : StandsFor l
   at : ledgerOf l₁ ≡ t
   at = played-is l l₁ bs ns g p .0
 
-  says-it : n ≡ numbers (says t b)
-  says-it = h .answer ∙ ap (λ (u : Ledger). numbers (says u b)) at
+  says-it : n ≡ numbers (toldOf t b)
+  says-it = h .answer ∙ ap (λ (u : Ledger). numbers (toldOf u b)) at
 
   -- as the reply of the definition
   replied : {d : Reply} → call t b ≡ d → n ≡ numbers (told (d .answer))
@@ -57,21 +57,21 @@ module _ (l l₁ b n l₂ : List ℕ) (bs ns : List (List ℕ)) (g : StandsFor l
       go : Does t b → Answered t b n l₁ l₂
       go (refuses f e q) =
           refused f (first-fails (checksOf t b) e) (replied q) (h .same (f .number) (f .step)
-          (ap (λ (u : Ledger). says u b) at ∙ ap (λ (d : Reply). told (d .answer)) q))
+          (ap (λ (u : Ledger). toldOf u b) at ∙ ap (λ (d : Reply). told (d .answer)) q))
       go (accepts r e c d q) =
           accepted r e c (replied q)
           (h .ledger ∙ ap (λ (u : Ledger). call u b .ledger) at ∙ ap (λ (d : Reply). d .ledger) q)
 
   module _ (k : Booking) (e : requestOf b ≡ some (book k)) where
     -- an accepted booking is answered with the next serial
-    serial : IsAccepted (says t b) → n ≡ 1 ∷ t .next ∷ 0 ∷ 0 ∷ []
+    serial : IsAccepted (toldOf t b) → n ≡ 1 ∷ t .next ∷ 0 ∷ 0 ∷ []
     unfolding accept
     serial a =
         let d = call-accepts t b a in
         replied (d .2 ∙ ap (accept t) (some-inj (sym (d .1) ∙ e)))
 
-    is-accepted : n ≡ 1 ∷ t .next ∷ 0 ∷ 0 ∷ [] → IsAccepted (says t b)
-    is-accepted q = go (says t b) (sym says-it ∙ q)
+    is-accepted : n ≡ 1 ∷ t .next ∷ 0 ∷ 0 ∷ [] → IsAccepted (toldOf t b)
+    is-accepted q = go (toldOf t b) (sym says-it ∙ q)
       where
         go : (a : Told) → numbers a ≡ 1 ∷ t .next ∷ 0 ∷ 0 ∷ [] → IsAccepted a
         go (ok ns) z = tt

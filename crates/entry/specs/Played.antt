@@ -6,7 +6,7 @@ use mathlib.Core.Option.{some}
 use Prim.Native.Nat.{ℕ, _+_}
 use Rattle.logic.specs.Multiset.{Every}
 use Rattle.request.specs.Range.{session, minute}
-use Rattle.request.specs.InRange.{_∈_}
+use Rattle.request.specs.InRange.{_inRange_}
 use Rattle.request.specs.Request.{Booking, Request, book, tally}
 use Rattle.request.specs.Read.{requestOf}
 use Rattle.request.specs.Write.{write}
@@ -69,5 +69,5 @@ pub record TallyAddsUp (bs : List (List ℕ)) (s : ℕ) (n : List ℕ) : Type 0 
 
 abbrev pub CallsAddUp : Type 0
 CallsAddUp =
-    (l l₁ n l₂ : List ℕ) (bs ns : List (List ℕ)) (s m : ℕ) → s ∈ session → m ∈ minute → StandsFor l empty
+    (l l₁ n l₂ : List ℕ) (bs ns : List (List ℕ)) (s m : ℕ) → s inRange session → m inRange minute → StandsFor l empty
     → Played l bs ns l₁ → Entered l₁ (write (tally s m)) n l₂ → TallyAddsUp bs s n

@@ -1,8 +1,8 @@
-// The entry for C (include/oysterbrim.h): the till is a block of 7,748 numbers that the caller keeps, a sheet is bytes
+// The entry for C (include/oysterbrim.h): the till is a block of 8,148 numbers that the caller keeps, a sheet is bytes
 // with a length, and the caller lends 1,536 numbers to work on and four for the answer.
 use ledger::Answer;
+use step_rows::StepRows;
 use store::Store;
-use tables::StepRows;
 ghost use Rattle.ledger.specs.Ledger.{empty};
 ghost use Rattle.store.specs.Store.{Good, StandsFor};
 ghost use Rattle.entry.specs.Entered.{Entered};
@@ -27,7 +27,7 @@ pub extern "C" fn till_call(
     requires { ⌜ Good (now till) ⌝ }
     ensures { λ _. ⌜ Entered (now (till .entry)) (now (sheet .entry)) (now (answer .exit)) (now (till .exit)) ⌝ }
 {
-    let a = booking::call(till, sheet, scratch);
+    let a = call::call(till, sheet, scratch);
     match a {
         Answer::Accepted(n) => {
             *answer = [1, n, 0, 0];

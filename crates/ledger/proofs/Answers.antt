@@ -1,13 +1,18 @@
 -- What a call answers, by its first failing check; and refusals.
 use mathlib.Core.Path.{_≡_, refl, sym, ap, subst, _∙_}
+use mathlib.Core.Logic.{_⊎_, inl, inr}
 use mathlib.Core.List.{List, [], _∷_}
 use mathlib.Core.Option.{Option, none, some}
 use mathlib.Core.Bool.{Bool, true, false}
 use Prim.Native.Nat.{ℕ, _≤_, _<_}
 use native.Mathlib.Omega.{arith}
+use lib.Dec.{ltb}
 use lib.ListN.{length}
+use borrow.Author.Tests.{ltb-true}
 use Rattle.logic.specs.declared.Interval.{Interval}
+use Rattle.logic.specs.Multiset.{Every}
 use Rattle.logic.proofs.Tests.{no-truth}
+use Rattle.logic.proofs.Multisets.{every-map}
 use Rattle.request.specs.declared.Kind.the-variants.{Linear, Unrestricted}
 use Rattle.request.specs.Request.{Step, Request, word, issue, withdraw, book, tally}
 use Rattle.request.specs.Read.{requestOf}
@@ -15,7 +20,7 @@ use Rattle.steps.specs.Check.{Outcome, done, stopped, checkOf}
 use Rattle.steps.proofs.Outcomes.{Sane, check-sane}
 use Rattle.ledger.specs.declared.Credential.{Credential}
 use Rattle.ledger.specs.declared.Answer.the-variants.{Refused}
-use Rattle.ledger.specs.Ledger.{Ledger, row, isNone}
+use Rattle.ledger.specs.Ledger.{Ledger, row, isNone, held}
 use Rattle.ledger.specs.Checks.{Refusal, Check, _if_, first, readLabel, writeLabel, verdict, steps, checks}
 use Rattle.ledger.specs.Checks.{readChecks, checksOf}
 use Rattle.ledger.specs.Calls.{Reply, Told, ok, told, accept, decide, call}
@@ -43,6 +48,15 @@ first-passes [] e = tt
 first-passes (none ∷ cs) e = (refl, first-passes cs e)
 first-passes (some r ∷ cs) e = absurd (some-none e)
 
+-- bytes that pass have a form, and what they read as passes
+pub record PassedBytes (t : Ledger) (b : List ℕ) : Type 0 where
+  pub formed : isNone (requestOf b) ≡ false
+  pub rest : Pass (readChecks t (requestOf b))
+
+pub passed-bytes : (t : Ledger) (b : List ℕ) → Pass (checksOf t b) → PassedBytes t b
+unfolding checksOf
+passed-bytes t b (short, (formed, rest)) = record { formed = if-none 2 _ formed; rest = rest }
+
 -- What a call does: no check fails only where the bytes read as a request.
 pub data Does (t : Ledger) (b : List ℕ) : Type 0 where
   refuses : (f : Refusal) → first (checksOf t b) ≡ some f
@@ -51,17 +65,17 @@ pub data Does (t : Ledger) (b : List ℕ) : Type 0 where
       → call t b ≡ accept t r → Does t b
 
 pub does : (t : Ledger) (b : List ℕ) → Does t b
-unfolding call decide checksOf
+unfolding call decide
 does t b = go (first (checksOf t b)) refl (requestOf b) refl
   where
     go : (f : Option Refusal) → first (checksOf t b) ≡ f → (o : Option Request) → requestOf b ≡ o → Does t b
     go (some f) e o q = refuses f e (ap (λ (x : Option Refusal). decide t x (requestOf b)) e)
     go none e (some r) q =
         let p = first-passes (checksOf t b) e in
-        accepts r q p (subst (λ (x : Option Request). Pass (readChecks t x)) q (p .1 .1))
+        accepts r q p (subst (λ (x : Option Request). Pass (readChecks t x)) q (passed-bytes t b p .rest))
         (ap (λ (x : Option Refusal). decide t x (requestOf b)) e ∙ ap (decide t none) q)
     go none e none q =
-        absurd (no-truth (sym (if-none 2 _ (first-passes (checksOf t b) e .1 .0)) ∙ ap isNone q))
+        absurd (no-truth (sym (passed-bytes t b (first-passes (checksOf t b) e) .formed) ∙ ap isNone q))
 
 pub accept-accepts : (t : Ledger) (r : Request) → IsAccepted (told (accept t r .answer))
 unfolding accept
@@ -81,16 +95,6 @@ abbrev Proper : Check → Type 0
 Proper none = Unit {0}
 Proper (some f) = Stepped (f .number) (f .step)
 
-abbrev AllProper : List Check → Type 0
-AllProper [] = Unit {0}
-AllProper (c ∷ cs) = Proper c × AllProper cs
-
--- a row with a number below 40
-low : (n : ℕ) (b : Bool) → n < 40 → Proper (n if b)
-unfolding _if_
-low n true h = record { early = λ l. refl; late = λ l. refl; step = λ l m. absurd (omega arith) }
-low n false h = tt
-
 verdict-proper : {T : Type 0} (total left : ℕ) (o : Outcome T) → Sane total left o → Proper (verdict o)
 unfolding verdict
 verdict-proper total left (done ss t next) s = tt
@@ -106,39 +110,74 @@ steps-proper t cs n i ss =
     verdict-proper (length ss) (length ss) (checkOf (row t) readLabel writeLabel (length ss) ss _ _ _)
     (check-sane (row t) readLabel writeLabel (length ss) ss _ _ _ (omega arith))
 
-checks-proper : (t : Ledger) (r : Request) → AllProper (checks t r)
+-- the check of a booking's steps; no other request has one
+abbrev pub stepsIn : Ledger → Option Request → Check
+stepsIn t none = none
+stepsIn t (some (word l)) = none
+stepsIn t (some (issue k n i)) = none
+stepsIn t (some (withdraw n)) = none
+stepsIn t (some (book b)) = steps t (held (t .live) (b .holds)) (b .formula) (b .interval) (b .steps)
+stepsIn t (some (tally s m)) = none
+
+-- a row of the table of checks: s, or a check that answers no step and another number than 40 to 42
+abbrev pub Other : Check → Type 0
+Other none = Unit {0}
+Other (some f) = ((f .number < 40) ⊎ (42 < f .number)) × (f .step ≡ 0)
+
+abbrev pub TableRow : Check → Check → Type 0
+TableRow s c = (c ≡ s) ⊎ Other c
+
+itself : (s : Check) → TableRow s s
+itself s = inl refl
+
+low : (s : Check) (n : ℕ) (b : Bool) → ltb n 40 ≡ true → TableRow s (n if b)
+unfolding _if_
+low s n true h = inr (inl (ltb-true n 40 h), refl)
+low s n false h = inr tt
+
+high : (s : Check) (n : ℕ) (b : Bool) → ltb 42 n ≡ true → TableRow s (n if b)
+unfolding _if_
+high s n true h = inr (inr (ltb-true 42 n h), refl)
+high s n false h = inr tt
+
+-- every check is such a row, s that of the steps. Which rows there are is not said here: they are found
+checks-rows : (t : Ledger) (r : Request) → Every (TableRow (stepsIn t (some r))) (checks t r)
 unfolding checks
-checks-proper t (word l) =
-    (low _ _ (omega arith), (low _ _ (omega arith), (low _ _ (omega arith), (low _ _ (omega arith), tt))))
-checks-proper t (issue Linear n i) =
-    (low _ _ (omega arith), (low _ _ (omega arith), (low _ _ (omega arith), (low _ _ (omega arith), tt))))
-checks-proper t (issue Unrestricted n i) =
-    (low _ _ (omega arith), (low _ _ (omega arith), (low _ _ (omega arith), (low _ _ (omega arith), tt))))
-checks-proper t (withdraw n) = (low _ _ (omega arith), tt)
-checks-proper t (book b) = (
-  low _ _ (omega arith),
-  (
-    low _ _ (omega arith),
-    (
-      low _ _ (omega arith),
-      (
-        low _ _ (omega arith),
-        (low _ _ (omega arith), (steps-proper t _ _ _ _, (low _ _ (omega arith), (low _ _ (omega arith), tt)))),
-      ),
-    ),
-  ),
-)
-checks-proper t (tally s m) = tt
+checks-rows t (word l) = search (low, high, itself)
+checks-rows t (issue Linear n i) = search (low, high, itself)
+checks-rows t (issue Unrestricted n i) = search (low, high, itself)
+checks-rows t (withdraw n) = search (low, high, itself)
+checks-rows t (book b) = search (low, high, itself)
+checks-rows t (tally s m) = tt
 
-read-proper : (t : Ledger) (o : Option Request) → AllProper (readChecks t o)
-read-proper t none = tt
-read-proper t (some r) = (low _ _ (omega arith), checks-proper t r)
+read-rows : (t : Ledger) (o : Option Request) → Every (TableRow (stepsIn t o)) (readChecks t o)
+read-rows t none = tt
+read-rows t (some r) = search (low, high, checks-rows t r)
 
-all-proper : (t : Ledger) (b : List ℕ) → AllProper (checksOf t b)
+pub table-rows : (t : Ledger) (b : List ℕ) → Every (TableRow (stepsIn t (requestOf b))) (checksOf t b)
 unfolding checksOf
-all-proper t b = (low _ _ (omega arith), (low _ _ (omega arith), read-proper t (requestOf b)))
+table-rows t b = search (low, high, read-rows t (requestOf b))
 
-first-proper : (cs : List Check) {f : Refusal} → AllProper cs → first cs ≡ some f → Stepped (f .number) (f .step)
+steps-in-proper : (t : Ledger) (o : Option Request) → Proper (stepsIn t o)
+steps-in-proper t none = tt
+steps-in-proper t (some (word l)) = tt
+steps-in-proper t (some (issue k n i)) = tt
+steps-in-proper t (some (withdraw n)) = tt
+steps-in-proper t (some (book b)) = steps-proper t _ _ _ _
+steps-in-proper t (some (tally s m)) = tt
+
+row-proper : {s : Check} → Proper s → (c : Check) → TableRow s c → Proper c
+row-proper p c (inl e) = subst Proper (sym e) p
+row-proper p none (inr o) = tt
+row-proper p (some f) (inr (inl l, z)) =
+    record { early = λ h. z; late = λ h. z; step = λ g h. absurd (omega arith) }
+row-proper p (some f) (inr (inr l, z)) =
+    record { early = λ h. z; late = λ h. z; step = λ g h. absurd (omega arith) }
+
+all-proper : (t : Ledger) (b : List ℕ) → Every Proper (checksOf t b)
+all-proper t b = every-map (row-proper (steps-in-proper t (requestOf b))) (checksOf t b) (table-rows t b)
+
+first-proper : (cs : List Check) {f : Refusal} → Every Proper cs → first cs ≡ some f → Stepped (f .number) (f .step)
 unfolding first
 first-proper [] p e = absurd (some-none (sym e))
 first-proper (none ∷ cs) p e = first-proper cs (p .1) e

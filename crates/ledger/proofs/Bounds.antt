@@ -25,7 +25,7 @@ use Rattle.ledger.specs.Statements.{Pass}
 use Rattle.ledger.proofs.Walk.{walk}
 use Rattle.ledger.proofs.Credentials.{take-out, splits}
 use Rattle.ledger.specs.Bounds.{Tabled, There, Rises, Below, Bounded, AlwaysBounded}
-use Rattle.ledger.proofs.Tables.{formula-snoc, line-tabled}
+use Rattle.ledger.proofs.FormulaTable.{formula-snoc, line-tabled}
 use Rattle.ledger.proofs.Passed.{passed-word, passed-issue, passed-withdraw, passed-book}
 
 one-more : (cs : List Credential) (c : Credential) {n : ℕ} → length cs < n → length (cs ++ (c ∷ [])) ≤ n
@@ -160,5 +160,5 @@ forget o a u = u
 
 pub bounded : AlwaysBounded
 bounded bs =
-    walk forget (λ t u. Bounded t) (λ o n k u. refl) (λ t u b r e p. accept-bounded t r (p .1)) empty tt bs
+    walk forget (λ t u. Bounded t) (λ o n k u. refl) (λ t u b r e p. accept-bounded t r (p .rest)) empty tt bs
     empty-bounded

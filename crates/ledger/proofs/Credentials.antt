@@ -15,7 +15,7 @@ use Rattle.request.specs.declared.Kind.{Kind}
 use Rattle.request.specs.declared.Kind.the-variants.{Linear, Unrestricted}
 use Rattle.ledger.specs.declared.Credential.{Credential}
 use Rattle.ledger.specs.Ledger.{Ledger, byKind, find, withoutSerial, isNone, consSome, held, linearCount, spend}
-use Rattle.ledger.specs.Checks.{any, dead, twice}
+use Rattle.ledger.specs.Checks.{anyOf, dead, twice}
 use Rattle.ledger.specs.Calls.{only}
 use Rattle.ledger.proofs.Answers.{some-none, some-inj}
 
@@ -53,12 +53,12 @@ still (d ∷ cs) n m h = go (eqb (d .serial) n) refl (eqb (d .serial) m) refl (s
     go false p true q ih = rw (q, find)
     go false p false q ih = rw (q, find) ih
 
-pub any-none : {A : Type 0} (f : A → Bool) (xs : List A) → any f xs ≡ false → Every (λ x. f x ≡ false) xs
-unfolding any
+pub any-none : {A : Type 0} (f : A → Bool) (xs : List A) → anyOf f xs ≡ false → Every (λ x. f x ≡ false) xs
+unfolding anyOf
 any-none f [] e = tt
 any-none f (x ∷ xs) e = go (f x) refl e (any-none f xs)
   where
-    go : (b : Bool) → f x ≡ b → (b || any f xs) ≡ false → (any f xs ≡ false → Every (λ x. f x ≡ false) xs)
+    go : (b : Bool) → f x ≡ b → (b || anyOf f xs) ≡ false → (anyOf f xs ≡ false → Every (λ x. f x ≡ false) xs)
         → (f x ≡ false) × Every (λ x. f x ≡ false) xs
     go true q e ih = absurd (no-truth (sym e))
     go false q e ih = (q, ih e)
@@ -85,9 +85,9 @@ Apart (n ∷ ns) = Every (Other n) ns × Apart ns
 pub twice-apart : (ns : List ℕ) → twice ns ≡ false → Apart ns
 unfolding twice
 twice-apart [] e = tt
-twice-apart (n ∷ ns) e = go (any (eqb n) ns) refl e (twice-apart ns)
+twice-apart (n ∷ ns) e = go (anyOf (eqb n) ns) refl e (twice-apart ns)
   where
-    go : (b : Bool) → any (eqb n) ns ≡ b → (b || twice ns) ≡ false → (twice ns ≡ false → Apart ns) → Apart (n ∷ ns)
+    go : (b : Bool) → anyOf (eqb n) ns ≡ b → (b || twice ns) ≡ false → (twice ns ≡ false → Apart ns) → Apart (n ∷ ns)
     go true q e ih = absurd (no-truth (sym e))
     go false q e ih = (any-none (eqb n) ns q, ih e)
 
@@ -212,6 +212,6 @@ split-held P (n ∷ ns) cs a h p = go (find cs n) refl (a .0) (split-held P ns)
           stay = v .stay;
         })
 
-pub splits : (P : Credential → Type 0) (t : Ledger) (ns : List ℕ) → any (dead t) ns ≡ false → twice ns ≡ false
+pub splits : (P : Credential → Type 0) (t : Ledger) (ns : List ℕ) → anyOf (dead t) ns ≡ false → twice ns ≡ false
     → Every P (t .live) → Splits P (t .live) (held (t .live) ns) (spend (t .live) (held (t .live) ns))
 splits P t ns a h = split-held P ns (t .live) (any-none (dead t) ns a) (twice-apart ns h)

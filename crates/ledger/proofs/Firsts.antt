@@ -8,13 +8,14 @@ use lib.ListN.{length}
 use borrow.Author.Tests.{le-ltb, lt-ltb}
 use Rattle.logic.proofs.Tests.{no-truth}
 use Rattle.request.specs.Range.{maxBytes}
-use Rattle.request.specs.Request.{Request}
+use Rattle.request.specs.Request.{Request, intervals}
 use Rattle.request.specs.Read.{requestOf}
 use Rattle.ledger.specs.declared.Answer.the-variants.{Refused}
 use Rattle.ledger.specs.Ledger.{Ledger, isNone}
-use Rattle.ledger.specs.Checks.{Refusal, Check, _if_, first, readChecks, checksOf}
+use Rattle.logic.specs.Interval.{reversed}
+use Rattle.ledger.specs.Checks.{Refusal, Check, _if_, anyOf, first, checks, readChecks, checksOf}
 use Rattle.ledger.specs.Calls.{reply, accept, decide, handle, call}
-use Rattle.ledger.specs.Statements.{Pass, FirstFails, here, later}
+use Rattle.ledger.specs.Statements.{Pass, FirstFails, here, later, SoFar, from-start, _▸_}
 use Rattle.ledger.proofs.Answers.{some-none, some-inj}
 
 pub pass-first : (cs : List Check) → Pass cs → first cs ≡ none
@@ -44,11 +45,20 @@ pub if-true : (n : ℕ) (b : Bool) → b ≡ true → (n if b) ≡ some (record 
 unfolding _if_
 if-true n b e = rw (e, _if_)
 
-pub skip : {c : Check} {cs : List Check} {f : Refusal} → c ≡ none → FirstFails f cs → FirstFails f (c ∷ cs)
-skip {cs = cs} {f} e h = subst (λ (x : Check). FirstFails f (x ∷ cs)) (sym e) (later h)
+-- where the checks so far pass, the first to fail is among the rest
+pub so-first : {all rest : List Check} → SoFar all rest → first all ≡ first rest
+unfolding first
+so-first from-start = refl
+so-first (_▸_ {rest = rest} s e) = so-first s ∙ ap (λ (c : Check). first (c ∷ rest)) e
 
-pub hit : {c : Check} {cs : List Check} {f : Refusal} → c ≡ some f → FirstFails f (c ∷ cs)
-hit {cs = cs} {f} e = subst (λ (x : Check). FirstFails f (x ∷ cs)) (sym e) here
+pub stopped-at : {all rest : List Check} {c : Check} {f : Refusal} → SoFar all (c ∷ rest) → c ≡ some f
+    → first all ≡ some f
+unfolding first
+stopped-at {rest = rest} s e = so-first s ∙ ap (λ (c : Check). first (c ∷ rest)) e
+
+pub none-stops : {all : List Check} → SoFar all [] → first all ≡ none
+unfolding first
+none-stops s = so-first s
 
 pub not-true : (b : Bool) → b ≡ true → not b ≡ false
 not-true true e = refl
@@ -57,14 +67,19 @@ not-true false e = absurd (no-truth e)
 -- a request that is read, by its checks
 
 pub handle-fails : (t : Ledger) (r : Request) {n k : ℕ}
-    → FirstFails (record { number = n; step = k }) (readChecks t (some r))
+    → first (readChecks t (some r)) ≡ some (record { number = n; step = k })
     → handle t r ≡ reply (Refused n k) t
 unfolding decide
-handle-fails t r h = ap (λ (o : Option Refusal). decide t o (some r)) (fails-first h)
+handle-fails t r h = ap (λ (o : Option Refusal). decide t o (some r)) h
 
-pub handle-passes : (t : Ledger) (r : Request) → Pass (readChecks t (some r)) → handle t r ≡ accept t r
+pub handle-passes : (t : Ledger) (r : Request) → first (readChecks t (some r)) ≡ none → handle t r ≡ accept t r
 unfolding decide
-handle-passes t r p = ap (λ (o : Option Refusal). decide t o (some r)) (pass-first (readChecks t (some r)) p)
+handle-passes t r h = ap (λ (o : Option Refusal). decide t o (some r)) h
+
+-- a request that has no interval passes the checks of intervals
+pub no-intervals : (t : Ledger) (r : Request) → intervals r ≡ [] → SoFar (readChecks t (some r)) (checks t r)
+unfolding anyOf
+no-intervals t r e = from-start ▸ if-false 3 _ (ap (anyOf reversed) e)
 
 -- bytes, by their length and what they read as
 
@@ -72,19 +87,25 @@ pub call-long : (t : Ledger) (b : List ℕ) → maxBytes < length b → call t b
 unfolding call decide checksOf
 call-long t b l =
     ap (λ (o : Option Refusal). decide t o (requestOf b))
-    (fails-first {cs = checksOf t b} (hit (if-true 1 _ (lt-ltb _ _ l))))
+    (stopped-at {all = checksOf t b} from-start (if-true 1 _ (lt-ltb _ _ l)))
 
 pub call-none : (t : Ledger) (b : List ℕ) → length b ≤ maxBytes → requestOf b ≡ none → call t b ≡ reply (Refused 2 0) t
 unfolding call decide checksOf
 call-none t b l e =
     ap (λ (o : Option Refusal). decide t o (requestOf b))
-    (fails-first {cs = checksOf t b} (skip (if-false 1 _ (le-ltb _ _ l)) (hit (if-true 2 _ (ap isNone e)))))
+    (stopped-at {all = checksOf t b} (from-start ▸ if-false 1 _ (le-ltb _ _ l)) (if-true 2 _ (ap isNone e)))
+
+-- bytes that have a form pass 1 and 2
+pub past-form : (t : Ledger) (b : List ℕ) {r : Request} → length b ≤ maxBytes → requestOf b ≡ some r
+    → SoFar (checksOf t b) (readChecks t (some r))
+unfolding checksOf
+past-form t b l e =
+    subst (λ (o : Option Request). SoFar (checksOf t b) (readChecks t o)) e
+    (from-start ▸ if-false 1 _ (le-ltb _ _ l) ▸ if-false 2 _ (ap isNone e))
 
 pub call-read : (t : Ledger) (b : List ℕ) (r : Request) → length b ≤ maxBytes → requestOf b ≡ some r
     → call t b ≡ handle t r
-unfolding call checksOf first _if_
+unfolding call
 call-read t b r l e =
-    ap (λ (x : Bool).
-    decide t (first ((1 if x) ∷ (2 if isNone (requestOf b)) ∷ readChecks t (requestOf b))) (requestOf b))
-    (le-ltb maxBytes (length b) l)
-    ∙ ap (λ (o : Option Request). decide t (first ((1 if false) ∷ (2 if isNone o) ∷ readChecks t o)) o) e
+    ap (λ (f : Option Refusal). decide t f (requestOf b)) (so-first (past-form t b l e))
+    ∙ ap (decide t (first (readChecks t (some r)))) e

@@ -19,16 +19,16 @@ use Rattle.request.proofs.Requests.{write-read, write-short}
 use Rattle.ledger.specs.declared.Credential.{Credential}
 use Rattle.ledger.specs.Table.{build, formulas}
 use Rattle.ledger.specs.Ledger.{Ledger, isNone, find, withoutSerial}
-use Rattle.ledger.specs.Checks.{any, _if_, checks, readChecks}
+use Rattle.ledger.specs.Checks.{anyOf, _if_, first, checks, readChecks}
 use Rattle.ledger.specs.Calls.{Reply, withLive, accept, call, after}
-use Rattle.ledger.specs.Statements.{Pass}
 use Rattle.ledger.specs.Cases.{AnsweredFrom}
 use Rattle.ledger.specs.LastSerials.{idle, IdleGiven, given, LastSerialsPlay}
-use Rattle.ledger.proofs.Firsts.{handle-passes, call-read, if-false}
+use Rattle.ledger.proofs.Firsts.{handle-passes, call-read}
 use Rattle.ledger.proofs.Compute.{played}
 
 -- a request that is written and passes does what is accepted
-call-written : (t : Ledger) (r : Request) → InRange r → Pass (readChecks t (some r)) → call t (write r) ≡ accept t r
+call-written : (t : Ledger) (r : Request) → InRange r → first (readChecks t (some r)) ≡ none
+    → call t (write r) ≡ accept t r
 call-written t r h p = call-read t (write r) r (write-short r h) (write-read r h) ∙ handle-passes t r p
 
 abbrev issued : Request
@@ -54,7 +54,7 @@ only-gone c = rw (eq-eqb (c .serial) (c .serial) refl, withoutSerial)
 
 round : (n : ℕ) → 1 ≤ n → n ≤ serial .last
     → call (call (idle n) (write issued) .ledger) (write (withdraw n)) .ledger ≡ idle (n + 1)
-unfolding accept checks any _if_ plain intervals reversed build formulas
+unfolding accept checks first anyOf _if_ plain intervals reversed build formulas
 round n h l =
     let t = accept (idle n) issued .ledger in
     ap (λ (d : Reply). call (d .ledger) (write (withdraw n)) .ledger)
@@ -66,9 +66,9 @@ round n h l =
         to = record { least = omega arith; most = omega arith };
       };
     })
-    (refl, (refl, (refl, (refl, (if-false 23 _ (le-ltb _ _ l), tt))))))
+    (rw (le-ltb (serial .last) n l, _if_)))
     ∙ ap (λ (d : Reply). d .ledger)
-    (call-written t (withdraw n) (record { least = h; most = l }) (refl, (if-false 24 _ (only-there (only n)), tt)))
+    (call-written t (withdraw n) (record { least = h; most = l }) (rw (only-there (only n), _if_)))
     ∙ ap (withLive t) (only-gone (only n))
 
 after-rounds : (k n : ℕ) → 1 ≤ n → n + k ≤ serial .last + 1 → after (idle n) (rounds k n) ≡ idle (n + k)

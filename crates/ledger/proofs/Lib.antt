@@ -1,9 +1,9 @@
 pub mod Answers
-pub mod Walk
 pub mod Firsts
 pub mod Credentials
-pub mod Tables
 pub mod Passed
+pub mod Walk
+pub mod FormulaTable
 pub mod Bounds
 pub mod Compute
 pub mod Sessions

@@ -1,4 +1,4 @@
--- What an accepted request has passed, check by check. Only this file counts places in the lists of checks.
+-- What an accepted request has passed, check by check. Only here are the lists of a request's checks taken apart.
 use mathlib.Core.Path.{_≡_, refl, sym}
 use mathlib.Core.Option.{Option, none, some}
 use mathlib.Core.Bool.{true, false}
@@ -6,7 +6,7 @@ use Prim.Native.Nat.{ℕ, _-_, _≤_, _<_}
 use lib.ListN.{length}
 use borrow.Author.Tests.{leb-false, ltb-false, not-false}
 use Rattle.logic.specs.declared.Interval.{Interval}
-use Rattle.logic.specs.Interval.{has}
+use Rattle.logic.specs.Interval.{has, reversed}
 use Rattle.logic.specs.Formula.{Formula, size, plain}
 use Rattle.logic.specs.Weight.{Balanced}
 use Rattle.logic.proofs.Tests.{no-truth}
@@ -15,56 +15,64 @@ use Rattle.logic.proofs.Balance.{balanced-test}
 use Rattle.request.specs.declared.Kind.{Kind}
 use Rattle.request.specs.declared.Kind.the-variants.{Linear, Unrestricted}
 use Rattle.request.specs.Range.{serial}
-use Rattle.request.specs.Request.{Line, Booking, word, issue, withdraw, book}
+use Rattle.request.specs.Request.{Line, Booking, Request, word, issue, withdraw, book, intervals}
 use Rattle.ledger.specs.declared.Credential.{Credential}
 use Rattle.ledger.specs.Table.{form, names}
 use Rattle.ledger.specs.Ledger.{Ledger, formula, find, isNone, held, linearCount}
-use Rattle.ledger.specs.Checks.{any, maxSize, maxFormulas, maxLive, missing, sameLine, dead, twice, steps}
-use Rattle.ledger.specs.Checks.{checks}
+use Rattle.ledger.specs.Checks.{anyOf, maxSize, maxFormulas, maxLive, missing, sameLine, dead, twice, steps}
+use Rattle.ledger.specs.Checks.{checks, readChecks}
 use Rattle.ledger.specs.Statements.{Pass}
 use Rattle.ledger.proofs.Answers.{if-none}
 use Rattle.ledger.proofs.Credentials.{any-none}
 use Rattle.ledger.specs.Bounds.{There}
 
+-- the checks of a request that is read
+pub record PassedRead (t : Ledger) (r : Request) : Type 0 where
+  pub straight : anyOf reversed (intervals r) ≡ false
+  pub rest : Pass (checks t r)
+
+pub passed-read : (t : Ledger) (r : Request) → Pass (readChecks t (some r)) → PassedRead t r
+passed-read t r (straight, rest) = record { straight = if-none 3 _ straight; rest = rest }
+
 -- linear credentials are plain, unrestricted ones balanced
-abbrev pub Fair : Kind → Formula → Type 0
-Fair Linear a = plain a ≡ true
-Fair Unrestricted a = Balanced a
+abbrev pub FitsKind : Kind → Formula → Type 0
+FitsKind Linear a = plain a ≡ true
+FitsKind Unrestricted a = Balanced a
 
 pub record PassedWord (t : Ledger) (l : Line) : Type 0 where
   pub there : There t (names l)
   pub small : size (form (formula t) l) ≤ maxSize
-  pub new : any (sameLine l) (t .lines) ≡ false
+  pub new : anyOf (sameLine l) (t .lines) ≡ false
   pub room : length (t .lines) < maxFormulas
 
 pub passed-word : (t : Ledger) (l : Line) → Pass (checks t (word l)) → PassedWord t l
 unfolding checks
-passed-word t l p = record {
-  there = every-map (λ k e. leb-false _ _ e) (names l) (any-none (missing t) (names l) (if-none 10 _ (p .0)));
-  small = ltb-false _ _ (if-none 12 _ (p .1 .0));
-  new = if-none 13 _ (p .1 .1 .0);
-  room = leb-false _ _ (if-none 14 _ (p .1 .1 .1 .0));
+passed-word t l (there, (small, (new, (room, end)))) = record {
+  there = every-map (λ k e. leb-false _ _ e) (names l) (any-none (missing t) (names l) (if-none 10 _ there));
+  small = ltb-false _ _ (if-none 12 _ small);
+  new = if-none 13 _ new;
+  room = leb-false _ _ (if-none 14 _ room);
 }
 
 pub record PassedIssue (t : Ledger) (k : Kind) (n : ℕ) : Type 0 where
   pub there : n < length (t .lines)
-  pub fair : Fair k (formula t n)
+  pub fits : FitsKind k (formula t n)
   pub room : length (t .live) - 0 < maxLive
   pub unused : t .next ≤ serial .last
 
 pub passed-issue : (t : Ledger) (k : Kind) (n : ℕ) (i : Interval) → Pass (checks t (issue k n i)) → PassedIssue t k n
 unfolding checks
-passed-issue t Linear n i p = record {
-  there = leb-false _ _ (if-none 10 _ (p .0));
-  fair = not-false _ (if-none 20 _ (p .1 .0));
-  room = leb-false _ _ (if-none 22 _ (p .1 .1 .0));
-  unused = ltb-false _ _ (if-none 23 _ (p .1 .1 .1 .0));
+passed-issue t Linear n i (there, (fits, (room, (unused, end)))) = record {
+  there = leb-false _ _ (if-none 10 _ there);
+  fits = not-false _ (if-none 20 _ fits);
+  room = leb-false _ _ (if-none 22 _ room);
+  unused = ltb-false _ _ (if-none 23 _ unused);
 }
-passed-issue t Unrestricted n i p = record {
-  there = leb-false _ _ (if-none 10 _ (p .0));
-  fair = balanced-test (formula t n) .0 (not-false _ (if-none 21 _ (p .1 .0)));
-  room = leb-false _ _ (if-none 22 _ (p .1 .1 .0));
-  unused = ltb-false _ _ (if-none 23 _ (p .1 .1 .1 .0));
+passed-issue t Unrestricted n i (there, (fits, (room, (unused, end)))) = record {
+  there = leb-false _ _ (if-none 10 _ there);
+  fits = balanced-test (formula t n) .0 (not-false _ (if-none 21 _ fits));
+  room = leb-false _ _ (if-none 22 _ room);
+  unused = ltb-false _ _ (if-none 23 _ unused);
 }
 
 pub record PassedWithdraw (t : Ledger) (n : ℕ) : Type 0 where
@@ -73,7 +81,7 @@ pub record PassedWithdraw (t : Ledger) (n : ℕ) : Type 0 where
 
 pub passed-withdraw : (t : Ledger) (n : ℕ) → Pass (checks t (withdraw n)) → PassedWithdraw t n
 unfolding checks
-passed-withdraw t n p = go (find (t .live) n) refl (if-none 24 _ (p .0))
+passed-withdraw t n (alive, end) = go (find (t .live) n) refl (if-none 24 _ alive)
   where
     go : (o : Option Credential) → find (t .live) n ≡ o → isNone o ≡ false → PassedWithdraw t n
     go none e q = absurd (no-truth (sym q))
@@ -83,7 +91,7 @@ pub record PassedBook (t : Ledger) (b : Booking) : Type 0 where
   pub there : b .formula < length (t .lines)
   pub plain : plain (formula t (b .formula)) ≡ true
   pub inside : has (b .interval) (b .now) ≡ true
-  pub alive : any (dead t) (b .holds) ≡ false
+  pub alive : anyOf (dead t) (b .holds) ≡ false
   pub apart : twice (b .holds) ≡ false
   pub closes : steps t (held (t .live) (b .holds)) (b .formula) (b .interval) (b .steps) ≡ none
   pub room : length (t .live) - linearCount (held (t .live) (b .holds)) < maxLive
@@ -91,15 +99,13 @@ pub record PassedBook (t : Ledger) (b : Booking) : Type 0 where
 
 pub passed-book : (t : Ledger) (b : Booking) → Pass (checks t (book b)) → PassedBook t b
 unfolding checks
-passed-book t b p =
-    let q = p .1 .1 .1 .1 .1 in
-    record {
-      there = leb-false _ _ (if-none 10 _ (p .0));
-      plain = not-false _ (if-none 20 _ (p .1 .0));
-      inside = not-false _ (if-none 30 _ (p .1 .1 .0));
-      alive = if-none 24 _ (p .1 .1 .1 .0);
-      apart = if-none 31 _ (p .1 .1 .1 .1 .0);
-      closes = q .0;
-      room = leb-false _ _ (if-none 22 _ (q .1 .0));
-      unused = ltb-false _ _ (if-none 23 _ (q .1 .1 .0));
-    }
+passed-book t b (there, (plain, (inside, (alive, (apart, (closes, (room, (unused, end)))))))) = record {
+  there = leb-false _ _ (if-none 10 _ there);
+  plain = not-false _ (if-none 20 _ plain);
+  inside = not-false _ (if-none 30 _ inside);
+  alive = if-none 24 _ alive;
+  apart = if-none 31 _ apart;
+  closes = closes;
+  room = leb-false _ _ (if-none 22 _ room);
+  unused = ltb-false _ _ (if-none 23 _ unused);
+}

@@ -9,10 +9,9 @@ use Rattle.request.specs.Read.{requestOf}
 use Rattle.ledger.specs.declared.Answer.{Answer}
 use Rattle.ledger.specs.declared.Answer.the-variants.{Refused}
 use Rattle.ledger.specs.Ledger.{Ledger}
-use Rattle.ledger.specs.Checks.{readChecks}
 use Rattle.ledger.specs.Calls.{Reply, accept, call, after, answers, traced}
-use Rattle.ledger.specs.Statements.{Pass}
 use Rattle.ledger.proofs.Answers.{Does, refuses, accepts, does}
+use Rattle.ledger.proofs.Passed.{PassedRead, passed-read}
 
 module _ {A : Type 0} (keep : Option Request → Answer → A → A) (P : Ledger → A → Type 0) where
   -- a refusal leaves what is kept
@@ -21,7 +20,7 @@ module _ {A : Type 0} (keep : Option Request → Answer → A → A) (P : Ledger
 
   -- the bytes b, which read as r, are accepted
   abbrev pub Keeps : Type 0
-  Keeps = (t : Ledger) (a : A) (b : List ℕ) (r : Request) → requestOf b ≡ some r → Pass (readChecks t (some r)) → P t a
+  Keeps = (t : Ledger) (a : A) (b : List ℕ) (r : Request) → requestOf b ≡ some r → PassedRead t r → P t a
       → P (accept t r .ledger) (keep (some r) (accept t r .answer) a)
 
   module _ (silent : Silent) (keeps : Keeps) where
@@ -36,7 +35,7 @@ module _ {A : Type 0} (keep : Option Request → Answer → A → A) (P : Ledger
         go (accepts r e c d q) =
             subst (λ (d : Reply). P (d .ledger) (keep (requestOf b) (d .answer) a)) (sym q)
             (subst (λ (o : Option Request). P (accept t r .ledger) (keep o (accept t r .answer) a)) (sym e)
-            (keeps t a b r e d p))
+            (keeps t a b r e (passed-read t r d) p))
 
     pub walk : (t : Ledger) (a : A) (bs : List (List ℕ)) → P t a → P (after t bs) (traced keep a bs (answers t bs))
     unfolding after traced answers

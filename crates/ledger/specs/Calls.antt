@@ -101,8 +101,8 @@ unfoldable pub call : Ledger → List ℕ → Reply
 call t bytes = decide t (first (checksOf t bytes)) (requestOf bytes)
 
 -- what a call answers, in document 01's values
-abbrev pub says : Ledger → List ℕ → Told
-says t bytes = told (call t bytes .answer)
+abbrev pub toldOf : Ledger → List ℕ → Told
+toldOf t bytes = told (call t bytes .answer)
 
 -- A list of calls, each at the ledger that the one before left: the ledger after it, and the answers.
 unfoldable pub after : Ledger → List (List ℕ) → Ledger

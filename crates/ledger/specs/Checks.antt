@@ -7,7 +7,7 @@ use Prim.Native.Nat.{ℕ, suc, _-_}
 use lib.Dec.{eqb, leb, ltb}
 use lib.ListN.{length}
 use Rattle.logic.specs.declared.Interval.{Interval}
-use Rattle.logic.specs.Interval.{span, has, reversed}
+use Rattle.logic.specs.Interval.{noInterval, has, sameInterval, reversed}
 use Rattle.logic.specs.Formula.{size, plain}
 use Rattle.logic.specs.Counts.{balanced}
 use Rattle.request.specs.declared.Kind.{Kind}
@@ -45,9 +45,9 @@ first [] = none
 first (none ∷ cs) = first cs
 first (some r ∷ cs) = some r
 
-unfoldable pub any : {A : Type 0} → (A → Bool) → List A → Bool
-any f [] = false
-any f (x ∷ xs) = f x || any f xs
+unfoldable pub anyOf : {A : Type 0} → (A → Bool) → List A → Bool
+anyOf f [] = false
+anyOf f (x ∷ xs) = f x || anyOf f xs
 
 -- The tests
 
@@ -72,7 +72,8 @@ oversize t l = ltb maxSize (size (form (formula t) l))
 unfoldable pub sameRow : Row → Row → Bool
 sameRow x y =
     eqb (x .letter) (y .letter)
-    && (eqb (x .a) (y .a) && (eqb (x .b) (y .b) && (eqb (x .c) (y .c) && eqb (x .d) (y .d))))
+    && (eqb (x .a) (y .a)
+    && (eqb (x .b) (y .b) && (sameInterval (x .first) (y .first) && sameInterval (x .second) (y .second))))
 
 abbrev pub sameLine : Line → Line → Bool
 sameLine l m = sameRow (rowOf l) (rowOf m)
@@ -84,7 +85,7 @@ dead t n = isNone (find (t .live) n)
 -- "serial held twice"
 unfoldable pub twice : List ℕ → Bool
 twice [] = false
-twice (n ∷ ns) = any (eqb n) ns || twice ns
+twice (n ∷ ns) = anyOf (eqb n) ns || twice ns
 
 -- "live, less singles held, is 512 or more"
 abbrev pub noRoom : Ledger → ℕ → Bool
@@ -98,7 +99,7 @@ usedUp t = ltb (serial .last) (t .next)
 
 -- the table of labels, as a function, before any is taken
 abbrev pub noLabels : LabelTable
-noLabels k = record { formula = 0; interval = span 0 0 }
+noLabels k = record { formula = 0; interval = noInterval }
 
 -- "Holds take labels 0, 1, .. in order": what they stand for, and the set of those of a kind, from label n on, with d
 abbrev pub hypothesis : Credential → Hypothesis
@@ -130,9 +131,9 @@ steps t cs n i ss =
 
 unfoldable pub checks : Ledger → Request → List Check
 checks t (word l) =
-    (10 if any (missing t) (names l)) ∷
+    (10 if anyOf (missing t) (names l)) ∷
     (12 if oversize t l) ∷
-    (13 if any (sameLine l) (t .lines)) ∷
+    (13 if anyOf (sameLine l) (t .lines)) ∷
     (14 if leb maxFormulas (length (t .lines))) ∷ []
 checks t (issue Linear n i) =
     (10 if missing t n) ∷
@@ -151,7 +152,7 @@ checks t (book b) =
     (10 if missing t (b .formula)) ∷
     (20 if not (plain (formula t (b .formula)))) ∷
     (30 if not (has (b .interval) (b .now))) ∷
-    (24 if any (dead t) (b .holds)) ∷
+    (24 if anyOf (dead t) (b .holds)) ∷
     (31 if twice (b .holds)) ∷
     steps t cs (b .formula) (b .interval) (b .steps) ∷
     (22 if noRoom t (linearCount cs)) ∷
@@ -161,7 +162,7 @@ checks t (tally s m) = []
 -- "any window field": from > to, in the head, or any step or formula
 abbrev pub readChecks : Ledger → Option Request → List Check
 readChecks t none = []
-readChecks t (some r) = (3 if any reversed (intervals r)) ∷ checks t r
+readChecks t (some r) = (3 if anyOf reversed (intervals r)) ∷ checks t r
 
 -- all checks of the bytes of a request
 unfoldable pub checksOf : Ledger → List ℕ → List Check

@@ -5,7 +5,7 @@ use mathlib.Core.Option.{none, some}
 use Prim.Native.Nat.{ℕ, _≤_, _<_}
 use Rattle.ledger.specs.Ledger.{Ledger}
 use Rattle.ledger.specs.Checks.{Refusal, Check}
-use Rattle.ledger.specs.Calls.{Told, ok, call, says}
+use Rattle.ledger.specs.Calls.{Told, ok, call, toldOf}
 
 -- every check passes
 abbrev pub Pass : List Check → Type 0
@@ -16,6 +16,12 @@ Pass (c ∷ cs) = (c ≡ none) × Pass cs
 pub data FirstFails (f : Refusal) : List Check → Type 0 where
   here : {cs : List Check} → FirstFails f (some f ∷ cs)
   later : {cs : List Check} → FirstFails f cs → FirstFails f (none ∷ cs)
+
+-- so far so good: the checks before `rest` pass. `s ▸ e` goes past one more, which passes by e
+infixl 4 _▸_
+pub data SoFar (all : List Check) : List Check → Type 0 where
+  from-start : SoFar all all
+  _▸_ : {c : Check} {rest : List Check} → SoFar all (c ∷ rest) → c ≡ none → SoFar all rest
 
 -- no refusal
 abbrev pub IsAccepted : Told → Type 0
@@ -31,4 +37,4 @@ pub record RefusalLeaves (t : Ledger) (bytes : List ℕ) (n k : ℕ) : Type 0 wh
   pub step : 40 ≤ n → n ≤ 42 → 1 ≤ k
 
 abbrev pub Refusals : Type 0
-Refusals = (t : Ledger) (bytes : List ℕ) (n k : ℕ) → says t bytes ≡ Told.no n k → RefusalLeaves t bytes n k
+Refusals = (t : Ledger) (bytes : List ℕ) (n k : ℕ) → toldOf t bytes ≡ Told.no n k → RefusalLeaves t bytes n k

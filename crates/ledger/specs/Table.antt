@@ -4,6 +4,7 @@ use mathlib.Core.List.{List, [], _∷_, _++_}
 use Prim.Native.Nat.{ℕ}
 use Prim.Native.Char.{code}
 use lib.ListN.{getD}
+use Rattle.logic.specs.Interval.{noInterval}
 use Rattle.logic.specs.Formula.{Formula, atom, one, tensor, with, plus, lolli, implies, bang, at, says, superset}
 use Rattle.request.specs.Request.{Line}
 use Rattle.steps.specs.declared.Row.{Row}
@@ -49,16 +50,20 @@ build earlier (l ∷ more) = build (earlier ++ (form (nth earlier) l ∷ [])) mo
 unfoldable pub formulas : List Line → List Formula
 formulas ls = build [] ls
 
--- a line as a row of numbers: the byte of its letter, and its fields
+-- the row of a letter and two numbers, without intervals
+abbrev pub lettered : ℕ → ℕ → ℕ → Row
+lettered letter a b = record { letter = letter; a = a; b = b; first = noInterval; second = noInterval }
+
+-- a line as a row: the byte of its letter, and its fields
 abbrev pub rowOf : Line → Row
-rowOf (Line.atom p s) = record { letter = code "a"; a = p; b = s; c = 0; d = 0 }
-rowOf Line.one = record { letter = code "o"; a = 0; b = 0; c = 0; d = 0 }
-rowOf (Line.tensor i j) = record { letter = code "t"; a = i; b = j; c = 0; d = 0 }
-rowOf (Line.with i j) = record { letter = code "w"; a = i; b = j; c = 0; d = 0 }
-rowOf (Line.plus i j) = record { letter = code "p"; a = i; b = j; c = 0; d = 0 }
-rowOf (Line.lolli i j) = record { letter = code "l"; a = i; b = j; c = 0; d = 0 }
-rowOf (Line.implies i j) = record { letter = code "u"; a = i; b = j; c = 0; d = 0 }
-rowOf (Line.bang i) = record { letter = code "b"; a = i; b = 0; c = 0; d = 0 }
-rowOf (Line.at i w) = record { letter = code "h"; a = i; b = w .from; c = w .to; d = 0 }
-rowOf (Line.says k i) = record { letter = code "s"; a = k; b = i; c = 0; d = 0 }
-rowOf (Line.superset v w) = record { letter = code "g"; a = v .from; b = v .to; c = w .from; d = w .to }
+rowOf (Line.atom p s) = lettered (code "a") p s
+rowOf Line.one = lettered (code "o") 0 0
+rowOf (Line.tensor i j) = lettered (code "t") i j
+rowOf (Line.with i j) = lettered (code "w") i j
+rowOf (Line.plus i j) = lettered (code "p") i j
+rowOf (Line.lolli i j) = lettered (code "l") i j
+rowOf (Line.implies i j) = lettered (code "u") i j
+rowOf (Line.bang i) = lettered (code "b") i 0
+rowOf (Line.at i w) = record { letter = code "h"; a = i; b = 0; first = w; second = noInterval }
+rowOf (Line.says k i) = lettered (code "s") k i
+rowOf (Line.superset v w) = record { letter = code "g"; a = 0; b = 0; first = v; second = w }

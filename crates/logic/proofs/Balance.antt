@@ -9,7 +9,7 @@ use lib.Dec.{eqb}
 use borrow.Author.Tests.{eqb-true}
 use Rattle.logic.specs.Formula.{Formula, atom, one, tensor, with, plus, lolli, implies, bang, at, says}
 use Rattle.logic.specs.Formula.{superset, bit, count, seats, places, plain}
-use Rattle.logic.specs.Counts.{up, down, level, even, sessionsOf, all, balanced}
+use Rattle.logic.specs.Counts.{up, down, level, even, sessionsOf, allOf, balanced}
 use Rattle.logic.specs.Statements.{PlainWeighed, BalancedTest}
 use Rattle.logic.proofs.Tests.{no-truth, Decides, and-decides, and₃-decides, yea, nay, eq-decides}
 use Rattle.logic.proofs.Weights.{Level, Even, even-is, balanced-is}
@@ -134,36 +134,36 @@ absent s (at a i) e = let x = absent s a e in record { ups = x .ups; downs = x .
 absent s (says k a) e = let x = absent s a e in record { ups = x .ups; downs = x .downs; evens = x .evens }
 absent s (superset i j) e = record { ups = refl; downs = refl; evens = tt }
 
-all-elem : (f : ℕ → Bool) (xs : List ℕ) → all f xs ≡ true → (s : ℕ) → elem s xs ≡ true → f s ≡ true
-unfolding all elem
+all-elem : (f : ℕ → Bool) (xs : List ℕ) → allOf f xs ≡ true → (s : ℕ) → elem s xs ≡ true → f s ≡ true
+unfolding allOf elem
 all-elem f [] h s e = absurd (no-truth e)
 all-elem f (x ∷ xs) h s e = go (f x) refl h (eqb x s) refl e (λ q. all-elem f xs q s)
   where
-    go : (c : Bool) → f x ≡ c → (c && all f xs) ≡ true → (b : Bool) → eqb x s ≡ b → (b || elem s xs) ≡ true
-        → (all f xs ≡ true → elem s xs ≡ true → f s ≡ true) → f s ≡ true
+    go : (c : Bool) → f x ≡ c → (c && allOf f xs) ≡ true → (b : Bool) → eqb x s ≡ b → (b || elem s xs) ≡ true
+        → (allOf f xs ≡ true → elem s xs ≡ true → f s ≡ true) → f s ≡ true
     go true p h true q e ih = subst (λ (y : ℕ). f y ≡ true) (eqb-true x s q) p
     go true p h false q e ih = ih h e
     go false p h b q e ih = absurd (no-truth h)
 
-all-every : (f : ℕ → Bool) (xs : List ℕ) → ((s : ℕ) → f s ≡ true) → all f xs ≡ true
-unfolding all
+all-every : (f : ℕ → Bool) (xs : List ℕ) → ((s : ℕ) → f s ≡ true) → allOf f xs ≡ true
+unfolding allOf
 all-every f [] h = refl
 all-every f (x ∷ xs) h = rw (h x) (all-every f xs h)
 
-fair-decides : (s : ℕ) (a : Formula) → Decides (level s a && even s a) (Level s a × Even s a)
-fair-decides s a = and-decides (eq-decides (up s a) (down s a)) (even-decides s a)
+neutral-decides : (s : ℕ) (a : Formula) → Decides (level s a && even s a) (Level s a × Even s a)
+neutral-decides s a = and-decides (eq-decides (up s a) (down s a)) (even-decides s a)
 
 pub balanced-test : BalancedTest
 unfolding balanced
 balanced-test a = (
   λ h s. balanced-is s a .1 (go s h (elem s (sessionsOf a)) refl),
   λ h. all-every (λ s. level s a && even s a) (sessionsOf a)
-      (λ s. fair-decides s a .1 (balanced-is s a .0 (h s))),
+      (λ s. neutral-decides s a .1 (balanced-is s a .0 (h s))),
 )
   where
-    go : (s : ℕ) → all (λ s. level s a && even s a) (sessionsOf a) ≡ true → (b : Bool) → elem s (sessionsOf a) ≡ b
+    go : (s : ℕ) → allOf (λ s. level s a && even s a) (sessionsOf a) ≡ true → (b : Bool) → elem s (sessionsOf a) ≡ b
         → Level s a × Even s a
-    go s h true e = fair-decides s a .0 (all-elem (λ s. level s a && even s a) (sessionsOf a) h s e)
+    go s h true e = neutral-decides s a .0 (all-elem (λ s. level s a && even s a) (sessionsOf a) h s e)
     go s h false e = let x = absent s a e in (omega (arith, x .ups, x .downs), x .evens)
 
 -- What a plain formula weighs is its seats and places.

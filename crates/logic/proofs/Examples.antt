@@ -3,11 +3,11 @@ use mathlib.Core.Path.{refl}
 use Rattle.logic.specs.Interval.{contains, has, reversed}
 use Rattle.logic.specs.Formula.{size, count, plain}
 use Rattle.logic.specs.Weight.{weight}
-use Rattle.logic.specs.Counts.{up, even, sessionsOf, all, balanced}
+use Rattle.logic.specs.Counts.{up, even, sessionsOf, allOf, balanced}
 use Rattle.logic.specs.Examples.{twofold, Examples}
 
 pub examples : Examples
-unfolding size twofold weight count balanced all sessionsOf even up plain contains has reversed
+unfolding size twofold weight count balanced allOf sessionsOf even up plain contains has reversed
 examples = record {
   size-of-twofold = refl;
   size-of-offer = refl;

@@ -70,10 +70,10 @@ sessionsOf (at a i) = sessionsOf a
 sessionsOf (says k a) = sessionsOf a
 sessionsOf (superset i j) = []
 
-unfoldable pub all : {A : Type 0} → (A → Bool) → List A → Bool
-all f [] = true
-all f (x ∷ xs) = f x && all f xs
+unfoldable pub allOf : {A : Type 0} → (A → Bool) → List A → Bool
+allOf f [] = true
+allOf f (x ∷ xs) = f x && allOf f xs
 
 -- balanced, tried at the sessions that stand in the formula; `BalancedTest` says that this decides it for every session
 unfoldable pub balanced : Formula → Bool
-balanced a = all (λ s. level s a && even s a) (sessionsOf a)
+balanced a = allOf (λ s. level s a && even s a) (sessionsOf a)

@@ -13,8 +13,9 @@ use Rattle.logic.specs.Multiset.{Every}
 use Rattle.logic.proofs.Tests.{and-decides, le-decides}
 use Rattle.request.specs.Range.{Range}
 use Rattle.request.specs.Text.{andThen, reads, decimalDigit, hexDigit, decimal, numberIn, labelSetIn}
+use Rattle.request.specs.Text.{hexFirst, hexLast, hexShift}
 use Rattle.request.specs.Write.{written, digits, hexByte, hexWritten, hexDigits}
-use Rattle.request.specs.InRange.{_∈_, LabelSet}
+use Rattle.request.specs.InRange.{_inRange_, LabelSet}
 use Rattle.request.proofs.Gives.{Gives, nothing, just, gives-then, gives-so, gives-if}
 
 -- all bytes from lo on
@@ -72,7 +73,7 @@ hex-low : (d : ℕ) → d < 10 → hexByte d ≡ 48 + d
 unfolding hexByte
 hex-low d h = rw (lt-ltb d 10 h, hexByte)
 
-hex-high : (d : ℕ) → 10 ≤ d → hexByte d ≡ 87 + d
+hex-high : (d : ℕ) → 10 ≤ d → hexByte d ≡ hexShift + d
 unfolding hexByte
 hex-high d h = rw (le-ltb d 10 h, hexByte)
 
@@ -90,12 +91,12 @@ hex-digit = record {
   back = λ d h. by-ten (λ d. hexDigit (hexByte d) ≡ some d) d
       (λ l. ap hexDigit (hex-low d l)
       ∙ if-true _ (is-between _ _ (48 + d) (omega arith) (omega arith)) ∙ ap some (omega arith))
-      (λ l. ap hexDigit (hex-high d l) ∙ if-false _ (not-between _ _ (87 + d) (omega arith))
-      ∙ if-true _ (is-between _ _ (87 + d) (omega arith) (omega arith)) ∙ ap some (omega arith));
+      (λ l. ap hexDigit (hex-high d l) ∙ if-false _ (not-between _ _ (hexShift + d) (omega arith))
+      ∙ if-true _ (is-between _ _ (hexShift + d) (omega arith) (omega arith)) ∙ ap some (omega arith));
   only = λ x. gives-between 48 57 x
       (λ h k. just (omega arith, hex-low (x - 48) (omega arith) ∙ omega arith))
-      (gives-between 97 102 x
-      (λ h k. just (omega arith, hex-high (x - 87) (omega arith) ∙ omega arith)) nothing);
+      (gives-between hexFirst hexLast x
+      (λ h k. just (omega arith, hex-high (x - hexShift) (omega arith) ∙ omega arith)) nothing);
   plain = λ d. by-ten (λ d. 48 ≤ hexByte d) d (λ l. omega (arith, hex-low d l)) (λ l. omega (arith, hex-high d l));
 }
 
@@ -253,11 +254,11 @@ digits-plain = by-digits (λ n. Plain 48 (digits n))
 
 -- A number of a range
 
-pub number-back : (r : Range) (n : ℕ) → n ∈ r → numberIn r (digits n) ≡ some n
+pub number-back : (r : Range) (n : ℕ) → n inRange r → numberIn r (digits n) ≡ some n
 unfolding numberIn andThen
 number-back r n h = rw (decimal-digits n, is-between (r .first) (r .last) n (h .least) (h .most), numberIn, andThen)
 
-pub number-only : (r : Range) (t : List ℕ) → Gives (λ n. (n ∈ r) × (digits n ≡ t)) (numberIn r t)
+pub number-only : (r : Range) (t : List ℕ) → Gives (λ n. (n inRange r) × (digits n ≡ t)) (numberIn r t)
 unfolding numberIn
 number-only r t =
     gives-then (decimal-only t) (λ n e.

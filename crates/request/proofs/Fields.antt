@@ -3,7 +3,7 @@ use mathlib.Core.Path.{refl}
 use mathlib.Core.List.{[], _∷_}
 use Prim.Native.Nat.{ℕ, suc, _+_, _^_, _<_}
 use native.Mathlib.Omega.{arith}
-use Rattle.logic.specs.Counts.{all}
+use Rattle.logic.specs.Counts.{allOf}
 use Rattle.request.specs.declared.Kind.{Kind}
 use Rattle.request.specs.declared.Kind.the-variants.{Linear, Unrestricted}
 use Rattle.request.specs.Range.{Range, predicate, session, principal, minute, formulaNumber, serial, label}
@@ -12,14 +12,14 @@ use Rattle.request.specs.Text.{bytes, sameBytes}
 use Rattle.request.specs.Reader.{named, choose}
 use Rattle.request.specs.Read.{number, labelSet, interval, kind}
 use Rattle.request.specs.Write.{digits, hexDigits, minutes, kindField}
-use Rattle.request.specs.InRange.{_∈_, LabelSet, IntervalInRange}
+use Rattle.request.specs.InRange.{_inRange_, LabelSet, IntervalInRange}
 use Rattle.request.proofs.Digits.{number-back, number-only, digits-plain, digits-length}
 use Rattle.request.proofs.Digits.{set-back, set-only, set-plain, set-length}
 use Rattle.request.proofs.Readers.{Reads, Exact, done, _also_, only-return, reads-return, reads-then}
 use Rattle.request.proofs.Readers.{reads-last, next-exact, choose-only, word-reads, two-only}
 
 abbrev pub NumberExact : Range → ℕ → Type 0
-NumberExact r n = Exact 48 (number r) (λ m. m ∈ r) (λ m. digits m ∷ []) n
+NumberExact r n = Exact 48 (number r) (λ m. m inRange r) (λ m. digits m ∷ []) n
 
 -- a number of at most k + 1 digits
 number-exact : (r : Range) (k : ℕ) → r .last < 10 ^ suc k → NumberExact r (k + 2)
@@ -71,7 +71,7 @@ abbrev pub AnyKind : Kind → Type 0
 AnyKind k = Unit {0}
 
 pub kind-exact : Exact 48 kind AnyKind (λ k. kindField k ∷ []) 2
-unfolding kind kindField bytes sameBytes choose named all
+unfolding kind kindField bytes sameBytes choose named allOf
 kind-exact = record {
   reads = go;
   only = choose-only (only-return Linear tt refl also only-return Unrestricted tt refl also done);

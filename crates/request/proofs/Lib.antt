@@ -3,5 +3,5 @@ pub mod Digits
 pub mod Texts
 pub mod Readers
 pub mod Fields
-pub mod Lines
+pub mod LineReaders
 pub mod Requests

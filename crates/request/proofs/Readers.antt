@@ -10,7 +10,7 @@ use lib.Dec.{eqb, leb}
 use lib.ListN.{length}
 use borrow.Author.Tests.{eqb-true, leb-true}
 use Rattle.logic.specs.Multiset.{Every}
-use Rattle.logic.specs.Counts.{all}
+use Rattle.logic.specs.Counts.{allOf}
 use Rattle.logic.proofs.Tests.{no-truth}
 use Rattle.request.specs.Text.{bytes, sameBytes, andThen, fields}
 use Rattle.request.specs.Reader.{Reader, return, _>>=_, next, many, named, choose, ended, whole, line}
@@ -185,13 +185,13 @@ module _ {A : Type 0} {P : A → Type 0} {w : A → Texts} where
 
 -- a word, of bytes from 48 on, and the fields after it, at most n bytes
 abbrev pub fits : String → ℕ → ℕ → Bool
-fits t m n = all (leb 48) (bytes t) && leb (suc (length (bytes t)) + m) n
+fits t m n = allOf (leb 48) (bytes t) && leb (suc (length (bytes t)) + m) n
 
-all-plain : (t : List ℕ) → all (leb 48) t ≡ true → Plain 48 t
-unfolding all
+all-plain : (t : List ℕ) → allOf (leb 48) t ≡ true → Plain 48 t
+unfolding allOf
 all-plain [] e = tt
 all-plain (x ∷ t) e =
-    let h = and-eq-true-iff (leb 48 x) (all (leb 48) t) .0 e in
+    let h = and-eq-true-iff (leb 48 x) (allOf (leb 48) t) .0 e in
     (leb-true 48 x (h .0), all-plain t (h .1))
 
 -- a table that goes on with the word's reader
@@ -199,7 +199,7 @@ pub word-reads : {A : Type 0} {r table : Reader A} {a : A} {ws : Texts} {m n : �
     → fits t m n ≡ true → ((us : Texts) → table (bytes t ∷ us) ≡ r us)
     → Reads 48 r a ws m → Reads 48 table a (bytes t ∷ ws) n
 word-reads {ws} {m} {n} t e f s =
-    let h = and-eq-true-iff (all (leb 48) (bytes t)) (leb (suc (length (bytes t)) + m) n) .0 e in
+    let h = and-eq-true-iff (allOf (leb 48) (bytes t)) (leb (suc (length (bytes t)) + m) n) .0 e in
     record {
       back = λ ts. f (ws ++ ts) ∙ s .back ts;
       plain = (all-plain (bytes t) (h .0), s .plain);

@@ -4,7 +4,7 @@ use mathlib.Core.List.{List, [], _∷_}
 use Prim.Native.Nat.{ℕ}
 use native.Mathlib.Omega.{arith}
 use lib.ListN.{length}
-use Rattle.logic.specs.Counts.{all}
+use Rattle.logic.specs.Counts.{allOf}
 use Rattle.request.specs.Range.{serial, minute, formulaNumber, holds, steps}
 use Rattle.request.specs.Text.{bytes, sameBytes, andThen, lines}
 use Rattle.request.specs.Reader.{named, choose, line}
@@ -13,7 +13,7 @@ use Rattle.request.specs.Read.{holdLine, stepLine, Head, alone, booking,
 use Rattle.request.specs.Read.{requestLines, requestOf}
 use Rattle.request.specs.Write.{minutes, joined, holdFields, stepFields, bookFields, headFields, moreLines}
 use Rattle.request.specs.Write.{endedLines, requestTexts, write}
-use Rattle.request.specs.InRange.{_∈_, IntervalInRange, BookingInRange, StepInRange, InRange}
+use Rattle.request.specs.InRange.{_inRange_, IntervalInRange, BookingInRange, StepInRange, InRange}
 use Rattle.request.specs.Statements.{WriteRead, ReadInRange, ReadWrite, longest, Longest, WriteShort}
 use Rattle.request.proofs.Gives.{Gives, given, gives-then, gives-so}
 use Rattle.request.proofs.Texts.{lines-ended, ended-lines, ended-size}
@@ -23,7 +23,7 @@ use Rattle.request.proofs.Readers.{line-exact, many-read, many-only, wh
 use Rattle.request.proofs.Readers.{one-reads, one-only, two-reads, two-only}
 use Rattle.request.proofs.Fields.{formula-exact, session-exact, holds-exact, steps-exact, serial-exact}
 use Rattle.request.proofs.Fields.{minute-exact, interval-exact, kind-exact}
-use Rattle.request.proofs.Lines.{formula-line-exact, step-line-exact, hold-line-exact}
+use Rattle.request.proofs.LineReaders.{formula-line-exact, step-line-exact, hold-line-exact}
 
 -- The first line: at most 40 bytes
 
@@ -34,11 +34,11 @@ HeadInRange (alone (withdraw n)) = InRange (withdraw n)
 HeadInRange (alone (book b)) = ⊥
 HeadInRange (alone (tally s m)) = InRange (tally s m)
 HeadInRange (booking now n i h k) = record {
-  now : now ∈ minute;
-  formula : n ∈ formulaNumber;
+  now : now inRange minute;
+  formula : n inRange formulaNumber;
   interval : IntervalInRange i;
-  holdCount : h ∈ holds;
-  stepCount : k ∈ steps;
+  holdCount : h inRange holds;
+  stepCount : k inRange steps;
 }
 
 headTexts : Head → Texts
@@ -46,7 +46,7 @@ headTexts (alone r) = headFields r
 headTexts (booking now n i h k) = bookFields now n i h k
 
 head-reads : (h : Head) → HeadInRange h → Reads 48 firstLine h (headTexts h) 40
-unfolding firstLine headTexts headFields bookFields bookLine bytes sameBytes choose named all
+unfolding firstLine headTexts headFields bookFields bookLine bytes sameBytes choose named allOf
 head-reads (alone (word l)) h = one-reads formula-line-exact _ "word" l h refl (λ us. refl)
 head-reads (alone (issue k n i)) h =
     word-reads "issue" refl (λ us. refl) (reads-then _ (kind-exact .reads k tt)
@@ -82,7 +82,7 @@ head-line : Exact 44 (line firstLine) HeadInRange (λ h. joined (headTexts h) �
 unfolding firstLine choose
 head-line = line-exact refl head-exact
 
-hold-line : Exact 44 (line holdLine) (λ n. n ∈ serial) (λ n. joined (holdFields n) ∷ []) 12
+hold-line : Exact 44 (line holdLine) (λ n. n inRange serial) (λ n. joined (holdFields n) ∷ []) 12
 unfolding holdLine choose
 hold-line = line-exact refl hold-line-exact
 
@@ -135,8 +135,8 @@ rest-only (booking now n i h k) p =
       now = p .now;
       formula = p .formula;
       interval = p .interval;
-      holdCount = subst (λ m. m ∈ holds) (sym (q .0)) (p .holdCount);
-      stepCount = subst (λ m. m ∈ steps) (sym (t .0)) (p .stepCount);
+      holdCount = subst (λ m. m inRange holds) (sym (q .0)) (p .holdCount);
+      stepCount = subst (λ m. m inRange steps) (sym (t .0)) (p .stepCount);
       holds = q .1;
       steps = t .1;
     })

@@ -55,12 +55,22 @@ reads digit base value (x ∷ xs) = andThen (digit x) (λ d. reads digit base (v
 unfoldable pub decimalDigit : ℕ → Option ℕ
 decimalDigit x = elim (leb 48 x && leb x 57) [ true ↦ some (x - 48) | false ↦ none ]
 
+-- the bytes of a and f, the letters of hexadecimal digits, and how far above their value they stand
+abbrev pub hexFirst : ℕ
+hexFirst = 97
+
+abbrev pub hexLast : ℕ
+hexLast = 102
+
+abbrev pub hexShift : ℕ
+hexShift = hexFirst - 10
+
 -- 0 to 9, a to f
 unfoldable pub hexDigit : ℕ → Option ℕ
 hexDigit x =
     elim (leb 48 x && leb x 57) [
       | true ↦ some (x - 48)
-      | false ↦ elim (leb 97 x && leb x 102) [ true ↦ some (x - 87) | false ↦ none ]
+      | false ↦ elim (leb hexFirst x && leb x hexLast) [ true ↦ some (x - hexShift) | false ↦ none ]
     ]
 
 -- a decimal number without leading zeros, of any length

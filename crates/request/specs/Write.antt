@@ -7,7 +7,7 @@ use lib.ListN.{length}
 use Rattle.logic.specs.declared.Interval.{Interval}
 use Rattle.request.specs.declared.Kind.{Kind}
 use Rattle.request.specs.declared.Kind.the-variants.{Linear, Unrestricted}
-use Rattle.request.specs.Text.{bytes}
+use Rattle.request.specs.Text.{bytes, hexShift}
 use Rattle.request.specs.Request.{Line, Step, Request, word, issue, withdraw, book, tally}
 
 -- Texts
@@ -23,7 +23,7 @@ digits n = written n n
 
 -- 0 to 9, a to f
 unfoldable pub hexByte : ℕ → ℕ
-hexByte d = elim (ltb d 10) [ true ↦ 48 + d | false ↦ 87 + d ]
+hexByte d = elim (ltb d 10) [ true ↦ 48 + d | false ↦ hexShift + d ]
 
 -- s in k hexadecimal digits
 unfoldable pub hexWritten : ℕ → ℕ → List ℕ

@@ -7,7 +7,7 @@ use Prim.Native.Nat.{ℕ, _^_}
 use Prim.Native.Char.{Char, code}
 use native.Mathlib.Omega.{arith}
 use Rattle.logic.specs.declared.Interval.{Interval}
-use Rattle.logic.specs.Interval.{_⊇_, span}
+use Rattle.logic.specs.Interval.{_⊇_}
 use Rattle.logic.specs.Formula.{Formula, atom, says, superset}
 use Rattle.logic.specs.Derives.{Hyp, _⟦_⟧, Judgment, holds, affirms}
 use Rattle.logic.proofs.Tests.{Decides, and-decides, eq-decides, no-truth}
@@ -136,7 +136,7 @@ module _ {row : ℕ → Row} {f : ℕ → Formula} (u : Unrolls row f) (names : 
         (premise (from (remove D l) y (f (rowAt l .b) ⟦ label l .interval ⟧ ∷ [])))) (sym (ap (goalOf u) q))
         (Rule.sl m (e ∙ ap (λ (k : ℕ). says k (f (rowAt l .b)) ⟦ label l .interval ⟧) (t .0)) (t .1)))))
     plan-rule g Step.gr = ruled-right g Step.gr "g" _ (λ n i. ruled-when _ Step.gr _ Closed
-        (and-decides (eq-decides D 0) (contains-decides (span (row n .a) (row n .b)) (span (row n .c) (row n .d))))
+        (and-decides (eq-decides D 0) (contains-decides (row n .first) (row n .second)))
         (λ t. Rule.gr (t .0) (t .1)))
 
     -- From the rule to the plan
@@ -224,5 +224,5 @@ module _ {row : ℕ → Row} {f : ℕ → Formula} (u : Unrolls row f) (names : 
     rule-plan (Rule.gr z c) g y = right-plan g "g" _ y refl (λ n q.
         let t = superset-inv q in
         passes _ Closed
-        (and-decides (eq-decides D 0) (contains-decides (span (row n .a) (row n .b)) (span (row n .c) (row n .d))))
+        (and-decides (eq-decides D 0) (contains-decides (row n .first) (row n .second)))
         (z, subst₂ (λ (a b : Interval). a ⊇ b) (sym (t .0)) (sym (t .1)) c) refl)

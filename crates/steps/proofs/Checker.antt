@@ -20,22 +20,22 @@ use Rattle.steps.specs.Check.{maxLabels, premiseOf}
 use Rattle.steps.specs.Rule.{Branch, Leaves, nothing, premise, premises}
 use Rattle.steps.specs.Spells.{Labels, named, Labelled, Right, begun, beginning, Room, Spells, Stops}
 use Rattle.steps.specs.Labelling.{Fits}
-use Rattle.steps.specs.Unroll.{Unrolls, goalOf, sequentOf}
+use Rattle.steps.specs.Unroll.{Unrolls, goalOf, labelledOf}
 use Rattle.steps.proofs.Labelling.{Extends, ext-refl, ext-trans}
 use Rattle.steps.proofs.Premises.{ext-begun, spells-extends, lowers, fits-begun}
 use Rattle.steps.proofs.Unroll.{branchOf, leaves}
 use Rattle.steps.proofs.Agree.{Ruled, plan-rule, rule-plan}
 use Rattle.steps.proofs.Runs.{Result, closed, halted, Ends, Enters, After, ends-after, after-ends}
-use Rattle.steps.proofs.Tables.{Table, Shows, Starts, starts}
+use Rattle.steps.proofs.LabelTables.{Table, Shows, Starts, starts}
 
 module _ {row : ℕ → Row} {formula : ℕ → Formula} (u : Unrolls row formula) {T : Type 0} {held : T → ℕ → Hypothesis}
     {put : T → ℕ → Hypothesis → T} (table : Table held put) (total : ℕ) where
   -- a plan is what the rules say of a step
   record Agrees (ls : Labels) (q : Sequent) (s : Step) (p : Plan) : Type 0 where
     ruled : Ruled u (named ls) (q .unrestricted) (q .linear) (goalOf u (q .goal)) s p
-    only : (w : Leaves) → Right ls (sequentOf u q) s w → leaves u p ≡ some w
+    only : (w : Leaves) → Right ls (labelledOf u q) s w → leaves u p ≡ some w
 
-  agrees : (t : T) (n : ℕ) (ls : Labels) (q : Sequent) (s : Step) → Shows u table t n ls → Fits ls (sequentOf u q)
+  agrees : (t : T) (n : ℕ) (ls : Labels) (q : Sequent) (s : Step) → Shows u table t n ls → Fits ls (labelledOf u q)
       → Agrees ls q s (planOf row (held t) (q .unrestricted) (q .linear) (q .goal) s)
   agrees t n ls q s sh fits =
       let r = q .unrestricted in
@@ -64,8 +64,8 @@ module _ {row : ℕ → Row} {formula : ℕ → Formula} (u : Unrolls row formul
   -- so does the judge of all premises with at most f lines
   abbrev pub Exact : Judge T → ℕ → Type 0
   Exact judge f =
-      (ss : List Step) (t : T) (n : ℕ) (ls : Labels) (q : Sequent) → Shows u table t n ls → Fits ls (sequentOf u q)
-      → length ss ≤ f → Meets (Ends total ss ls (sequentOf u q)) (judge ss t n q)
+      (ss : List Step) (t : T) (n : ℕ) (ls : Labels) (q : Sequent) → Shows u table t n ls → Fits ls (labelledOf u q)
+      → length ss ≤ f → Meets (Ends total ss ls (labelledOf u q)) (judge ss t n q)
 
   -- Premises that begin
 
@@ -121,7 +121,7 @@ module _ {row : ℕ → Row} {formula : ℕ → Formula} (u : Unrolls row formul
   -- Step s, with the lines ss after it
 
   module _ {judge : Judge T} {f : ℕ} (ih : Exact judge f) (s : Step) (ss : List Step) (ls : Labels) (q : Sequent)
-      (fits : Fits ls (sequentOf u q)) (le : length ss ≤ f) (t : T) (n : ℕ) (sh : Shows u table t n ls) where
+      (fits : Fits ls (labelledOf u q)) (le : length ss ≤ f) (t : T) (n : ℕ) (sh : Shows u table t n ls) where
     -- its number, the unrestricted labels, the rule that it is right by, and the outcome of a plan
     abbrev number : ℕ
     number = total - length ss
@@ -130,7 +130,7 @@ module _ {row : ℕ → Row} {formula : ℕ → Formula} (u : Unrolls row formul
     R = q .unrestricted
 
     abbrev RightBy : Leaves → Type 0
-    RightBy w = Right ls (sequentOf u q) s w
+    RightBy w = Right ls (labelledOf u q) s w
 
     abbrev outcome : Plan → Outcome T
     outcome p = follow put judge number ss t n R p
@@ -155,7 +155,7 @@ module _ {row : ℕ → Row} {formula : ℕ → Formula} (u : Unrolls row formul
 
     -- the outcome is an end of the lines
     abbrev Explained : Outcome T → Type 0
-    Explained o = (e : Result) × After total s ss ls (sequentOf u q) e × Shown o e
+    Explained o = (e : Result) × After total s ss ls (labelledOf u q) e × Shown o e
 
     explain-two : (p₁ : Branch) (p₂ : Premise) → RightBy (premises p₁ (branchOf u p₂)) → (o : Outcome T) (e : Result)
         → Enters total number ss ls R p₁ e → Shown o e → Explained (onward o (second-of p₂))
@@ -208,7 +208,7 @@ module _ {row : ℕ → Row} {formula : ℕ → Formula} (u : Unrolls row formul
         (first p₁ (lowers r .0) .only (closed mid ls₁) (Enters.within room sp))
         (λ t₁ n₁ sh₁. second (branchOf u p₁) sp p₂ (lowers r .1) t₁ n₁ sh₁ .only e y)
 
-    only-outcome : (p : Plan) → Agrees ls q s p → (e : Result) → After total s ss ls (sequentOf u q) e
+    only-outcome : (p : Plan) → Agrees ls q s p → (e : Result) → After total s ss ls (labelledOf u q) e
         → Shown (outcome p) e
     only-outcome p a e (After.breaks never) = only-break p a never
     only-outcome p a e (After.closes r) = only-close p (leads p _ (a .only _ r))
@@ -216,7 +216,7 @@ module _ {row : ℕ → Row} {formula : ℕ → Formula} (u : Unrolls row formul
     only-outcome p a e (After.halts r x) = only-halt p (leads p _ (a .only _ r)) r x
     only-outcome p a e (After.parts r x y) = only-two p (leads p _ (a .only _ r)) r x y
 
-    step-meets : (p : Plan) → Agrees ls q s p → Meets (Ends total (s ∷ ss) ls (sequentOf u q)) (outcome p)
+    step-meets : (p : Plan) → Agrees ls q s p → Meets (Ends total (s ∷ ss) ls (labelledOf u q)) (outcome p)
     step-meets p a =
         let w = explain p a in
         record {
@@ -234,9 +234,9 @@ module _ {row : ℕ → Row} {formula : ℕ → Formula} (u : Unrolls row formul
 
   pub exact : (f : ℕ) → Exact (premiseOf row held put total f) f
   unfolding premiseOf
-  exact zero [] t n ls q sh fits le = none-left ls (sequentOf u q)
+  exact zero [] t n ls q sh fits le = none-left ls (labelledOf u q)
   exact zero (s ∷ ss) t n ls q sh fits le = absurd (omega arith)
-  exact (suc f) [] t n ls q sh fits le = none-left ls (sequentOf u q)
+  exact (suc f) [] t n ls q sh fits le = none-left ls (labelledOf u q)
   exact (suc f) (s ∷ ss) t n ls q sh fits le =
       step-meets (exact f) s ss ls q fits (omega arith) t n sh
       (planOf row (held t) (q .unrestricted) (q .linear) (q .goal) s) (agrees t n ls q s sh fits)

@@ -16,15 +16,15 @@ use Rattle.labels.proofs.Sets.{subset-le, without-le, only-is}
 use Rattle.labels.proofs.Permutations.{on, before, perm-nil, perm-in, within-cons, in-front}
 use Rattle.labels.proofs.Pick.{Found, find, choose, pick-nil}
 use Rattle.request.specs.Range.{minute, label}
-use Rattle.request.specs.InRange.{_∈_, LabelSet, IntervalInRange}
+use Rattle.request.specs.InRange.{_inRange_, LabelSet, IntervalInRange}
 use Rattle.steps.specs.Check.{maxLabels}
 use Rattle.steps.specs.Rule.{from, premise, Rule}
 use Rattle.steps.specs.Spells.{Labels, named}
-use Rattle.steps.specs.Letters.{letterOf}
+use Rattle.steps.specs.StepLetters.{letterOf}
 use Rattle.steps.specs.Limits.{Minutes, Writable}
-use Rattle.steps.specs.Labelling.{hyps, sequent}
+use Rattle.steps.specs.Labelling.{hyps, labelledBy}
 use Rattle.steps.proofs.Labelling.{no-hyps, Known}
-use Rattle.steps.proofs.Lines.{Lines, Spelled, closing, going, parting}
+use Rattle.steps.proofs.Spelling.{Lines, Spelled, closing, going, parting}
 
 -- Labels for hypotheses
 
@@ -61,17 +61,17 @@ at-left : {R D : List Hyp} {h : Hyp} {g : Judgment} {a : Letter} {u : List Lette
     → n ≡ length hs + v → Spelled R (hs ++ D) g u v → Spelled R (h ∷ D) g (a ∷ u) n
 at-left {g = g} {u = u} {n = n} s hs lettered w rule e ih = λ ls r d fits sub m room.
     let k = head ls d (fits .linear) (fits .room) m in
-    subst (λ (b : Letter). Lines ls (sequent r d g) (b ∷ u) n) (lettered (k .0))
+    subst (λ (b : Letter). Lines ls (labelledBy r d g) (b ∷ u) n) (lettered (k .0))
     (going ls r d fits {s = s (k .0)} (rule (named ls) r d (k .0) (k .2) (k .3)) (w (k .0) (k .1)) ih sub
     (before hs (k .4)) (omega arith) room)
 
 -- What lines carry is in range
 
-label-in : (k : ℕ) → k < maxLabels → k ∈ label
+label-in : (k : ℕ) → k < maxLabels → k inRange label
 unfolding maxLabels
 label-in k l = record { least = omega arith; most = omega arith }
 
-label-writable : (k : ℕ) → k < maxLabels → (k ∈ label) × Unit {0}
+label-writable : (k : ℕ) → k < maxLabels → (k inRange label) × Unit {0}
 label-writable k l = (label-in k l, tt)
 
 set-in : (s : ℕ) → s < 2 ^ maxLabels → LabelSet s

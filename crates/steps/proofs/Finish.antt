@@ -12,7 +12,7 @@ use Rattle.steps.specs.Check.{Outcome, done, stopped, finished}
 use Rattle.steps.specs.Spells.{Labels, Labelled, Spells, Refused}
 use Rattle.steps.specs.Unroll.{Unrolls}
 use Rattle.steps.proofs.Runs.{Result, closed, halted, Ends}
-use Rattle.steps.proofs.Tables.{Table}
+use Rattle.steps.proofs.LabelTables.{Table}
 use Rattle.steps.proofs.Checker.{Shown, closes, stops}
 
 module _ {row : ℕ → Row} {formula : ℕ → Formula} (u : Unrolls row formula) {T : Type 0} {held : T → ℕ → Hypothesis}

@@ -2,13 +2,13 @@ pub mod Outcomes
 pub mod Labelling
 pub mod Premises
 pub mod Sound
-pub mod Lines
+pub mod Spelling
 pub mod Complete
 pub mod Unroll
 pub mod Agree
 pub mod Runs
-pub mod Tables
+pub mod LabelTables
 pub mod Checker
 pub mod Finish
-pub mod Holds
+pub mod HoldLabels
 pub mod Steps

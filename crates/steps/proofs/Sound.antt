@@ -15,7 +15,7 @@ use Rattle.labels.proofs.Pick.{pick-empty, pick-only, pick-share, pick-remove}
 use Rattle.steps.specs.Check.{maxLabels}
 use Rattle.steps.specs.Rule.{Branch, Leaves, nothing, premise, premises, Rule}
 use Rattle.steps.specs.Spells.{Labels, named, Labelled, begun, beginning, Room, Spells}
-use Rattle.steps.specs.Letters.{letterOf, lettersOf}
+use Rattle.steps.specs.StepLetters.{letterOf, lettersOf}
 use Rattle.steps.specs.Limits.{Minutes, Writable}
 use Rattle.steps.specs.Labelling.{hyps, Fits}
 use Rattle.steps.proofs.Labelling.{Extends, ext-refl, ext-trans}

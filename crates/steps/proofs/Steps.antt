@@ -12,16 +12,16 @@ use Rattle.labels.proofs.Permutations.{perm-in}
 use Rattle.steps.specs.declared.Hypothesis.{Hypothesis}
 use Rattle.steps.specs.Check.{premiseOf, checkOf}
 use Rattle.steps.specs.Spells.{Spells}
-use Rattle.steps.specs.Labelling.{Fits, sequent}
+use Rattle.steps.specs.Labelling.{Fits, labelledBy}
 use Rattle.steps.specs.Statements.{Spelt, Complete, Exactly, asked, Sound, Passing}
-use Rattle.steps.specs.Unroll.{goalOf, sequentOf}
+use Rattle.steps.specs.Unroll.{goalOf, labelledOf}
 use Rattle.steps.proofs.Sound.{derived}
 use Rattle.steps.proofs.Complete.{spelled}
 use Rattle.steps.proofs.Runs.{closed}
-use Rattle.steps.proofs.Tables.{Table}
+use Rattle.steps.proofs.LabelTables.{Table}
 use Rattle.steps.proofs.Checker.{exact}
 use Rattle.steps.proofs.Finish.{passed-spells, spells-passed, stopped-refused, refused-stopped}
-use Rattle.steps.proofs.Holds.{begins-fits}
+use Rattle.steps.proofs.HoldLabels.{begins-fits}
 
 pub spelt : Spelt
 spelt ss ls after q s fits w =
@@ -30,7 +30,7 @@ spelt ss ls after q s fits w =
 
 pub complete : Complete
 complete ls r d known-r known-d R D g x mn sub m room =
-    let fits : Fits ls (sequent r d g) = record { unrestricted = known-r; linear = known-d; room = omega arith } in
+    let fits : Fits ls (labelledBy r d g) = record { unrestricted = known-r; linear = known-d; room = omega arith } in
     let c = spelled x mn ls r d fits sub m room in
     (c .steps, c .letters, c .writable, c .after, c .spells)
 
@@ -57,7 +57,7 @@ module _ {T : Type 0} {held : T → ℕ → Hypothesis} {put : T → ℕ → Hyp
       let q = asked r d g in
       let fits = begins-fits u table begins room (goalOf u g) in
       let s = exactly row formula u t n ls q (begins .shows) fits ss .passes .0 p in
-      let w = spelt ss ls (s .0) (sequentOf u q) (s .1) fits writable in
+      let w = spelt ss ls (s .0) (labelledOf u q) (s .1) fits writable in
       (Derives.same (perm-sym (begins .unrestricted)) (perm-sym (begins .linear)) (w .0), w .1, w .2, w .3)
 
   pub passing : Passing (table .Good) held put
@@ -66,5 +66,5 @@ module _ {T : Type 0} {held : T → ℕ → Hypothesis} {put : T → ℕ → Hyp
       let fits = begins-fits u table begins (omega arith) (goalOf u g) in
       let c = complete ls r d (begins .unrestricted-known) (begins .linear-known) R D (goalOf u g) x mn
       (perm-in (begins .unrestricted)) (begins .linear) room in
-      let s = subst (λ (l : List Step). Spells l ls (sequentOf u q) [] (c .3)) (append-nil (c .0)) (c .4 []) in
+      let s = subst (λ (l : List Step). Spells l ls (labelledOf u q) [] (c .3)) (append-nil (c .0)) (c .4 []) in
       (c .0, c .1, c .2, exactly row formula u t n ls q (begins .shows) fits (c .0) .passes .1 (c .3, s))

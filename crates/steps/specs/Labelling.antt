@@ -20,8 +20,8 @@ use Rattle.steps.specs.Unroll.{Unrolls, hypOf}
 abbrev pub hyps : Labels → ℕ → List Hyp
 hyps ls d = pick (named ls) maxLabels d
 
-abbrev pub sequent : ℕ → ℕ → Judgment → Labelled
-sequent r d g = record { unrestricted = r; linear = d; goal = g }
+abbrev pub labelledBy : ℕ → ℕ → Judgment → Labelled
+labelledBy r d g = record { unrestricted = r; linear = d; goal = g }
 
 -- the sets of a sequent have only labels that are taken, and there are not too many of these
 pub record Fits (ls : Labels) (q : Labelled) : Type 0 where

@@ -2,7 +2,7 @@ pub mod Plans
 pub mod Check
 pub mod Rule
 pub mod Spells
-pub mod Letters
+pub mod StepLetters
 pub mod Limits
 pub mod Unroll
 pub mod Labelling

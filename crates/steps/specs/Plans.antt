@@ -5,7 +5,7 @@ use Prim.Native.Nat.{ℕ}
 use Prim.Native.Char.{Char, code}
 use lib.Dec.{eqb}
 use Rattle.logic.specs.declared.Interval.{Interval}
-use Rattle.logic.specs.Interval.{span, contains}
+use Rattle.logic.specs.Interval.{contains}
 use Rattle.request.specs.Request.{Step}
 use Rattle.labels.specs.Labels.{member, subset, isEmpty, isJust, remove, without}
 use Rattle.steps.specs.declared.Row.{Row}
@@ -19,9 +19,9 @@ use Rattle.steps.specs.declared.Plan.{Plan}
 use Rattle.steps.specs.declared.Plan.the-variants.{Refused, Closed, One, Two}
 
 -- the formula of a number at an interval
-infix 90 _at_
-abbrev pub _at_ : ℕ → Interval → Hypothesis
-n at i = record { formula = n; interval = i }
+infix 90 _over_
+abbrev pub _over_ : ℕ → Interval → Hypothesis
+n over i = record { formula = n; interval = i }
 
 -- a premise with the linear labels d, the goal g and what takes new labels
 abbrev pub premise : ℕ → Goal → Fresh → Premise
@@ -71,7 +71,7 @@ module _ (row : ℕ → Row) (label : ℕ → Hypothesis) (R D : ℕ) (g : Goal)
       right g "t" (λ x i. when (subset s D)
       (Two (premise s (Holds (x .a) i) Nothing) (premise (without D s) (Holds (x .b) i) Nothing)))
   -- "both parts"
-  planOf (Step.tl l) = left l "t" (λ i x. One (premise (remove D l) g (Both ((x .a) at i) ((x .b) at i))))
+  planOf (Step.tl l) = left l "t" (λ i x. One (premise (remove D l) g (Both ((x .a) over i) ((x .b) over i))))
   -- "1, D empty; closes."
   planOf Step.or = right g "o" (λ x i. when (isEmpty D) Closed)
   -- "drops L, a 1."
@@ -80,33 +80,33 @@ module _ (row : ℕ → Row) (label : ℕ → Hypothesis) (R D : ℕ) (g : Goal)
   planOf Step.wr =
       right g "w" (λ x i. Two (premise D (Holds (x .a) i) Nothing) (premise D (Holds (x .b) i) Nothing))
   -- "that arm"
-  planOf (Step.w1 l) = left l "w" (λ i x. One (premise (remove D l) g (Linear ((x .a) at i))))
-  planOf (Step.w2 l) = left l "w" (λ i x. One (premise (remove D l) g (Linear ((x .b) at i))))
+  planOf (Step.w1 l) = left l "w" (λ i x. One (premise (remove D l) g (Linear ((x .a) over i))))
+  planOf (Step.w2 l) = left l "w" (λ i x. One (premise (remove D l) g (Linear ((x .b) over i))))
   -- "⊕, that arm."
   planOf Step.p1 = right g "p" (λ x i. One (premise D (Holds (x .a) i) Nothing))
   planOf Step.p2 = right g "p" (λ x i. One (premise D (Holds (x .b) i) Nothing))
   -- "a premise for each arm"
   planOf (Step.pl l) =
       left l "p" (λ i x.
-      Two (premise (remove D l) g (Linear ((x .a) at i))) (premise (remove D l) g (Linear ((x .b) at i))))
+      Two (premise (remove D l) g (Linear ((x .a) over i))) (premise (remove D l) g (Linear ((x .b) over i))))
   -- "A ⊸ B; L's window ⊇ J = from..to; A at J from the share, which must not have L; then the goal from the rest with
   -- B at J for L."
   planOf (Step.ll l s j) =
       left l "l" (λ i x. when (contains i j && subset s (remove D l))
-      (Two (premise s (Holds (x .a) j) Nothing) (premise (without (remove D l) s) g (Linear ((x .b) at j)))))
+      (Two (premise s (Holds (x .a) j) Nothing) (premise (without (remove D l) s) g (Linear ((x .b) over j)))))
   -- "A ⊃ B; the same, but A from an empty D."
   planOf (Step.ul l j) =
       left l "u" (λ i x. when (contains i j)
-      (Two (premise 0 (Holds (x .a) j) Nothing) (premise (remove D l) g (Linear ((x .b) at j)))))
+      (Two (premise 0 (Holds (x .a) j) Nothing) (premise (remove D l) g (Linear ((x .b) over j)))))
   -- "!, D empty, then the part."
   planOf Step.br = right g "b" (λ x i. when (isEmpty D) (One (premise D (Holds (x .a) i) Nothing)))
   -- "the part joins R"
-  planOf (Step.bl l) = left l "b" (λ i x. One (premise (remove D l) g (Unrestricted ((x .a) at i))))
+  planOf (Step.bl l) = left l "b" (λ i x. One (premise (remove D l) g (Unrestricted ((x .a) over i))))
   -- "A@J becomes A at J."
-  planOf Step.hr = right g "h" (λ x i. One (premise D (Holds (x .a) (span (x .b) (x .c))) Nothing))
+  planOf Step.hr = right g "h" (λ x i. One (premise D (Holds (x .a) (x .first)) Nothing))
   -- "likewise for L"
   planOf (Step.hl l) =
-      left l "h" (λ i x. One (premise (remove D l) g (Linear ((x .a) at (span (x .b) (x .c))))))
+      left l "h" (λ i x. One (premise (remove D l) g (Linear ((x .a) over (x .first)))))
   -- "⟨K⟩A becomes K affirms A."
   planOf Step.sr = right g "s" (λ x i. One (premise D (Affirms (x .b) i (x .a)) Nothing))
   -- "K affirms A becomes A."
@@ -114,7 +114,7 @@ module _ (row : ℕ → Row) (label : ℕ → Hypothesis) (R D : ℕ) (g : Goal)
   -- "L is ⟨K⟩A and the goal K affirms B, same K; L's window ⊇ goal's."
   planOf (Step.sl l) =
       affirmed g (λ k n j. left l "s" (λ i x. when (eqb (x .a) k && contains i j)
-      (One (premise (remove D l) g (Linear ((x .b) at i))))))
+      (One (premise (remove D l) g (Linear ((x .b) over i))))))
   -- "⊇ that holds, D empty; closes."
   planOf Step.gr =
-      right g "g" (λ x i. when (isEmpty D && contains (span (x .a) (x .b)) (span (x .c) (x .d))) Closed)
+      right g "g" (λ x i. when (isEmpty D && contains (x .first) (x .second)) Closed)

@@ -2,7 +2,7 @@
 use mathlib.Core.List.{List, [], _∷_, _++_}
 use Prim.Native.Nat.{ℕ, _+_, _-_, _≤_, _<_}
 use lib.ListN.{length, getD}
-use Rattle.logic.specs.Interval.{span}
+use Rattle.logic.specs.Interval.{noInterval}
 use Rattle.logic.specs.Formula.{one}
 use Rattle.logic.specs.Derives.{Hyp, _⟦_⟧, Judgment}
 use Rattle.request.specs.Request.{Step}
@@ -16,7 +16,7 @@ abbrev pub Labels : Type 0
 Labels = List Hyp
 
 abbrev pub noHyp : Hyp
-noHyp = one ⟦ span 0 0 ⟧
+noHyp = one ⟦ noInterval ⟧
 
 abbrev pub named : Labels → ℕ → Hyp
 named ls k = getD ls k noHyp

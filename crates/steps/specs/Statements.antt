@@ -16,10 +16,10 @@ use Rattle.steps.specs.declared.Goal.{Goal}
 use Rattle.steps.specs.declared.Sequent.{Sequent}
 use Rattle.steps.specs.Check.{maxLabels, done, stopped, checkOf}
 use Rattle.steps.specs.Spells.{Labels, Labelled, Spells, Refused}
-use Rattle.steps.specs.Letters.{lettersOf}
+use Rattle.steps.specs.StepLetters.{lettersOf}
 use Rattle.steps.specs.Limits.{Minutes, Writable}
-use Rattle.steps.specs.Unroll.{Unrolls, goalOf, sequentOf}
-use Rattle.steps.specs.Labelling.{hyps, sequent, Fits, Shows, Begins}
+use Rattle.steps.specs.Unroll.{Unrolls, goalOf, labelledOf}
+use Rattle.steps.specs.Labelling.{hyps, labelledBy, Fits, Shows, Begins}
 
 -- a derivation by the rules that the lines name, with n labels taken before and labels enough
 abbrev pub DerivedBy : List Step → ℕ → List Hyp → List Hyp → Judgment → Type 0
@@ -38,7 +38,7 @@ Complete = (ls : Labels) (r d : ℕ) → r < 2 ^ length ls → d < 2 ^ length ls
     → (R D : List Hyp) (g : Judgment) (x : Derives R D g) → Minutes x → Within R (hyps ls r) → Perm D (hyps ls d)
     → length ls + taken x ≤ maxLabels
     → (ss : List Step) × (lettersOf ss ≡ letters x) × Every Writable ss × (after : Labels)
-    × ((rest : List Step) → Spells (ss ++ rest) ls (sequent r d g) rest after)
+    × ((rest : List Step) → Spells (ss ++ rest) ls (labelledBy r d g) rest after)
 
 abbrev pub asked : ℕ → ℕ → Goal → Sequent
 asked r d g = record { unrestricted = r; linear = d; goal = g }
@@ -53,15 +53,15 @@ module _ {T : Type 0} (held : T → ℕ → Hypothesis) (put : T → ℕ → Hyp
   -- that refusal and step
   pub record ExactlyAt {row : ℕ → Row} {formula : ℕ → Formula} (u : Unrolls row formula) (t : T) (next : ℕ)
       (ls : Labels) (q : Sequent) (ss : List Step) : Type 0 where
-    pub passes : Passes row t next q ss ↔ ((after : Labels) × Spells ss ls (sequentOf u q) [] after)
+    pub passes : Passes row t next q ss ↔ ((after : Labels) × Spells ss ls (labelledOf u q) [] after)
     pub refused : (c m : ℕ) → (checkOf row held put (length ss) ss t next q ≡ stopped c m)
-        ↔ Refused (length ss) ss ls (sequentOf u q) c m
+        ↔ Refused (length ss) ss ls (labelledOf u q) c m
 
 module _ {T : Type 0} (Good : T → Type 0) (held : T → ℕ → Hypothesis) (put : T → ℕ → Hypothesis → T) where
   -- This is so at labels that the table shows, and a sequent whose sets have only these.
   abbrev pub Exactly : Type 0
   Exactly = (row : ℕ → Row) (formula : ℕ → Formula) (u : Unrolls row formula) (t : T) (next : ℕ) (ls : Labels)
-      (q : Sequent) → Shows u Good held t next ls → Fits ls (sequentOf u q) → (ss : List Step)
+      (q : Sequent) → Shows u Good held t next ls → Fits ls (labelledOf u q) → (ss : List Step)
       → ExactlyAt held put u t next ls q ss
 
   -- From the hypotheses that a booking holds: what passes is a derivation, by the rules of its lines,

@@ -4,7 +4,6 @@ use Prim.Native.Nat.{ℕ}
 use Prim.Native.Char.{code}
 use lib.Dec.{eqb}
 use Rattle.logic.specs.Choice.{pick}
-use Rattle.logic.specs.Interval.{span}
 use Rattle.logic.specs.Formula.{Formula, atom, one, tensor, with, plus, lolli, implies, bang, at, says, superset}
 use Rattle.logic.specs.Derives.{Hyp, _⟦_⟧, Judgment, holds, affirms}
 use Rattle.steps.specs.declared.Row.{Row}
@@ -38,9 +37,9 @@ made f c x =
     (pick (eqb c (code "l")) (lolli (f (x .a)) (f (x .b)))
     (pick (eqb c (code "u")) (implies (f (x .a)) (f (x .b)))
     (pick (eqb c (code "b")) (bang (f (x .a)))
-    (pick (eqb c (code "h")) (at (f (x .a)) (span (x .b) (x .c)))
+    (pick (eqb c (code "h")) (at (f (x .a)) (x .first))
     (pick (eqb c (code "s")) (says (x .a) (f (x .b)))
-    (pick (eqb c (code "g")) (superset (span (x .a) (x .b)) (span (x .c) (x .d)))
+    (pick (eqb c (code "g")) (superset (x .first) (x .second))
     one)))))))))
 
 -- f unrolls the rows: every number's letter and parts are its row's
@@ -56,5 +55,5 @@ module _ {row : ℕ → Row} {f : ℕ → Formula} (u : Unrolls row f) where
   goalOf (Holds n i) = holds (f n) i
   goalOf (Affirms n i k) = affirms k (f n) i
 
-  abbrev pub sequentOf : Sequent → Labelled
-  sequentOf q = record { unrestricted = q .unrestricted; linear = q .linear; goal = goalOf (q .goal) }
+  abbrev pub labelledOf : Sequent → Labelled
+  labelledOf q = record { unrestricted = q .unrestricted; linear = q .linear; goal = goalOf (q .goal) }

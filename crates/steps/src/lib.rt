@@ -2,13 +2,13 @@
 // share, src/letters.rt the letters of formula lines; specs/ has the definitions.
 pub mod letters;
 
-// A formula's line as a row of numbers: the letter's byte and its fields, 0 where it has none.
+// A formula's line as a row: the letter's byte and its fields, numbers and intervals; 0, and 0 to 0, where it has none.
 pub struct Row {
     pub letter: u32,
     pub a: u32,
     pub b: u32,
-    pub c: u32,
-    pub d: u32,
+    pub first: logic::Interval,
+    pub second: logic::Interval,
 }
 
 // A formula, by its number, at an interval: what a label stands for.

@@ -1,5 +1,5 @@
 pub mod Tabs
 pub mod Search
-pub mod Lines
+pub mod LinesOfRows
 pub mod Views
 pub mod Live

@@ -15,11 +15,11 @@ use Rattle.ledger.specs.Ledger.{Ledger, empty, consSome}
 use Rattle.ledger.specs.Bounds.{Bounded}
 use Rattle.ledger.proofs.Bounds.{empty-bounded}
 use Rattle.store.specs.Tab.{tab, present}
-use Rattle.cells.specs.Layout.{cells, lineCount, liveCount, nextSerial, rowCount, credentialAt, gapAt, entryAt}
-use Rattle.store.specs.Store.{ledgerOf, Ordered, StandsFor}
+use Rattle.store_cells.specs.Layout.{cells, lineCount, liveCount, nextSerial, rowCount, credentialAt, gapAt, entryAt}
+use Rattle.store.specs.Store.{ledgerOf, RowsOrdered, StandsFor}
 use Rattle.store.proofs.Tabs.{tab-ext, present-sum}
-use Rattle.cells.proofs.Rows.{stays-entry, stays-credential, stays-serial, SameLive}
-use Rattle.credential_cells.proofs.Rows.{gap-kind}
+use Rattle.store_cells.proofs.CellWrites.{stays-entry, stays-credential, stays-serial, SameLive}
+use Rattle.store_cells.proofs.CredentialRows.{gap-kind}
 
 -- The empty ledger.
 pub empty-stands : (l : List ℕ) → length l ≡ cells → lineCount l ≡ 0 → liveCount l ≡ 0 → nextSerial l ≡ 1
@@ -48,7 +48,7 @@ empty-stands l h a b c d =
     }
 
 -- The rows of another store that has the same ones.
-module _ (l m : List ℕ) (s : SameLive l m) (o : Ordered l) where
+module _ (l m : List ℕ) (s : SameLive l m) (o : RowsOrdered l) where
   pub same-live : ledgerOf m .live ≡ ledgerOf l .live
   unfolding ledgerOf
   same-live =
@@ -62,7 +62,7 @@ module _ (l m : List ℕ) (s : SameLive l m) (o : Ordered l) where
   same-of i q =
       ap (λ (c : Credential). c .formula) (stays-credential l m i (s .rows i (omega (arith, s .used, o .few))))
 
-  pub same-ordered : lineCount l ≤ lineCount m → Ordered m
+  pub same-ordered : lineCount l ≤ lineCount m → RowsOrdered m
   same-ordered a = record {
     few = omega (arith, s .used, o .few);
     counted = s .count ∙ o .counted ∙ ap length (sym same-live);

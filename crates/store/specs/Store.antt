@@ -8,7 +8,6 @@ use Prim.Native.Nat.{ℕ, _≤_, _<_}
 use Prim.Native.Char.{code}
 use lib.Dec.{eqb}
 use lib.ListN.{length}
-use Rattle.logic.specs.Interval.{span}
 use Rattle.logic.specs.Formula.{size, plain, bit}
 use Rattle.logic.specs.Counts.{balanced}
 use Rattle.request.specs.Range.{serial}
@@ -20,8 +19,8 @@ use Rattle.ledger.specs.Checks.{maxSize, maxFormulas, maxLive}
 use Rattle.ledger.specs.Bounds.{There, Bounded}
 use Rattle.logic.specs.Choice.{pick}
 use Rattle.store.specs.Tab.{tab, present}
-use Rattle.cells.specs.Layout.{cells, maxRows, lineCount, liveCount, nextSerial, rowCount, rowAt, sizeAt, plainAt}
-use Rattle.cells.specs.Layout.{balancedAt, credentialAt, entryAt}
+use Rattle.store_cells.specs.Layout.{cells, maxRows, lineCount, liveCount, nextSerial, rowCount, rowAt, sizeAt, plainAt}
+use Rattle.store_cells.specs.Layout.{balancedAt, credentialAt, entryAt}
 
 -- the line of a row, by its letter; 1 for any other letter
 unfoldable pub lineOf : Row → Line
@@ -33,9 +32,9 @@ lineOf r =
     (pick (eqb (r .letter) (code "l")) (Line.lolli (r .a) (r .b))
     (pick (eqb (r .letter) (code "u")) (Line.implies (r .a) (r .b))
     (pick (eqb (r .letter) (code "b")) (Line.bang (r .a))
-    (pick (eqb (r .letter) (code "h")) (Line.at (r .a) (span (r .b) (r .c)))
+    (pick (eqb (r .letter) (code "h")) (Line.at (r .a) (r .first))
     (pick (eqb (r .letter) (code "s")) (Line.says (r .a) (r .b))
-    (pick (eqb (r .letter) (code "g")) (Line.superset (span (r .a) (r .b)) (span (r .c) (r .d)))
+    (pick (eqb (r .letter) (code "g")) (Line.superset (r .first) (r .second))
     Line.one)))))))))
 
 unfoldable pub ledgerOf : List ℕ → Ledger
@@ -51,7 +50,7 @@ Canonical r = rowOf (lineOf r) ≡ r
 
 -- The credential rows in use, gaps too: serials rise from row to row and are below the next, and each row is of a
 -- formula of the ledger; the live ones are counted.
-pub record Ordered (l : List ℕ) : Type 0 where
+pub record RowsOrdered (l : List ℕ) : Type 0 where
   pub few : rowCount l ≤ maxRows
   pub counted : liveCount l ≡ length (ledgerOf l .live)
   pub between : (i j : ℕ) → i < j → j < rowCount l → credentialAt l i .serial < credentialAt l j .serial
@@ -63,7 +62,7 @@ pub record Ordered (l : List ℕ) : Type 0 where
 pub record Good (l : List ℕ) : Type 0 where
   pub long : length l ≡ cells
   pub lines : lineCount l ≤ maxFormulas
-  pub ordered : Ordered l
+  pub ordered : RowsOrdered l
   pub canonical : (i : ℕ) → i < lineCount l → Canonical (rowAt l i)
   pub sizes : (i : ℕ) → i < lineCount l → sizeAt l i ≡ size (formula (ledgerOf l) i)
   pub plains : (i : ℕ) → i < lineCount l → plainAt l i ≡ bit (plain (formula (ledgerOf l) i))
@@ -83,7 +82,7 @@ pub record Wordable (l : List ℕ) (r : Row) (s : ℕ) (p b : Bool) : Type 0 whe
   pub canonical : Canonical r
   pub there : There (ledgerOf l) (names (lineOf r))
   pub sized : s ≡ size (form (formula (ledgerOf l)) (lineOf r))
-  pub plainly : p ≡ plain (form (formula (ledgerOf l)) (lineOf r))
+  pub plain-kept : p ≡ plain (form (formula (ledgerOf l)) (lineOf r))
   pub balancedly : b ≡ balanced (form (formula (ledgerOf l)) (lineOf r))
   pub small : s ≤ maxSize
 

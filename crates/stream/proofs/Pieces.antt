@@ -10,14 +10,14 @@ use lib.Seq.{take-all, take-suc, take-take, take-add, length-take-le}
 use Rattle.ledger.specs.Ledger.{empty}
 use Rattle.store.specs.Store.{ledgerOf}
 use Rattle.ledger.specs.Calls.{Reply, told, call, after, answers}
-use Rattle.print.specs.Printed.{line, printed, longest, Room}
-use Rattle.print.proofs.Writing.{wrote-as}
+use Rattle.stream_print.specs.Printed.{line, printed, longest, Room}
+use Rattle.stream_print.proofs.Writing.{wrote-as}
 use Rattle.stream.specs.declared.Place.{Place}
 use Rattle.stream.specs.declared.Taken.{Taken}
-use Rattle.sheets.specs.Sheets.{split, oneMore, most}
-use Rattle.sheets.specs.Ends.{EndsAt, NoEnd}
-use Rattle.sheets.specs.Keeping.{Kept}
-use Rattle.sheets.proofs.Splits.{cut}
+use Rattle.stream_sheets.specs.Sheets.{split, oneMore, most}
+use Rattle.stream_sheets.specs.Ends.{EndsAt, NoEnd}
+use Rattle.stream_sheets.specs.Keeping.{Kept}
+use Rattle.stream_sheets.proofs.Splits.{cut}
 use Rattle.stream.specs.Stream.{Said, Ready, Stands, Took, TookSome, Ended}
 use Rattle.stream.proofs.Streams.{stands-kept, stands-ended, said-text}
 
@@ -45,27 +45,28 @@ said-kept {l} {k} {x} {h = h} m s = said-as (ap (call (ledgerOf l)) (m .bytes) �
 -- The first bytes of a piece
 
 module _ {l k o : List ℕ} {p : Place} (x : List ℕ) (d : Ready l k o p (length x)) (some : 0 < length x) where
-  pub took-open : {k′ : List ℕ} {h : ℕ} {f : Bool} → NoEnd x (p .fresh) f → Kept k (p .held) x k′ h
-      → TookSome l k o p x l k′ o (record { place = record { held = h; fresh = f; text = p .text }; bytes = length x })
+  pub took-open : {k′ : List ℕ} {h : ℕ} {f : Bool} → NoEnd x (p .fresh) f → Kept k (p .filled) x k′ h
+      → TookSome l k o p x l k′ o
+      (record { place = record { filled = h; fresh = f; text = p .text }; bytes = length x })
   took-open {k′} {h} {f} n m = record {
     some = some;
     inside = omega arith;
     took = subst
-        (λ (z : List ℕ). Took l k o p z l k′ o (record { held = h; fresh = f; text = p .text }))
+        (λ (z : List ℕ). Took l k o p z l k′ o (record { filled = h; fresh = f; text = p .text }))
         (sym (take-all (length x) x (omega arith)))
         (record {
-          ready = record { good = d .good; begun = m .long; held = m .few; text = omega (arith, d .text) };
+          ready = record { good = d .good; begun = m .long; filled = m .few; text = omega (arith, d .text) };
           short = omega arith;
           stands = λ w b s.
               subst
-              (λ (g : Bool). Stands w l k′ o (record { held = h; fresh = g; text = p .text }) (b ++ x))
+              (λ (g : Bool). Stands w l k′ o (record { filled = h; fresh = g; text = p .text }) (b ++ x))
               (sym (n .lines)) (stands-kept s x (n .none) m);
         });
   }
 
   pub took-ended : {k′ l′ o′ : List ℕ} {e r : ℕ} → length k′ ≡ most → EndsAt x (p .fresh) e
-      → Said l (take (p .held) k ++ take e x) o (p .text) l′ o′ r
-      → TookSome l k o p x l′ k′ o′ (record { place = record { held = 0; fresh = true; text = r }; bytes = e + 1 })
+      → Said l (take (p .filled) k ++ take e x) o (p .text) l′ o′ r
+      → TookSome l k o p x l′ k′ o′ (record { place = record { filled = 0; fresh = true; text = r }; bytes = e + 1 })
   took-ended {k′} {l′} {o′} {e} {r} q n m = record {
     some = omega arith;
     inside = omega (arith, n .inside);
@@ -73,13 +74,13 @@ module _ {l k o : List ℕ} {p : Place} (x : List ℕ) (d : Ready l k o p (lengt
       ready = record {
         good = m .good;
         begun = q;
-        held = omega arith;
+        filled = omega arith;
         text = omega (arith, d .text, m .short, m .wrote .long);
       };
       short = omega (arith, m .short, length-take-le (e + 1) x (omega (arith, n .inside)));
       stands = λ w b s.
           subst
-          (λ (z : List ℕ). Stands w l′ k′ o′ (record { held = 0; fresh = true; text = r }) (b ++ z))
+          (λ (z : List ℕ). Stands w l′ k′ o′ (record { filled = 0; fresh = true; text = r }) (b ++ z))
           (ap (λ (y : ℕ). take e x ++ (y ∷ [])) (sym (n .ten)) ∙ sym (rw (add-one, take-suc x e 0 (n .inside))))
           (stands-ended s (take e x) m (n .none) (n .lines));
     };
@@ -89,7 +90,7 @@ module _ {l k o : List ℕ} {p : Place} (x : List ℕ) (d : Ready l k o p (lengt
 
 pub ready-for : {l k o : List ℕ} {p : Place} (m n : ℕ) → Ready l k o p m → Room o (p .text) (longest * n)
     → Ready l k o p n
-ready-for m n d h = record { good = d .good; begun = d .begun; held = d .held; text = h }
+ready-for m n d h = record { good = d .good; begun = d .begun; filled = d .filled; text = h }
 
 pub took-none : {l k o : List ℕ} {p : Place} {n : ℕ} → Ready l k o p n → Took l k o p [] l k o p
 took-none {l} {k} {o} {p} {n} d = record {
@@ -138,7 +139,7 @@ some-begun [] f = absurd (f refl)
 some-begun (x ∷ b) f = refl
 
 module _ {l k o : List ℕ} {p : Place} (d : Ready l k o p 1) where
-  pub ended-none : p .held ≡ 0 → Ended l k o p o (p .text)
+  pub ended-none : p .filled ≡ 0 → Ended l k o p o (p .text)
   ended-none e = record {
     text = omega (arith, d .text);
     whole = λ w b s.
@@ -148,14 +149,14 @@ module _ {l k o : List ℕ} {p : Place} (d : Ready l k o p 1) where
         ∙ ap (λ (z : List (List ℕ)). split b .ended ++ z) (sym (nothing-begun (split b .begun) q)));
   }
 
-  pub ended-one : {l′ o′ : List ℕ} {r : ℕ} → (p .held ≡ 0 → ⊥) → Said l (take (p .held) k) o (p .text) l′ o′ r
+  pub ended-one : {l′ o′ : List ℕ} {r : ℕ} → (p .filled ≡ 0 → ⊥) → Said l (take (p .filled) k) o (p .text) l′ o′ r
       → Ended l k o p o′ r
   ended-one f m = record {
     text = omega (arith, d .text, m .short, m .wrote .long);
     whole = λ w b s.
-        let n = length-take-le (p .held) k (omega (arith, d .held, d .begun)) in
+        let n = length-take-le (p .filled) k (omega (arith, d .filled, d .begun)) in
         let q = some-begun (split b .begun) (λ z. f (sym n ∙ ap length (s .begun ∙ z))) in
-        said-text s [] (said-as (ap (call (ledgerOf l)) (sym (append-nil (take (p .held) k)))) m)
+        said-text s [] (said-as (ap (call (ledgerOf l)) (sym (append-nil (take (p .filled) k)))) m)
         ∙ ap (λ (z : List ℕ). printed (answers empty (split b .ended ++ (z ∷ [])))) (append-nil (split b .begun))
         ∙ ap (λ (z : List (List ℕ)). printed (answers empty (split b .ended ++ z))) (sym q);
   }

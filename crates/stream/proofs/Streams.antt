@@ -8,10 +8,10 @@ use Rattle.ledger.specs.declared.Answer.{Answer}
 use Rattle.ledger.specs.Ledger.{Ledger, empty}
 use Rattle.ledger.specs.Calls.{Reply, told, call, after, answers}
 use Rattle.store.specs.Store.{ledgerOf}
-use Rattle.print.specs.Printed.{line, printed}
-use Rattle.sheets.specs.Sheets.{Split, start, splitFrom, split, emptyLine, lineBegins, most}
-use Rattle.sheets.specs.Keeping.{Kept}
-use Rattle.sheets.proofs.Splits.{split-append, cut, keep-cut, run, closes}
+use Rattle.stream_print.specs.Printed.{line, printed}
+use Rattle.stream_sheets.specs.Sheets.{Split, start, splitFrom, split, emptyLine, lineBegins, most}
+use Rattle.stream_sheets.specs.Keeping.{Kept}
+use Rattle.stream_sheets.proofs.Splits.{split-append, cut, keep-cut, run, closes}
 use Rattle.stream.specs.declared.Place.{Place}
 use Rattle.stream.specs.Stream.{Said, Stands}
 
@@ -38,8 +38,8 @@ cut-front : (t : Ledger) (b x : List ℕ) → call t (take most b ++ x) ≡ call
 cut-front t b x = sym (cut t (take most b ++ x)) ∙ ap (call t) (keep-cut b x) ∙ cut t (b ++ x)
 
 module _ {w l k o : List ℕ} {p : Place} {b : List ℕ} (s : Stands w l k o p b) (x : List ℕ) where
-  pub stands-kept : {k′ : List ℕ} {h : ℕ} → emptyLine (p .fresh) x ≡ false → Kept k (p .held) x k′ h
-      → Stands w l k′ o (record { held = h; fresh = lineBegins (p .fresh) x; text = p .text }) (b ++ x)
+  pub stands-kept : {k′ : List ℕ} {h : ℕ} → emptyLine (p .fresh) x ≡ false → Kept k (p .filled) x k′ h
+      → Stands w l k′ o (record { filled = h; fresh = lineBegins (p .fresh) x; text = p .text }) (b ++ x)
   stands-kept e m =
       let f = ap (λ (z : Bool). emptyLine z x) (sym (s .fresh)) ∙ e in
       let q = split-append start b x ∙ run (split b .ended) (split b .begun) (split b .fresh) x f in
@@ -53,13 +53,13 @@ module _ {w l k o : List ℕ} {p : Place} {b : List ℕ} (s : Stands w l k o p b
       }
 
   -- the answer to what is held with the bytes x is the answer to the sheet that has begun with them
-  same-call : call (ledgerOf l) (take (p .held) k ++ x) ≡ call (after empty (split b .ended)) (split b .begun ++ x)
+  same-call : call (ledgerOf l) (take (p .filled) k ++ x) ≡ call (after empty (split b .ended)) (split b .begun ++ x)
   same-call =
-      ap (λ (t : Ledger). call t (take (p .held) k ++ x)) (s .ledger)
+      ap (λ (t : Ledger). call t (take (p .filled) k ++ x)) (s .ledger)
       ∙ ap (λ (z : List ℕ). call (after empty (split b .ended)) (z ++ x)) (s .begun)
       ∙ cut-front (after empty (split b .ended)) (split b .begun) x
 
-  module _ {l′ o′ : List ℕ} {r : ℕ} (m : Said l (take (p .held) k ++ x) o (p .text) l′ o′ r) where
+  module _ {l′ o′ : List ℕ} {r : ℕ} (m : Said l (take (p .filled) k ++ x) o (p .text) l′ o′ r) where
     said-ledger : ledgerOf l′ ≡ after empty (split b .ended ++ ((split b .begun ++ x) ∷ []))
     said-ledger =
         m .ledger ∙ ap (λ (d : Reply). d .ledger) same-call
@@ -70,13 +70,13 @@ module _ {w l k o : List ℕ} {p : Place} {b : List ℕ} (s : Stands w l k o p b
         let a = call (after empty (split b .ended)) (split b .begun ++ x) .answer in
         ap (λ (z : List ℕ). w ++ z) (m .wrote .text)
         ∙ sym (append-assoc w (take (p .text) o) _)
-        ∙ ap (λ (z : List ℕ). z ++ line (told (call (ledgerOf l) (take (p .held) k ++ x) .answer))) (s .text)
+        ∙ ap (λ (z : List ℕ). z ++ line (told (call (ledgerOf l) (take (p .filled) k ++ x) .answer))) (s .text)
         ∙ ap (λ (d : Reply). printed (answers empty (split b .ended)) ++ line (told (d .answer))) same-call
         ∙ sym (printed-snoc (answers empty (split b .ended)) a)
         ∙ ap printed (sym (answers-snoc empty (split b .ended) (split b .begun ++ x)))
 
     pub stands-ended : {k′ : List ℕ} → emptyLine (p .fresh) x ≡ false → lineBegins (p .fresh) x ≡ true
-        → Stands w l′ k′ o′ (record { held = 0; fresh = true; text = r }) (b ++ (x ++ (10 ∷ [])))
+        → Stands w l′ k′ o′ (record { filled = 0; fresh = true; text = r }) (b ++ (x ++ (10 ∷ [])))
     unfolding splitFrom
     stands-ended e f =
         let q =

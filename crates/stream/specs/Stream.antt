@@ -9,8 +9,8 @@ use Rattle.store.specs.Store.{ledgerOf, Good}
 use Rattle.ledger.specs.Calls.{told, call, after, answers}
 use Rattle.stream.specs.declared.Place.{Place}
 use Rattle.stream.specs.declared.Taken.{Taken}
-use Rattle.sheets.specs.Sheets.{most, split, sheetsOf}
-use Rattle.print.specs.Printed.{line, printed, longest, Room, Wrote}
+use Rattle.stream_sheets.specs.Sheets.{most, split, sheetsOf}
+use Rattle.stream_print.specs.Printed.{line, printed, longest, Room, Wrote}
 
 -- the sheet b answered, and its line put after the first `at` bytes of o
 pub record Said (l b o : List ℕ) (at : ℕ) (l′ o′ : List ℕ) (r : ℕ) : Type 0 where
@@ -23,13 +23,13 @@ pub record Said (l b o : List ℕ) (at : ℕ) (l′ o′ : List ℕ) (r : ℕ) :
 pub record Ready (l k o : List ℕ) (p : Place) (n : ℕ) : Type 0 where
   pub good : Good l
   pub begun : length k ≡ most
-  pub held : p .held ≤ most
+  pub filled : p .filled ≤ most
   pub text : Room o (p .text) (longest * n)
 
 -- the bytes b have been read and the bytes w written
 pub record Stands (w l k o : List ℕ) (p : Place) (b : List ℕ) : Type 0 where
   pub ledger : ledgerOf l ≡ after empty (split b .ended)
-  pub begun : take (p .held) k ≡ take most (split b .begun)
+  pub begun : take (p .filled) k ≡ take most (split b .begun)
   pub fresh : p .fresh ≡ split b .fresh
   pub text : w ++ take (p .text) o ≡ printed (answers empty (split b .ended))
 

@@ -12,23 +12,23 @@ use lib.Seq.{length-take-le}
 use Rattle.ledger.specs.Ledger.{empty}
 use Rattle.ledger.specs.Calls.{after, answers}
 use Rattle.store.specs.Store.{StandsFor}
-use Rattle.print.specs.Printed.{printed, longest}
-use Rattle.sheets.specs.Sheets.{splitFrom, most}
+use Rattle.stream_print.specs.Printed.{printed, longest}
+use Rattle.stream_sheets.specs.Sheets.{splitFrom, most}
 use Rattle.stream.specs.declared.Place.{Place}
 use Rattle.stream.specs.Stream.{Stands, Took, Ended}
-use Rattle.console.specs.declared.Input.{Input}
-use Rattle.console.specs.declared.Output.{Output}
+use Rattle.stream_console.specs.declared.Input.{Input}
+use Rattle.stream_console.specs.declared.Output.{Output}
 use Rattle.tillrun.specs.declared.Turn.{Turn}
-use Rattle.console.specs.Console.{unread, unwritten, Received, Sent, Stopped, mostReads}
+use Rattle.stream_console.specs.Console.{unread, unwritten, Received, Sent, Stopped, mostReads}
 use Rattle.tillrun.specs.Program.{Turned, Through, Going, Played}
 
 pub turned : {l k o : List ℕ} {t : Turn} {l′ k′ o′ x′ : List ℕ} {q : Place} {i : Input} {u : Output} {n : ℕ}
     → longest * length x′ ≤ length o′ → Took l k o (t .place) (take n x′) l′ k′ o′ q → n ≡ i .got
     → Received (t .input) (length x′) i → Sent (t .output) (length o′) u → u .put ≡ q .text
     → Turned l k o t l′ k′ o′ x′
-    (record { place = record { held = q .held; fresh = q .fresh; text = 0 }; input = i; output = u })
+    (record { place = record { filled = q .filled; fresh = q .fresh; text = 0 }; input = i; output = u })
 turned {l′ = l′} {k′ = k′} {o′ = o′} {x′ = x′} {q = q} {u = u} h m f received sent e = record {
-  ready = record { good = m .ready .good; begun = m .ready .begun; held = m .ready .held; text = omega arith };
+  ready = record { good = m .ready .good; begun = m .ready .begun; filled = m .ready .filled; text = omega arith };
   received = received;
   sent = sent;
   none = refl;
@@ -71,10 +71,10 @@ write-on {w = w} o t s = record {
 -- nothing is read or written yet
 pub going-start : {l k o : List ℕ} (n : ℕ) {i : Input} {u : Output} → StandsFor l empty → length k ≡ most
     → longest * n ≤ length o → i ≡ unread (pos 0) → u ≡ unwritten (pos 1)
-    → Going l k o (record { place = record { held = 0; fresh = true; text = 0 }; input = i; output = u }) n
+    → Going l k o (record { place = record { filled = 0; fresh = true; text = 0 }; input = i; output = u }) n
 unfolding splitFrom after answers printed
 going-start n e k o f g = record {
-  ready = record { good = e .good; begun = k; held = omega arith; text = omega arith };
+  ready = record { good = e .good; begun = k; filled = omega arith; text = omega arith };
   none = refl;
   read = [];
   written = [];

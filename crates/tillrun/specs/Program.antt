@@ -8,13 +8,13 @@ use lib.IntN.{pos}
 use lib.ListN.{length, take}
 use Rattle.ledger.specs.Ledger.{empty}
 use Rattle.ledger.specs.Calls.{answers}
-use Rattle.print.specs.Printed.{printed}
-use Rattle.sheets.specs.Sheets.{split, sheetsOf}
+use Rattle.stream_print.specs.Printed.{printed}
+use Rattle.stream_sheets.specs.Sheets.{split, sheetsOf}
 use Rattle.stream.specs.Stream.{Ready, Stands}
-use Rattle.console.specs.declared.Input.{Input}
-use Rattle.console.specs.declared.Output.{Output}
+use Rattle.stream_console.specs.declared.Input.{Input}
+use Rattle.stream_console.specs.declared.Output.{Output}
 use Rattle.tillrun.specs.declared.Turn.{Turn}
-use Rattle.console.specs.Console.{Received, Sent, Stopped}
+use Rattle.stream_console.specs.Console.{Received, Sent, Stopped}
 
 -- One read, and one write of what then waited. What was read is the front of the piece x′, what was written the front
 -- of the text o′.

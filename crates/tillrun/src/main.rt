@@ -1,30 +1,30 @@
 // `tillrun` (document 01, "Kiosk"): reads sheets from standard input and prints their answers, starting with an empty
 // till. What is read in one piece is answered and written before more input is waited for.
-use console::Input;
-use console::Output;
 use request::ranges;
+use step_rows::StepRows;
 use store::Store;
 use stream::Place;
-use tables::StepRows;
+use stream_console::Input;
+use stream_console::Output;
 ghost use mathlib.Core.Path.{_≡_};
 ghost use Prim.Native.Nat.{_*_};
 ghost use lib.ListN.{length};
 ghost use Rattle.request.specs.Range.{maxBytes};
 ghost use Rattle.ledger.specs.Ledger.{empty};
 ghost use Rattle.store.specs.Store.{StandsFor};
-ghost use Rattle.print.specs.Printed.{longest};
-ghost use Rattle.sheets.specs.Sheets.{most};
+ghost use Rattle.stream_print.specs.Printed.{longest};
+ghost use Rattle.stream_sheets.specs.Sheets.{most};
 ghost use Rattle.stream.specs.Stream.{Ready};
 ghost use Rattle.tillrun.specs.Program.{Turned, Played};
 
 // The first bytes of a sheet that has begun: one more than a sheet may have.
-type Begun = [u8; sheets::MOST];
+type Begun = [u8; stream_sheets::MOST];
 
 // What is read at once.
 const PIECE: usize = ranges::MAX_BYTES;
 
 // The answers to the sheets of a piece, each of which takes a byte at least.
-const TEXT: usize = print::LONGEST * PIECE;
+const TEXT: usize = stream_print::LONGEST * PIECE;
 
 type Text = [u8; TEXT];
 
@@ -51,24 +51,24 @@ fn sized(begun: Begun, text: Text, piece: Piece)
 
 // Reads once, answers what came and writes the answers.
 fn next_piece(
-    till: &mut Store,
+    store: &mut Store,
     rows: &mut StepRows,
     begun: &mut [u8],
     text: &mut [u8],
     piece: &mut [u8],
     turn: Turn,
 ) -> Turn
-    requires { ⌜ Ready (now till) (now begun) (now text) (turn .place) (length (now piece)) ⌝ }
-    ensures { λ r. ⌜ Turned (now (till .entry)) (now (begun .entry)) (now (text .entry)) turn
-        (now (till .exit)) (now (begun .exit)) (now (text .exit)) (now (piece .exit)) r ⌝ }
+    requires { ⌜ Ready (now store) (now begun) (now text) (turn .place) (length (now piece)) ⌝ }
+    ensures { λ r. ⌜ Turned (now (store .entry)) (now (begun .entry)) (now (text .entry)) turn
+        (now (store .exit)) (now (begun .exit)) (now (text .exit)) (now (piece .exit)) r ⌝ }
 {
-    let input = console::receive(turn.input, piece);
-    let n = console::got(input);
-    let next = stream::feed(till, rows, begun, text, turn.place, &piece[..n]);
-    let output = console::send(turn.output, text, next.text);
+    let input = stream_console::receive(turn.input, piece);
+    let n = stream_console::got(input);
+    let next = stream::feed(store, rows, begun, text, turn.place, &piece[..n]);
+    let output = stream_console::send(turn.output, text, next.text);
     Turn {
         place: Place {
-            held: next.held,
+            filled: next.filled,
             fresh: next.fresh,
             text: 0,
         },
@@ -79,46 +79,46 @@ fn next_piece(
 
 // Plays the input to its end. Where the answers cannot be written, the sheet that has begun is left.
 fn play(
-    till: &mut Store,
+    store: &mut Store,
     rows: &mut StepRows,
     begun: &mut Begun,
     text: &mut Text,
     piece: &mut Piece,
 ) -> Run
-    requires { ⌜ StandsFor (now till) empty ⌝ }
+    requires { ⌜ StandsFor (now store) empty ⌝ }
     ensures { λ r. ⌜ Played (r .input) (r .output) ⌝ }
 {
     sized(*begun, *text, *piece);
     let mut turn = Turn {
         place: Place {
-            held: 0,
+            filled: 0,
             fresh: true,
             text: 0,
         },
-        input: console::reading(0),
-        output: console::writing(1),
+        input: stream_console::reading(0),
+        output: stream_console::writing(1),
     };
-    while console::goes_on(turn.input, turn.output) {
-        turn = next_piece(till, rows, begun, text, piece, turn);
+    while stream_console::goes_on(turn.input, turn.output) {
+        turn = next_piece(store, rows, begun, text, piece, turn);
     }
     let input = turn.input;
     let output = turn.output;
-    if console::failed(output) {
+    if stream_console::failed(output) {
         return Run { input, output };
     }
-    let end = stream::finish(till, rows, begun, text, turn.place);
+    let end = stream::finish(store, rows, begun, text, turn.place);
     Run {
         input,
-        output: console::send(output, text, end),
+        output: stream_console::send(output, text, end),
     }
 }
 
 fn main() {
-    let mut till = [0u32; cells::CELLS];
-    store::start(&mut till);
-    let mut begun = [0u8; sheets::MOST];
+    let mut store = [0u32; store_cells::CELLS];
+    store::start(&mut store);
+    let mut begun = [0u8; stream_sheets::MOST];
     let mut text = [0u8; TEXT];
     let mut piece = [0u8; PIECE];
-    let mut rows = [0u32; tables::STEP_CELLS];
-    play(&mut till, &mut rows, &mut begun, &mut text, &mut piece);
+    let mut rows = [0u32; step_rows::STEP_CELLS];
+    play(&mut store, &mut rows, &mut begun, &mut text, &mut piece);
 }

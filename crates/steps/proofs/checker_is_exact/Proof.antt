@@ -1,5 +1,5 @@
 -- `checker_is_exact` meets its contract.
-use Rattle.steps.proofs.Tables.{label-table}
+use Rattle.steps.proofs.LabelTables.{label-table}
 use Rattle.steps.proofs.Steps.{exactly}
 use Rattle.steps.proofs.checker_is_exact.Statement.{statement}
 use Rattle.steps.proofs.checker_is_exact.Tie as tie

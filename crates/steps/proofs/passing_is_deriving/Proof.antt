@@ -1,5 +1,5 @@
 -- `passing_is_deriving` meets its contract.
-use Rattle.steps.proofs.Tables.{label-table}
+use Rattle.steps.proofs.LabelTables.{label-table}
 use Rattle.steps.proofs.Steps.{sound, passing}
 use Rattle.steps.proofs.passing_is_deriving.Statement.{statement}
 use Rattle.steps.proofs.passing_is_deriving.Tie as tie

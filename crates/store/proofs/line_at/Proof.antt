@@ -2,7 +2,7 @@
 use mathlib.Core.Path.{sym, _∙_}
 use native.Mathlib.Omega.{arith}
 use denote.Ref.{now}
-use Rattle.cells.proofs.Rows.{row-below}
+use Rattle.store_cells.proofs.CellWrites.{row-below}
 use Rattle.store.proofs.Views.{lines-length}
 use Rattle.store.proofs.line_at.Statement.{statement}
 use Rattle.store.proofs.line_at.Tie as tie

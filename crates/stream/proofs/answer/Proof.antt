@@ -1,8 +1,8 @@
 -- `answer` meets its contract.
 use mathlib.Core.Path.{ap}
 use borrow.Author.Needs.{needs}
-use Rattle.print.specs.Printed.{line}
-use Rattle.print.proofs.Writing.{wrote-as}
+use Rattle.stream_print.specs.Printed.{line}
+use Rattle.stream_print.proofs.Writing.{wrote-as}
 use Rattle.stream.proofs.answer.Statement.{statement}
 use Rattle.stream.proofs.answer.Tie as tie
 

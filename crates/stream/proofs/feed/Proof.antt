@@ -12,12 +12,12 @@ use Rattle.stream.proofs.feed.Statement.{statement}
 use Rattle.stream.proofs.feed.Tie as tie
 
 abbrev Inv-loop : tie.InvT-loop
-Inv-loop till₀ rows₀ begun₀ text₀ piece p₀ i₀ till rows begun text p i =
+Inv-loop till₀ rows₀ begun₀ text₀ piece p₀ i₀ store rows begun text p i =
     (i ≤ length piece) × ((length begun ≡ length begun₀) × ((length text ≡ length text₀)
-    × Took till₀ begun₀ text₀ p₀ (take i piece) till begun text p))
+    × Took till₀ begun₀ text₀ p₀ (take i piece) store begun text p))
 
 abbrev μ-loop : tie.MeasureT-loop
-μ-loop till₀ rows₀ begun₀ text₀ piece p₀ i₀ till rows begun text p i = length piece - i
+μ-loop till₀ rows₀ begun₀ text₀ piece p₀ i₀ store rows begun text p i = length piece - i
 
 take-sheet-requires : tie.Need-take-sheet-requires Inv-loop μ-loop
 take-sheet-requires c κs =

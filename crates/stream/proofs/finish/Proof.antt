@@ -11,8 +11,8 @@ use Rattle.stream.proofs.finish.Tie as tie
 slice-aggregate-answer : tie.Need-slice-aggregate-answer
 slice-aggregate-answer c =
     let start = c .before .before .before .before .before .before in
-    sym (length-take-le (start .args .place .held) (now (start .args .begun))
-    (omega (arith, start .pre .begun, start .pre .held)))
+    sym (length-take-le (start .args .place .filled) (now (start .args .begun))
+    (omega (arith, start .pre .begun, start .pre .filled)))
 
 returns-2 : tie.Need-returns-2
 returns-2 c =

@@ -4,7 +4,7 @@ use native.Mathlib.Omega.{arith}
 use denote.Ref.{now}
 use lib.Seq.{length-take-le}
 use borrow.Author.Needs.{needs}
-use Rattle.sheets.specs.Ends.{EndsAt}
+use Rattle.stream_sheets.specs.Ends.{EndsAt}
 use Rattle.stream.proofs.Pieces.{ready-for, took-ended, took-open}
 use Rattle.stream.proofs.take_sheet.Statement.{statement}
 use Rattle.stream.proofs.take_sheet.Tie as tie

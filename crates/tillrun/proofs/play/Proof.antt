@@ -7,18 +7,18 @@ use lib.ListN.{length}
 use borrow.Author.Needs.{needs}
 use Rattle.request.specs.Range.{maxBytes}
 use Rattle.stream.proofs.Pieces.{ready-for}
-use Rattle.console.specs.Console.{mostReads, Stopped, GoesOn}
+use Rattle.stream_console.specs.Console.{mostReads, Stopped, GoesOn}
 use Rattle.tillrun.specs.Program.{Going}
 use Rattle.tillrun.proofs.Turns.{going-start, going-on, fewer, played-cut, played-whole}
 use Rattle.tillrun.proofs.play.Statement.{statement}
 use Rattle.tillrun.proofs.play.Tie as tie
 
 abbrev Inv-loop : tie.InvT-loop
-Inv-loop till₀ rows₀ begun₀ text₀ piece₀ turn₀ till rows begun text piece turn =
-    Going till begun text turn (length piece) × (length piece ≡ maxBytes)
+Inv-loop till₀ rows₀ begun₀ text₀ piece₀ turn₀ store rows begun text piece turn =
+    Going store begun text turn (length piece) × (length piece ≡ maxBytes)
 
 abbrev μ-loop : tie.MeasureT-loop
-μ-loop till₀ rows₀ begun₀ text₀ piece₀ turn₀ till rows begun text piece turn = mostReads - turn .input .reads
+μ-loop till₀ rows₀ begun₀ text₀ piece₀ turn₀ store rows begun text piece turn = mostReads - turn .input .reads
 
 loop-holds : tie.Need-loop-holds Inv-loop μ-loop
 loop-holds c =

@@ -1,0 +1,72 @@
+// Issue, withdraw and tally, of requests that have been read: each tries its checks in the paper's order and does what
+// the request says.
+use call_checks::Verdict;
+use ledger::Answer;
+use logic::Interval;
+use request::Kind;
+use store::Store;
+use store_lookup::Found;
+ghost use Rattle.request.specs.Request.{issue as issueRequest, withdraw as withdrawRequest, tally as tallyRequest};
+ghost use Rattle.store.specs.Store.{Good};
+ghost use Rattle.call_contracts.specs.Called.{Handled};
+ghost use Rattle.call_credentials.specs.Issue.{Issuable};
+
+// Issue of a formula that has passed the checks before 22: 22, 23.
+fn issue_checked(store: &mut Store, kind: Kind, formula: u32, interval: Interval) -> Answer
+    requires { ⌜ Issuable (now store) kind formula interval ⌝ }
+    ensures { λ r. ⌜ Handled (now (store .entry)) (issueRequest kind formula interval) r (now (store .exit)) ⌝ }
+{
+    let room = call_checks::check_room(store, 0);
+    let Verdict::Passed = room else {
+        return Answer::Refused(22, 0);
+    };
+    let unused = call_checks::check_unused(store);
+    let Verdict::Passed = unused else {
+        return Answer::Refused(23, 0);
+    };
+    let serial = store::next_serial(store);
+    store_credentials::give(store, kind, formula, interval);
+    Answer::Accepted(serial)
+}
+
+// Issue: 3, 10, 20 or 21 by the kind, then as above.
+pub fn issue(store: &mut Store, kind: Kind, formula: u32, interval: Interval) -> Answer
+    requires { ⌜ Good (now store) ⌝ }
+    ensures { λ r. ⌜ Handled (now (store .entry)) (issueRequest kind formula interval) r (now (store .exit)) ⌝ }
+{
+    let ordered = call_checks::check_ordered(interval);
+    let Verdict::Passed = ordered else {
+        return Answer::Refused(3, 0);
+    };
+    let present = call_checks::check_present(store, formula);
+    let Verdict::Passed = present else {
+        return Answer::Refused(10, 0);
+    };
+    let issuable = call_checks::check_issuable(store, kind, formula);
+    let Verdict::Passed = issuable else {
+        return Answer::Refused(call_checks::unissuable_number(kind), 0);
+    };
+    issue_checked(store, kind, formula, interval)
+}
+
+// Withdraw: 24.
+pub fn withdraw(store: &mut Store, serial: u32) -> Answer
+    requires { ⌜ Good (now store) ⌝ }
+    ensures { λ r. ⌜ Handled (now (store .entry)) (withdrawRequest serial) r (now (store .exit)) ⌝ }
+{
+    let found = store_lookup::find(store, serial);
+    let Found::At(at, c) = found else {
+        return Answer::Refused(24, 0);
+    };
+    store_credentials::remove(store, at);
+    Answer::Accepted(serial)
+}
+
+// Tally: no check after 3 fails, and a tally has no interval.
+pub fn tally(store: &Store, session: u32, minute: u32) -> Answer
+    requires { ⌜ Good (now store) ⌝ }
+    ensures { λ r. ⌜ Handled (now (store .entry)) (tallyRequest session minute) r (now (store .entry)) ⌝ }
+{
+    let f = formula_tally::tally(store, session, minute);
+    Answer::Counted(f.open, f.shut, f.placed)
+}

@@ -1,0 +1,3 @@
+pub mod HoldSerials
+pub mod Holding
+pub mod Spending

@@ -1,5 +1,0 @@
-mod Serials
-mod Stands
-mod Removed
-mod Gather
-mod Given

@@ -1,4 +1,0 @@
-pub mod Cut
-pub mod Shapes
-pub mod Tables
-mod Letters

@@ -1,0 +1,85 @@
+-- A row's parts are the numbers that its line names; size and plain of the line's formula come from those of its parts,
+-- the formulas T of these numbers.
+use mathlib.Core.Path.{_≡_, refl, sym, ap, _∙_}
+use mathlib.Core.Bool.{Bool, _&&_, _||_, and-true, or-false}
+use Prim.Native.Nat.{ℕ, _+_}
+use native.Mathlib.Omega.{arith}
+use Rattle.logic.specs.Interval.{reversed}
+use Rattle.logic.specs.Formula.{Formula, size, plain}
+use Rattle.logic.specs.Counts.{allOf}
+use Rattle.logic.specs.Multiset.{sum}
+use Rattle.request.specs.Request.{Line, lineIntervals}
+use Rattle.steps.specs.declared.Row.{Row}
+use Rattle.ledger.specs.Table.{form, names, rowOf}
+use Rattle.ledger.specs.Checks.{anyOf}
+use Rattle.formula_parts.specs.Parts.{among, plains, partsOf}
+
+pub parts-row : (l : Line) → partsOf (rowOf l) ≡ names l
+unfolding partsOf
+parts-row (Line.atom p s) = refl
+parts-row Line.one = refl
+parts-row (Line.tensor i j) = refl
+parts-row (Line.with i j) = refl
+parts-row (Line.plus i j) = refl
+parts-row (Line.lolli i j) = refl
+parts-row (Line.implies i j) = refl
+parts-row (Line.bang i) = refl
+parts-row (Line.at i w) = refl
+parts-row (Line.says k i) = refl
+parts-row (Line.superset v w) = refl
+
+-- a line's intervals are those of its row; one that it has not is not reversed
+line-reversed : (l : Line)
+    → (reversed (rowOf l .first) || reversed (rowOf l .second)) ≡ anyOf reversed (lineIntervals l)
+unfolding anyOf reversed
+line-reversed (Line.atom p s) = refl
+line-reversed Line.one = refl
+line-reversed (Line.tensor i j) = refl
+line-reversed (Line.with i j) = refl
+line-reversed (Line.plus i j) = refl
+line-reversed (Line.lolli i j) = refl
+line-reversed (Line.implies i j) = refl
+line-reversed (Line.bang i) = refl
+line-reversed (Line.at i w) = refl
+line-reversed (Line.says k i) = refl
+line-reversed (Line.superset v w) = ap (λ b. reversed v || b) (sym (or-false (reversed w)))
+
+pub row-reversed : (x : Row) {r : Bool} → r ≡ (reversed (x .first) || reversed (x .second))
+    → (l : Line) → rowOf l ≡ x → r ≡ anyOf reversed (lineIntervals l)
+row-reversed x e l q = e ∙ rw (← q) (line-reversed l)
+
+-- f gives the parts' values
+unfoldable pub sizeRow : (ℕ → ℕ) → Row → ℕ
+sizeRow f r = 1 + sum f (partsOf r)
+
+unfoldable pub plainRow : (ℕ → Bool) → Row → Bool
+plainRow f r = among (r .letter) plains && allOf f (partsOf r)
+
+module _ (T : ℕ → Formula) where
+  pub size-row : (l : Line) → size (form T l) ≡ sizeRow (λ k. size (T k)) (rowOf l)
+  unfolding size sizeRow partsOf sum
+  size-row (Line.atom p s) = refl
+  size-row Line.one = refl
+  size-row (Line.tensor i j) = omega arith
+  size-row (Line.with i j) = omega arith
+  size-row (Line.plus i j) = omega arith
+  size-row (Line.lolli i j) = omega arith
+  size-row (Line.implies i j) = omega arith
+  size-row (Line.bang i) = omega arith
+  size-row (Line.at i w) = omega arith
+  size-row (Line.says k i) = omega arith
+  size-row (Line.superset v w) = refl
+
+  pub plain-row : (l : Line) → plain (form T l) ≡ plainRow (λ k. plain (T k)) (rowOf l)
+  unfolding plain plainRow partsOf allOf
+  plain-row (Line.atom p s) = refl
+  plain-row Line.one = refl
+  plain-row (Line.tensor i j) = sym (simp and-true)
+  plain-row (Line.with i j) = refl
+  plain-row (Line.plus i j) = refl
+  plain-row (Line.lolli i j) = refl
+  plain-row (Line.implies i j) = refl
+  plain-row (Line.bang i) = refl
+  plain-row (Line.at i w) = refl
+  plain-row (Line.says k i) = sym (and-true _)
+  plain-row (Line.superset v w) = refl

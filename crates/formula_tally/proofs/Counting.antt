@@ -1,0 +1,132 @@
+-- The column of seats and places, row by row.
+use mathlib.Core.Path.{_≡_, refl, sym, ap, ap₂, subst, fun-ext, _∙_}
+use mathlib.Core.List.{List, [], _∷_}
+use mathlib.Core.Bool.{Bool, true, false, _&&_}
+use Prim.Native.Nat.{ℕ, zero, suc, _+_, _*_, _≤_, _<_}
+use Prim.Native.Char.{code}
+use native.Mathlib.Omega.{arith}
+use native.Mathlib.Numerals.{add-one}
+use lib.Dec.{eqb}
+use lib.ListN.{length, set, replicate}
+use borrow.Author.Tests.{eqb-true}
+use Rattle.logic.specs.Formula.{Formula, count, seat, place, bit}
+use Rattle.logic.specs.Choice.{pick}
+use Rattle.logic.specs.Multiset.{Every, sum}
+use Rattle.logic.proofs.Multisets.{every-map}
+use Rattle.logic.proofs.Stores.{replicate-is}
+use Rattle.request.specs.Request.{Line}
+use Rattle.ledger.specs.Table.{form, names, rowOf}
+use Rattle.ledger.specs.Checks.{maxFormulas}
+use Rattle.ledger.specs.Bounds.{lineAt}
+use Rattle.store_cells.specs.Layout.{rowAt}
+use Rattle.store.specs.Store.{ledgerOf, Good}
+use Rattle.store.proofs.Views.{row-is}
+use Rattle.formula_parts.specs.Parts.{partsOf}
+use Rattle.formula_parts.proofs.PartsOfRows.{parts-row}
+use Rattle.formula_tally.specs.Column.{entry, early, placeUnit, entryMost, Countable}
+use Rattle.formula_tally.specs.Tally.{both, atomBoth, bothRow, atomOf, Blank, Counted}
+use Rattle.formula_tally.proofs.CountLimits.{both-le}
+use Rattle.formula_tally.proofs.Columns.{column-start, column-next, early-small}
+
+-- an atom's seats and places
+atom-both : (s p t : ℕ)
+    → bit (eqb p seat && eqb t s) + placeUnit * bit (eqb p place && eqb t s) ≡ atomBoth s p t
+atom-both s p t = go (eqb t s) (eqb p seat) (eqb p place) refl refl
+  where
+    go : (a b c : Bool) → eqb p seat ≡ b → eqb p place ≡ c
+        → bit (b && a) + placeUnit * bit (c && a) ≡ pick a (pick b 1 (pick c placeUnit 0)) 0
+    go true true true e f = absurd (omega (arith, eqb-true p seat e, eqb-true p place f))
+    go true true false e f = omega arith
+    go true false true e f = omega arith
+    go true false false e f = omega arith
+    go false true true e f = omega arith
+    go false true false e f = omega arith
+    go false false true e f = omega arith
+    go false false false e f = omega arith
+
+-- a row's, from its parts'; T gives the formulas of the numbers that it names
+module _ (T : ℕ → Formula) where
+  both-row : (s : ℕ) (l : Line) → both s (form T l) ≡ bothRow s (λ k. both s (T k)) (rowOf l)
+  unfolding both bothRow count partsOf sum
+  both-row s (Line.atom p t) = atom-both s p t
+  both-row s Line.one = refl
+  both-row s (Line.tensor i j) = omega arith
+  both-row s (Line.with i j) = omega arith
+  both-row s (Line.plus i j) = omega arith
+  both-row s (Line.lolli i j) = omega arith
+  both-row s (Line.implies i j) = omega arith
+  both-row s (Line.bang i) = omega arith
+  both-row s (Line.at i w) = omega arith
+  both-row s (Line.says k i) = omega arith
+  both-row s (Line.superset v w) = refl
+
+sum-zero : (f : ℕ → ℕ) → ((k : ℕ) → f k ≡ 0) → (ns : List ℕ) → sum f ns ≡ 0
+unfolding sum
+sum-zero f z [] = refl
+sum-zero f z (n ∷ ns) = omega (arith, z n, sum-zero f z ns)
+
+set-zero : (n i : ℕ) → set {A = ℕ} (replicate n 0) i 0 ≡ replicate n 0
+set-zero zero i = refl
+set-zero (suc n) zero = refl
+set-zero (suc n) (suc i) = ap (λ (xs : List ℕ). 0 ∷ xs) (set-zero n i)
+
+blank-zero : (xs : List ℕ) → Blank xs → (k : ℕ) → entry xs k ≡ 0
+blank-zero xs e k = ap (λ (ys : List ℕ). entry ys k) e ∙ replicate-is 0 maxFormulas k
+
+module _ (l : List ℕ) (s : ℕ) where
+  pub counted-start : (xs : List ℕ) → Blank xs → Counted l s 0 xs
+  unfolding both count
+  counted-start xs e = subst (Counted l s 0) (sym e) (column-start (ledgerOf l) (both s) 0 refl)
+
+  module _ (g : Good l) where
+    pub counted-small : (i : ℕ) (xs : List ℕ) → i ≤ length (ledgerOf l .lines) → Counted l s i xs
+        → (k : ℕ) → entry xs k ≤ entryMost
+    counted-small i xs h c k =
+        omega (
+          arith,
+          c .holds k,
+          both-le s (early (ledgerOf l) i k),
+          early-small (ledgerOf l) (g .bounded .sizes) i k h,
+        )
+
+    module _ (i : ℕ) (xs : List ℕ) (h : i < length (ledgerOf l .lines)) (c : Counted l s i xs) where
+      -- a row's parts are formulas of the ledger
+      pub countable : Countable xs (rowAt l i)
+      countable = record {
+        long = c .long;
+        small = counted-small i xs (omega arith) c;
+        there = subst (Every (λ k. k < maxFormulas))
+            (sym (parts-row (lineAt (ledgerOf l) i)) ∙ ap partsOf (row-is l g i))
+            (every-map {P = λ k. k < length (ledgerOf l .lines)} {Q = λ k. k < maxFormulas}
+            (λ k q. omega (arith, g .bounded .lines)) (names (lineAt (ledgerOf l) i)) (g .bounded .tabled .refs i));
+      }
+
+      pub counted-next : (v : ℕ) → v ≡ bothRow s (entry xs) (rowAt l i) → Counted l s (i + 1) (set xs i v)
+      counted-next v e =
+          column-next (ledgerOf l) (both s) 0 i xs v (g .bounded .lines) h c
+          (e ∙ ap₂ (bothRow s) (fun-ext (c .holds)) (sym (row-is l g i))
+          ∙ sym (both-row (early (ledgerOf l) i) s (lineAt (ledgerOf l) i)))
+
+    -- before the first atom there is nothing to count
+    nothing : (xs : List ℕ) → ((k : ℕ) → entry xs k ≡ 0) → (i : ℕ) → atomOf s (rowAt l i) ≡ false
+        → bothRow s (entry xs) (rowAt l i) ≡ 0
+    unfolding bothRow
+    nothing xs z i e = go (eqb (rowAt l i .letter) (code "a")) refl
+      where
+        go : (b : Bool) → eqb (rowAt l i .letter) (code "a") ≡ b
+            → pick b (atomBoth s (rowAt l i .a) (rowAt l i .b)) (sum (entry xs) (partsOf (rowAt l i))) ≡ 0
+        go true q = rw (rw q at e)
+        go false q = sum-zero (entry xs) z (partsOf (rowAt l i))
+
+    pub none-counted : (xs : List ℕ) → Blank xs → (i : ℕ) → i ≤ length (ledgerOf l .lines)
+        → ((k : ℕ) → k < i → atomOf s (rowAt l k) ≡ false) → Counted l s i xs
+    none-counted xs e zero h f = counted-start xs e
+    none-counted xs e (suc i) h f =
+        let c = none-counted xs e i (omega arith) (λ k q. f k (omega arith)) in
+        let v = sym (nothing xs (blank-zero xs e) i (f i (omega arith))) in
+        let kept : set xs i 0 ≡ xs = ap (λ (ys : List ℕ). set ys i 0) e ∙ set-zero maxFormulas i ∙ sym e in
+        subst (Counted l s (suc i)) kept (rw (add-one i) at (counted-next i xs h c 0 v))
+
+  -- every formula is counted
+  pub counted-all : (i j : ℕ) (xs : List ℕ) → i ≡ j → Counted l s i xs → Counted l s j xs
+  counted-all i j xs e c = subst (λ (k : ℕ). Counted l s k xs) e c

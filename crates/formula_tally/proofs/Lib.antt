@@ -1,0 +1,4 @@
+pub mod CountLimits
+pub mod Columns
+pub mod Counting
+pub mod Tallies

@@ -1,0 +1,186 @@
+-- A row's weight and its sessions, from those of its parts.
+use mathlib.Core.Path.{_≡_, refl, sym, ap, subst, _∙_}
+use mathlib.Core.List.{List, [], _∷_, _++_, map}
+use mathlib.Core.Bool.{Bool, true, false, _&&_, _||_, and-true}
+use Prim.Native.Nat.{ℕ, _+_, _≤_, _<_}
+use Prim.Native.Char.{code}
+use native.Mathlib.Omega.{arith}
+use lib.Dec.{eqb}
+use lib.ListN.{length}
+use borrow.Author.Tests.{eq-eqb, ne-eqb}
+use Rattle.logic.specs.Choice.{pick}
+use Rattle.logic.specs.Formula.{Formula, atom, one, tensor, with, plus, lolli, implies, bang, at, says, superset}
+use Rattle.logic.specs.Formula.{size}
+use Rattle.logic.specs.Counts.{up, down, even, sessionsOf, allOf}
+use Rattle.logic.specs.Multiset.{sum, Every}
+use Rattle.logic.proofs.Tests.{bit-le}
+use Rattle.request.specs.Request.{Line}
+use Rattle.steps.specs.declared.Row.{Row}
+use Rattle.ledger.specs.Table.{form, names, rowOf}
+use Rattle.ledger.specs.Ledger.{formula}
+use Rattle.ledger.specs.Bounds.{There, lineAt}
+use Rattle.store_cells.specs.Layout.{rowAt}
+use Rattle.store.specs.Store.{lineOf, ledgerOf, Good}
+use Rattle.store.proofs.Views.{row-is}
+use Rattle.store.proofs.LinesOfRows.{line-of-row}
+use Rattle.formula_parts.specs.declared.Parts.{Parts}
+use Rattle.formula_parts.specs.Parts.{partsOf, numbers}
+use Rattle.formula_facts.specs.Facts.{Formable}
+use Rattle.formula_facts.proofs.Named.{parts-are, parts-there, parts-size}
+use Rattle.formula_weights.specs.declared.Weight.{Weight}
+use Rattle.formula_weights.specs.RowWeights.{weightOf, aloneWeight, underWeight, joinedWeight, Light}
+
+-- by the parts' weights, and by their sessions
+abbrev pub weighed : ℕ → Row → List Weight → Weight
+weighed s r [] = aloneWeight s r
+weighed s r (x ∷ []) = underWeight (r .letter) x
+weighed s r (x ∷ y ∷ zs) = joinedWeight (r .letter) x y
+
+abbrev pub gathered : Row → List (List ℕ) → List ℕ
+gathered r [] = pick (eqb (r .letter) (code "a")) (r .b ∷ []) []
+gathered r (x ∷ []) = x
+gathered r (x ∷ y ∷ zs) = x ++ y
+
+module _ (T : ℕ → Formula) where
+  weight-row : (s : ℕ) (l : Line)
+      → weighed s (rowOf l) (map (λ k. weightOf s (T k)) (partsOf (rowOf l))) ≡ weightOf s (form T l)
+  unfolding partsOf aloneWeight underWeight joinedWeight up even
+  weight-row s (Line.atom p t) = refl
+  weight-row s Line.one = refl
+  weight-row s (Line.tensor i j) = refl
+  weight-row s (Line.with i j) = refl
+  weight-row s (Line.plus i j) = refl
+  weight-row s (Line.lolli i j) = refl
+  weight-row s (Line.implies i j) = refl
+  weight-row s (Line.bang i) = refl
+  weight-row s (Line.at i w) = refl
+  weight-row s (Line.says k i) = refl
+  weight-row s (Line.superset v w) = refl
+
+  sessions-row : (l : Line)
+      → gathered (rowOf l) (map (λ k. sessionsOf (T k)) (partsOf (rowOf l))) ≡ sessionsOf (form T l)
+  unfolding partsOf sessionsOf
+  sessions-row (Line.atom p t) = refl
+  sessions-row Line.one = refl
+  sessions-row (Line.tensor i j) = refl
+  sessions-row (Line.with i j) = refl
+  sessions-row (Line.plus i j) = refl
+  sessions-row (Line.lolli i j) = refl
+  sessions-row (Line.implies i j) = refl
+  sessions-row (Line.bang i) = refl
+  sessions-row (Line.at i w) = refl
+  sessions-row (Line.says k i) = refl
+  sessions-row (Line.superset v w) = refl
+
+-- the number of a part of a formula of size t: what is asked before its row is read, and that it is smaller
+pub record Part (l : List ℕ) (t k : ℕ) : Type 0 where
+  pub there : Good l × (k < length (ledgerOf l .lines))
+  pub less : size (formula (ledgerOf l) k) < t
+
+each-part : (l : List ℕ) {t : ℕ} → Good l → (ns : List ℕ) → There (ledgerOf l) ns
+    → sum (λ k. size (formula (ledgerOf l) k)) ns < t → Every (Part l t) ns
+unfolding sum
+each-part l g [] h s = tt
+each-part l g (k ∷ ns) h s =
+    (record { there = (g, h .0); less = omega arith }, each-part l g ns (h .1) (omega arith))
+
+-- of a row whose formula has size t, the numbers of its parts, and its weight and its sessions from theirs
+pub record Parted (l : List ℕ) (r : Row) (t : ℕ) (ns : List ℕ) : Type 0 where
+  pub each : Every (Part l t) ns
+  pub weight : (s : ℕ) → weighed s r (map (λ k. weightOf s (formula (ledgerOf l) k)) ns)
+      ≡ weightOf s (form (formula (ledgerOf l)) (lineOf r))
+  pub sessions : gathered r (map (λ k. sessionsOf (formula (ledgerOf l) k)) ns)
+      ≡ sessionsOf (form (formula (ledgerOf l)) (lineOf r))
+
+module _ (r : Row) (p : Parts) (e : numbers p ≡ partsOf r) (l : List ℕ) (f : Formable l r) where
+  pub parted : {t : ℕ} → size (form (formula (ledgerOf l)) (lineOf r)) ≡ t → {q : Parts} → p ≡ q
+      → Parted l r t (numbers q)
+  parted m {q} g = record {
+    each =
+        each-part l (f .good) (numbers q) (parts-there r p q e g l f) (omega (arith, parts-size r p q e g l f, m));
+    weight = λ s. at-parts (λ x ns. weighed s x (map (λ k. weightOf s (formula (ledgerOf l) k)) ns))
+        ∙ weight-row (formula (ledgerOf l)) s (lineOf r);
+    sessions =
+        at-parts (λ x ns. gathered x (map (λ k. sessionsOf (formula (ledgerOf l) k)) ns))
+        ∙ sessions-row (formula (ledgerOf l)) (lineOf r);
+  }
+    where
+      at-parts : {A : Type 0} (h : Row → List ℕ → A)
+          → h r (numbers q) ≡ h (rowOf (lineOf r)) (partsOf (rowOf (lineOf r)))
+      at-parts h = ap (h r) (parts-are r p q e g) ∙ ap (λ (x : Row). h x (partsOf x)) (sym (f .canonical))
+
+-- no formula weighs more than its size
+weight-le : (s : ℕ) (a : Formula) → up s a + down s a ≤ size a
+unfolding up size
+weight-le s (atom p t) = omega (arith, bit-le ((eqb p 1 || eqb p 2) && eqb t s))
+weight-le s one = omega arith
+weight-le s (tensor a b) = omega (arith, weight-le s a, weight-le s b)
+weight-le s (with a b) = omega (arith, weight-le s a, weight-le s b)
+weight-le s (plus a b) = omega (arith, weight-le s a, weight-le s b)
+weight-le s (lolli a b) = omega (arith, weight-le s a, weight-le s b)
+weight-le s (implies a b) = omega (arith, weight-le s a, weight-le s b)
+weight-le s (bang a) = omega (arith, weight-le s a)
+weight-le s (at a i) = omega (arith, weight-le s a)
+weight-le s (says k a) = omega (arith, weight-le s a)
+weight-le s (superset i j) = omega arith
+
+-- of the row of a part
+module _ {l : List ℕ} {t n : ℕ} (p : Part l t n) {r : Row} (e : r ≡ rowAt l n) where
+  line-is : lineAt (ledgerOf l) n ≡ lineOf r
+  line-is = sym (line-of-row _) ∙ ap lineOf (row-is l (p .there .0) n ∙ sym e)
+
+  part-is : form (formula (ledgerOf l)) (lineOf r) ≡ formula (ledgerOf l) n
+  part-is = ap (form (formula (ledgerOf l))) (sym line-is) ∙ sym (p .there .0 .bounded .tabled .reads n)
+
+  -- what a call for the part asks
+  pub part-asked : (size (form (formula (ledgerOf l)) (lineOf r)) < t) × Formable l r
+  part-asked = (
+    omega (arith, p .less, ap size part-is),
+    record {
+      good = p .there .0;
+      canonical = ap rowOf (sym line-is) ∙ row-is l (p .there .0) n ∙ sym e;
+      there = subst (λ (x : Line). There (ledgerOf l) (names x)) line-is (p .there .0 .bounded .tabled .refs n);
+    },
+  )
+
+  pub part-weight : (s : ℕ) {x : Weight} → x ≡ weightOf s (form (formula (ledgerOf l)) (lineOf r))
+      → x ≡ weightOf s (formula (ledgerOf l) n)
+  part-weight s h = h ∙ ap (weightOf _) part-is
+
+  -- no formula of a store weighs much
+  pub part-light : (s : ℕ) {x : Weight} → x ≡ weightOf s (form (formula (ledgerOf l)) (lineOf r)) → Light x
+  part-light s h =
+      let b = weight-le s (formula (ledgerOf l) n) in
+      let m = p .there .0 .bounded .sizes n in
+      subst Light (sym (part-weight s h)) (record { up = omega (arith, b, m); down = omega (arith, b, m) })
+
+  pub part-sessions : (f : ℕ → Bool) {b : Bool} → b ≡ allOf f (sessionsOf (form (formula (ledgerOf l)) (lineOf r)))
+      → b ≡ allOf f (sessionsOf (formula (ledgerOf l) n))
+  part-sessions f h = h ∙ ap (λ (a : Formula). allOf f (sessionsOf a)) part-is
+
+-- a test of the sessions, from its answers for the parts'
+module _ (f : ℕ → Bool) where
+  all-append : (xs ys : List ℕ) → allOf f (xs ++ ys) ≡ (allOf f xs && allOf f ys)
+  unfolding allOf
+  all-append [] ys = refl
+  all-append (x ∷ xs) ys = go (f x) (all-append xs ys)
+    where
+      go : (b : Bool) → allOf f (xs ++ ys) ≡ (allOf f xs && allOf f ys)
+          → (b && allOf f (xs ++ ys)) ≡ ((b && allOf f xs) && allOf f ys)
+      go true e = e
+      go false e = refl
+
+  pub all-atom : (r : Row) → r .letter ≡ code "a" → f (r .b) ≡ allOf f (gathered r [])
+  unfolding allOf
+  all-atom r e = rw (eq-eqb _ _ e) (sym (and-true (f (r .b))))
+
+  pub all-other : (r : Row) → (r .letter ≡ code "a" → ⊥) → true ≡ allOf f (gathered r [])
+  unfolding allOf
+  all-other r n = rw (ne-eqb _ _ n) refl
+
+  module _ (xs ys : List ℕ) {x : Bool} (e : x ≡ allOf f xs) where
+    pub all-left : x ≡ false → false ≡ allOf f (xs ++ ys)
+    all-left q = sym (all-append xs ys ∙ rw (sym e, q))
+
+    pub all-right : x ≡ true → {y : Bool} → y ≡ allOf f ys → y ≡ allOf f (xs ++ ys)
+    all-right q h = h ∙ sym (all-append xs ys ∙ rw (sym e, q))

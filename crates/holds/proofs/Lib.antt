@@ -1,3 +1,0 @@
-pub mod Serials
-pub mod Holding
-pub mod Spending

@@ -1,0 +1,6 @@
+pub mod Then
+pub mod Bytes
+pub mod FieldBytes
+pub mod Decimals
+pub mod LabelSets
+pub mod Prefixes

@@ -1,0 +1,4 @@
+pub mod Cut
+pub mod Shapes
+pub mod WordTables
+mod FormulaLetters

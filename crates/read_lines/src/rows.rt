@@ -1,0 +1,185 @@
+// Step lines as rows.
+use crate::StepLine;
+use crate::words;
+use read_fields::Decimal;
+use read_fields::Labels;
+use read_fields::label_set;
+use read_fields::number;
+use read_formulas::Span;
+use read_formulas::formulas::interval;
+use request::ranges;
+use step_rows::StepRow;
+use step_rows::lines::HALF;
+ghost use mathlib.Core.Path.{_≡_};
+ghost use mathlib.Core.List.{[], _∷_};
+ghost use Prim.Native.Nat.{_≤_};
+ghost use lib.ListN.{length, drop};
+ghost use Rattle.logic.specs.Interval.{noInterval};
+ghost use Rattle.request.specs.Range.{maxBytes};
+ghost use Rattle.request.specs.Read.{stepLine};
+ghost use Rattle.read_formulas.specs.Line.{readLine};
+ghost use Rattle.step_rows.specs.StepRows.{stepRow};
+ghost use Rattle.read_lines.specs.Step.{opOf, stepReader, labelReader, stepLineOf};
+
+// The number of the step whose word is the two letters; 22 for no step.
+fn op_of(a: u8, b: u8) -> u32
+    ensures { λ r. ⌜ r ≡ opOf (a ∷ b ∷ []) ⌝ }
+{
+    let n = (a as u32) * words::BASE + (b as u32);
+    match n {
+        words::AF => 0,
+        words::OR => 1,
+        words::GR => 2,
+        words::P1 => 3,
+        words::P2 => 4,
+        words::BR => 5,
+        words::HR => 6,
+        words::SR => 7,
+        words::WR => 8,
+        words::TR => 9,
+        words::AX => 10,
+        words::CP => 11,
+        words::OL => 12,
+        words::W1 => 13,
+        words::W2 => 14,
+        words::BL => 15,
+        words::HL => 16,
+        words::SL => 17,
+        words::TL => 18,
+        words::PL => 19,
+        words::LL => 20,
+        words::UL => 21,
+        _ => 22,
+    }
+}
+
+// A step without an interval.
+fn plain_step(op: u32, label: u32, high: u32, low: u32) -> StepRow
+    ensures { λ r. ⌜ r ≡ stepRow op label high low noInterval ⌝ }
+{
+    StepRow {
+        op,
+        label,
+        high,
+        low,
+        interval: intervals::none(),
+    }
+}
+
+// `tr`: a set of labels
+fn set_fields(s: &[u8], at: u32) -> StepLine
+    requires { ⌜ length (now s) ≤ maxBytes ⌝ }
+    ensures { λ r. ⌜ stepLineOf (now (s .entry)) r ≡ readLine (stepReader 9) (drop at (now (s .entry))) ⌝ }
+{
+    let f = label_set(s, at, 10);
+    let Labels::Set(v, i) = f else {
+        return StepLine::Broken;
+    };
+    let high = (v / HALF) as u32;
+    let low = (v % HALF) as u32;
+    StepLine::Step(plain_step(9, 0, high, low), i)
+}
+
+// A label alone.
+fn label_fields(s: &[u8], at: u32, op: u32) -> StepLine
+    requires { ⌜ length (now s) ≤ maxBytes ⌝ }
+    ensures { λ r. ⌜ stepLineOf (now (s .entry)) r ≡ readLine (labelReader op) (drop at (now (s .entry))) ⌝ }
+{
+    let f = number(s, at, 0, ranges::LABEL_LAST, 10);
+    let Decimal::Number(label, i) = f else {
+        return StepLine::Broken;
+    };
+    StepLine::Step(plain_step(op, label, 0, 0), i)
+}
+
+// `ll`: a label, a set of labels, an interval
+fn lolli_fields(s: &[u8], at: u32) -> StepLine
+    requires { ⌜ length (now s) ≤ maxBytes ⌝ }
+    ensures { λ r. ⌜ stepLineOf (now (s .entry)) r ≡ readLine (stepReader 20) (drop at (now (s .entry))) ⌝ }
+{
+    let f = number(s, at, 0, ranges::LABEL_LAST, 44);
+    let Decimal::Number(label, i) = f else {
+        return StepLine::Broken;
+    };
+    let g = label_set(s, i, 44);
+    let Labels::Set(v, j) = g else {
+        return StepLine::Broken;
+    };
+    let h = interval(s, j, 10);
+    let Span::Minutes(w, k) = h else {
+        return StepLine::Broken;
+    };
+    let high = (v / HALF) as u32;
+    let low = (v % HALF) as u32;
+    StepLine::Step(
+        StepRow {
+            op: 20,
+            label,
+            high,
+            low,
+            interval: w,
+        },
+        k,
+    )
+}
+
+// `ul`: a label, an interval
+fn implies_fields(s: &[u8], at: u32) -> StepLine
+    requires { ⌜ length (now s) ≤ maxBytes ⌝ }
+    ensures { λ r. ⌜ stepLineOf (now (s .entry)) r ≡ readLine (stepReader 21) (drop at (now (s .entry))) ⌝ }
+{
+    let f = number(s, at, 0, ranges::LABEL_LAST, 44);
+    let Decimal::Number(label, i) = f else {
+        return StepLine::Broken;
+    };
+    let g = interval(s, i, 10);
+    let Span::Minutes(w, j) = g else {
+        return StepLine::Broken;
+    };
+    StepLine::Step(
+        StepRow {
+            op: 21,
+            label,
+            high: 0,
+            low: 0,
+            interval: w,
+        },
+        j,
+    )
+}
+
+// One of the 22 step lines.
+pub fn read_step(s: &[u8], at: u32) -> StepLine
+    requires { ⌜ length (now s) ≤ maxBytes ⌝ }
+    ensures { λ r. ⌜ stepLineOf (now (s .entry)) r ≡ readLine stepLine (drop at (now (s .entry))) ⌝ }
+{
+    let i = at as usize;
+    if s.len() <= i + 2 {
+        return StepLine::Broken;
+    }
+    let op = op_of(s[i], s[i + 1]);
+    let stop = s[i + 2];
+    let j = at + 3;
+    if op < 9 {
+        if stop != 10 {
+            return StepLine::Broken;
+        }
+        return StepLine::Step(plain_step(op, 0, 0, 0), j);
+    }
+    if stop != 44 {
+        return StepLine::Broken;
+    }
+    if op == 9 {
+        return set_fields(s, j);
+    }
+    if op < 20 {
+        return label_fields(s, j, op);
+    }
+    if op == 20 {
+        return lolli_fields(s, j);
+    }
+    if op == 21 {
+        return implies_fields(s, j);
+    }
+    StepLine::Broken
+}

@@ -1,0 +1,45 @@
+-- `read_steps` meets its contract: each turn reads a line.
+use Prim.Native.Nat.{_-_}
+use borrow.Author.Needs.{needs}
+use Rattle.read_lines.specs.Step.{stepLineOf}
+use Rattle.read_fields.proofs.Then.{seen}
+use Rattle.read_rest.proofs.Reading.{Reading, first-reading, no-step, next-reading, more-bytes}
+use Rattle.read_rest.proofs.Reading.{all-lines-read}
+use Rattle.read_rest.proofs.read_steps.Statement.{statement}
+use Rattle.read_rest.proofs.read_steps.Tie as tie
+
+abbrev Inv-loop : tie.InvT-loop
+Inv-loop s count rows₀ at₀ k₀ n₀ rows at k n = Reading s count rows at k n
+
+abbrev μ-loop : tie.MeasureT-loop
+μ-loop s count rows₀ at₀ k₀ n₀ rows at k n = count - k
+
+pub read-steps-spec : {M : Type 1} → statement M
+read-steps-spec =
+    tie.close
+    (tie.spec
+    Inv-loop
+    μ-loop
+    (λ c κs. search needs)
+    (λ c. first-reading _ _ _ (c .rows-sized .ensures))
+    (λ c κs. search needs)
+    (λ c. search needs)
+    (λ c. search needs)
+    (λ c. let l = c .before .before .before in
+    no-step (l .before .loop .inv) (l .loop-test .taken)
+    (seen (stepLineOf _) (c .before .before .read-step .ensures) (c .enum-told .given .1)))
+    (λ c κs. search needs)
+    (λ c. search needs)
+    (λ c κs. search needs)
+    (λ c. search needs)
+    (λ c. search needs)
+    (λ c. let d = c .before .before .before .before in
+    let l = d .before .before .before in
+    next-reading (l .before .loop .inv) _ _ _ _ (l .loop-test .taken)
+    (l .before .before .before .before .before .pre .few)
+    (seen (stepLineOf _) (d .before .before .read-step .ensures) (d .line .given .1)) (c .put-step .ensures)
+    (c .before .before .turns .ensures .0) (c .before .before .turns .ensures .1)
+    (search needs))
+    (λ c. search needs)
+    (λ c. more-bytes (c .before .before .loop .inv) (c .before .loop-test .left) (c .if1 .taken))
+    (λ c. all-lines-read (c .before .before .loop .inv) (c .before .loop-test .left) (c .if1 .left)))

@@ -1,4 +1,0 @@
-pub mod Lines
-pub mod Splits
-mod Parting
-mod Keeping

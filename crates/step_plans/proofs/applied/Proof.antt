@@ -1,0 +1,11 @@
+-- `applied` meets its contract.
+use mathlib.Core.Path.{_∙_}
+use borrow.Author.Needs.{needs}
+use Rattle.step_plans.proofs.applied.Statement.{statement}
+use Rattle.step_plans.proofs.applied.Tie as tie
+
+pub applied-spec : {M : Type 1} → statement M
+applied-spec =
+    tie.close
+    (tie.spec (λ c κs. search needs) (λ c κs. search needs) (λ c κs. search needs)
+    (λ c. c .when .ensures ∙ simp (c .before .assuming .ensures, c .before .before .proving .ensures)))

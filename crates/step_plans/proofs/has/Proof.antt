@@ -1,0 +1,15 @@
+-- `has` meets its contract.
+use mathlib.Core.Path.{sym}
+use native.Mathlib.Omega.{arith}
+use Rattle.step_plans.proofs.PlanTests.{no-member}
+use borrow.Author.Needs.{needs}
+use Rattle.step_plans.proofs.has.Statement.{statement}
+use Rattle.step_plans.proofs.has.Tie as tie
+
+returns : tie.Need-returns
+returns c = sym (no-member (c .before .args .d) (c .before .args .k) (omega arith) (omega arith))
+
+pub has-spec : {M : Type 1} → statement M
+has-spec =
+    tie.close
+    (tie.spec returns (λ c κs. search needs) (λ c. search needs))

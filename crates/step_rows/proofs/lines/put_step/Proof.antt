@@ -1,0 +1,18 @@
+-- `put_step` meets its contract.
+use native.Mathlib.Numerals.{add-one, add-two, add-three, add-four, add-five}
+use Rattle.step_rows.specs.StepRows.{putStepRow}
+use borrow.Author.Needs.{needs}
+use Rattle.step_rows.proofs.lines.put_step.Statement.{statement}
+use Rattle.step_rows.proofs.lines.put_step.Tie as tie
+
+returns : tie.Need-returns
+unfolding putStepRow
+returns c = simp (add-one, add-two, add-three, add-four, add-five)
+
+pub put-step-spec : {M : Type 1} → statement M
+put-step-spec =
+    tie.close
+    (tie.spec (λ c. search needs) (λ c. search needs) (λ c. search needs) (λ c. search needs) (λ c. search needs)
+    (λ c. search needs) (λ c. search needs) (λ c. search needs) (λ c. search needs) (λ c. search needs)
+    (λ c. search needs) (λ c. search needs) (λ c. search needs) (λ c. search needs) (λ c. search needs)
+    (λ c. search needs) (λ c. search needs) (λ c. search needs) returns)

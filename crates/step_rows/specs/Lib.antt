@@ -1,0 +1,2 @@
+pub mod LabelRows
+pub mod StepRows

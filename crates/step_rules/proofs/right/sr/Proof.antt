@@ -1,0 +1,7 @@
+-- `sr` meets its contract.
+use borrow.Author.Needs.{needs}
+use Rattle.step_rules.proofs.right.sr.Statement.{statement}
+use Rattle.step_rules.proofs.right.sr.Tie as tie
+
+pub sr-spec : {M : Type 1} → statement M
+sr-spec = tie.close (tie.spec (λ c κs. search needs) (λ c. c .one .ensures))

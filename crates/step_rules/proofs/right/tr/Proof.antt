@@ -1,0 +1,13 @@
+-- `tr` meets its contract.
+use mathlib.Core.Path.{_∙_}
+use borrow.Author.Needs.{needs}
+use Rattle.step_plans.proofs.PlanTests.{when-and}
+use Rattle.step_rules.proofs.right.tr.Statement.{statement}
+use Rattle.step_rules.proofs.right.tr.Tie as tie
+
+pub tr-spec : {M : Type 1} → statement M
+tr-spec =
+    tie.close
+    (tie.spec (λ c κs. search needs) (λ c κs. search needs) (λ c κs. search needs)
+    (λ c. c .goals .ensures
+    ∙ rw when-and (simp (c .before .subset .ensures, c .before .before .before .without .ensures))))

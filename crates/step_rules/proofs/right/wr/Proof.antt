@@ -1,0 +1,7 @@
+-- `wr` meets its contract.
+use borrow.Author.Needs.{needs}
+use Rattle.step_rules.proofs.right.wr.Statement.{statement}
+use Rattle.step_rules.proofs.right.wr.Tie as tie
+
+pub wr-spec : {M : Type 1} → statement M
+wr-spec = tie.close (tie.spec (λ c κs. search needs) (λ c. c .goals .ensures))

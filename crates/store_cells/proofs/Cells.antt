@@ -1,0 +1,45 @@
+-- Laws of a table in a flat list, for every base and width: what each cell is after a row is put, here or elsewhere.
+use mathlib.Core.Path.{_≡_}
+use mathlib.Core.List.{List}
+use Prim.Native.Nat.{ℕ, suc, _+_, _*_, _<_, _≤_}
+use native.Mathlib.Omega.{arith}
+use native.Mathlib.Nat.{add-suc, mul-le-mul-right, suc-mul}
+use native.Mathlib.Decide.{decLt}
+use lib.ListN.{length, getD}
+use lib.Seq.{sets, length-sets}
+use Rattle.store_cells.specs.Layout.{cell, putRow}
+use Rattle.logic.proofs.Stores.{sets-below, sets-above, sets-in}
+
+-- the tenth cell of a row, for proofs that count up to it
+pub add-nine : (n : ℕ) → n + 9 ≡ suc (n + 8)
+add-nine n = add-suc n 8
+
+-- rows do not overlap
+row-gap : (w i k : ℕ) → k < i → k * w + w ≤ i * w
+row-gap w i k h = let e = suc-mul k w in let m = mul-le-mul-right w h in omega arith
+
+module _ (l : List ℕ) (b w i : ℕ) (vs : List ℕ) where
+  pub length-putRow : length (putRow l b w i vs) ≡ length l
+  unfolding putRow
+  length-putRow = length-sets l _ vs
+
+  pub row-same : (f : ℕ) → b + i * w + length vs ≤ length l → f < length vs
+      → cell (putRow l b w i vs) b w i f ≡ getD vs f 0
+  unfolding putRow cell
+  row-same f p h = sets-in 0 vs l (b + i * w) f p h
+
+  pub put-below : (k : ℕ) → k < b → getD (putRow l b w i vs) k 0 ≡ getD l k 0
+  unfolding putRow
+  put-below k h = sets-below 0 vs l (b + i * w) k (omega arith)
+
+  pub put-above : (k : ℕ) → b + i * w + length vs ≤ k → getD (putRow l b w i vs) k 0 ≡ getD l k 0
+  unfolding putRow
+  put-above k h = sets-above 0 vs l (b + i * w) k h
+
+  pub row-other : length vs ≡ w → (k f : ℕ) → (k ≡ i → ⊥) → f < w → cell (putRow l b w i vs) b w k f ≡ cell l b w k f
+  unfolding putRow cell
+  row-other n k f h q = go (decLt k i)
+    where
+      go : Dec (k < i) → getD (sets l (b + i * w) vs) (b + k * w + f) 0 ≡ getD l (b + k * w + f) 0
+      go (yes p) = sets-below 0 vs l (b + i * w) (b + k * w + f) (omega (arith, row-gap w i k p))
+      go (no p) = sets-above 0 vs l (b + i * w) (b + k * w + f) (omega (arith, row-gap w k i (omega arith)))

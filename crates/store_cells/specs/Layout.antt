@@ -1,0 +1,187 @@
+-- The ledger's state as one list of numbers. The caller keeps one block of a fixed length and lends it to every call,
+-- so nothing is copied and nothing is allocated. Formula rows and credential rows each have one width, so that one law
+-- is enough for both.
+--
+--   0                  the count of formula lines
+--   1                  the count of live credentials
+--   2                  the next serial
+--   3                  the count of credential rows in use
+--   lineBase ..        200 rows of 10: a formula line's (document 01: a wording's) letter, a, b, its first interval
+--                      and its second, each from and to; then its formula's size, whether it is plain and whether it
+--                      is balanced (1 or 0), kept so that no later request goes through the formula's parts again
+--   credentialBase ..  1,024 rows of 5: a credential's (a coupon's) serial, kind (0 linear: single-use, 1
+--                      unrestricted: standing, 2 for one that has left: a gap), formula number (wording), and its
+--                      interval (window), from and to. Rows stand in the order of their serials, and a row that
+--                      leaves is only marked, so that no other one moves; there are twice as many rows as may live,
+--                      and when all are in use the live ones are moved together
+--   hintBase ..        1,024 hints: at serial mod 1,024 the row where the credential of that serial may stand. A hint
+--                      is only a guess that the search tests first: nothing is asked of its value
+use mathlib.Core.List.{List, [], _∷_}
+use mathlib.Core.Bool.{Bool}
+use mathlib.Core.Option.{Option, none, some}
+use Prim.Native.Nat.{ℕ, _+_, _*_, _%_}
+use lib.Dec.{eqb, ltb}
+use lib.ListN.{getD, set}
+use lib.Seq.{sets}
+use Rattle.logic.specs.Interval.{span}
+use Rattle.logic.specs.Formula.{bit}
+use Rattle.request.specs.declared.Kind.{Kind}
+use Rattle.request.specs.declared.Kind.the-variants.{Linear, Unrestricted}
+use Rattle.request.specs.Request.{Line}
+use Rattle.steps.specs.declared.Row.{Row}
+use Rattle.ledger.specs.declared.Credential.{Credential}
+use Rattle.ledger.specs.Table.{rowOf}
+use Rattle.ledger.specs.Checks.{maxFormulas, maxLive}
+use Rattle.logic.specs.Choice.{pick}
+
+-- Where each table starts, and how wide its rows are
+
+abbrev pub lineBase : ℕ
+lineBase = 4
+
+-- in a row the line's own numbers stand before its formula's size, plain and balanced
+abbrev pub sizeCell : ℕ
+sizeCell = 7
+
+abbrev pub plainCell : ℕ
+plainCell = sizeCell + 1
+
+abbrev pub balancedCell : ℕ
+balancedCell = plainCell + 1
+
+abbrev pub lineWidth : ℕ
+lineWidth = balancedCell + 1
+
+abbrev pub credentialBase : ℕ
+credentialBase = lineBase + maxFormulas * lineWidth
+
+abbrev pub credentialWidth : ℕ
+credentialWidth = 5
+
+-- how many credential rows there are: twice as many as may live
+abbrev pub maxRows : ℕ
+maxRows = 2 * maxLive
+
+abbrev pub hintBase : ℕ
+hintBase = credentialBase + maxRows * credentialWidth
+
+-- how many numbers there are
+abbrev pub cells : ℕ
+cells = hintBase + maxRows
+
+-- the kind of a credential that has left
+abbrev pub gapKind : ℕ
+gapKind = 2
+
+-- A table starts at b and its rows are w numbers wide: cell f of row i, and a row put in its place.
+unfoldable pub cell : List ℕ → ℕ → ℕ → ℕ → ℕ → ℕ
+cell l b w i f = getD l (b + i * w + f) 0
+
+unfoldable pub putRow : List ℕ → ℕ → ℕ → ℕ → List ℕ → List ℕ
+putRow l b w i vs = sets l (b + i * w) vs
+
+-- The counts and the next serial
+
+abbrev pub lineCount : List ℕ → ℕ
+lineCount l = getD l 0 0
+
+abbrev pub liveCount : List ℕ → ℕ
+liveCount l = getD l 1 0
+
+abbrev pub nextSerial : List ℕ → ℕ
+nextSerial l = getD l 2 0
+
+abbrev pub rowCount : List ℕ → ℕ
+rowCount l = getD l 3 0
+
+abbrev pub putLineCount : List ℕ → ℕ → List ℕ
+putLineCount l n = set l 0 n
+
+abbrev pub putLiveCount : List ℕ → ℕ → List ℕ
+putLiveCount l n = set l 1 n
+
+abbrev pub putNext : List ℕ → ℕ → List ℕ
+putNext l n = set l 2 n
+
+abbrev pub putRowCount : List ℕ → ℕ → List ℕ
+putRowCount l n = set l 3 n
+
+-- Formula rows
+
+unfoldable pub lineCell : List ℕ → ℕ → ℕ → ℕ
+lineCell l i f = cell l lineBase lineWidth i f
+
+abbrev pub rowFrom : (ℕ → ℕ) → Row
+rowFrom g = record { letter = g 0; a = g 1; b = g 2; first = span (g 3) (g 4); second = span (g 5) (g 6) }
+
+-- the row of a formula's number; a number that names none reads as 1
+unfoldable pub rowAt : List ℕ → ℕ → Row
+rowAt l n =
+    pick (ltb n maxFormulas) (pick (ltb n (lineCount l)) (rowFrom (lineCell l n)) (rowOf Line.one)) (rowOf Line.one)
+
+unfoldable pub sizeAt : List ℕ → ℕ → ℕ
+sizeAt l n = lineCell l n sizeCell
+
+unfoldable pub plainAt : List ℕ → ℕ → ℕ
+plainAt l n = lineCell l n plainCell
+
+unfoldable pub balancedAt : List ℕ → ℕ → ℕ
+balancedAt l n = lineCell l n balancedCell
+
+abbrev pub lineCells : Row → ℕ → Bool → Bool → List ℕ
+lineCells r size plain balanced =
+    r .letter ∷ r .a ∷ r .b ∷ r .first .from ∷ r .first .to ∷ r .second .from ∷ r .second .to ∷
+    size ∷ bit plain ∷ bit balanced ∷ []
+
+unfoldable pub putLine : List ℕ → ℕ → Row → ℕ → Bool → Bool → List ℕ
+putLine l i r size plain balanced = putRow l lineBase lineWidth i (lineCells r size plain balanced)
+
+-- Credential rows
+
+abbrev pub kindFrom : ℕ → Kind
+kindFrom n = pick (eqb n 0) Linear Unrestricted
+
+abbrev pub kindNumber : Kind → ℕ
+kindNumber Linear = 0
+kindNumber Unrestricted = 1
+
+abbrev pub credentialFrom : (ℕ → ℕ) → Credential
+credentialFrom g = record { serial = g 0; kind = kindFrom (g 1); formula = g 2; interval = span (g 3) (g 4) }
+
+-- cell f of row i, and its place in the list
+abbrev pub credentialCell : List ℕ → ℕ → ℕ → ℕ
+credentialCell l i = cell l credentialBase credentialWidth i
+
+abbrev pub credentialPlace : ℕ → ℕ → ℕ
+credentialPlace i f = credentialBase + i * credentialWidth + f
+
+unfoldable pub credentialAt : List ℕ → ℕ → Credential
+credentialAt l i = credentialFrom (credentialCell l i)
+
+-- whether the credential of row i has left
+unfoldable pub gapAt : List ℕ → ℕ → Bool
+gapAt l i = eqb (credentialCell l i 1) gapKind
+
+-- the credential that stands in row i, if it has not left
+unfoldable pub entryAt : List ℕ → ℕ → Option Credential
+entryAt l i = pick (gapAt l i) none (some (credentialAt l i))
+
+abbrev pub credentialCells : Credential → List ℕ
+credentialCells c =
+    c .serial ∷ kindNumber (c .kind) ∷ c .formula ∷ c .interval .from ∷ c .interval .to ∷ []
+
+unfoldable pub putCredential : List ℕ → ℕ → Credential → List ℕ
+putCredential l i c = putRow l credentialBase credentialWidth i (credentialCells c)
+
+-- the credential of row i leaves
+unfoldable pub putGap : List ℕ → ℕ → List ℕ
+putGap l i = set l (credentialPlace i 1) gapKind
+
+-- Hints
+
+-- the row where the credential of serial s may stand: a guess, of which nothing is known
+unfoldable pub hintAt : List ℕ → ℕ → ℕ
+hintAt l s = getD l (hintBase + s % maxRows) 0
+
+unfoldable pub putHint : List ℕ → ℕ → ℕ → List ℕ
+putHint l s i = set l (hintBase + s % maxRows) i

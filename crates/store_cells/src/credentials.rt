@@ -1,0 +1,102 @@
+// The credentials (document 01: the coupons): their rows and the hints.
+use crate::CREDENTIAL_WIDTH;
+use crate::CREDENTIALS;
+use crate::HINTS;
+use crate::ROWS;
+use crate::Store;
+use ledger::Credential;
+use logic::Interval;
+use request::Kind;
+ghost use mathlib.Core.Path.{_≡_};
+ghost use Prim.Native.Nat.{_<_};
+ghost use Rattle.store_cells.specs.Layout.{maxRows};
+ghost use Rattle.store_cells.specs.Layout.{kindFrom, kindNumber, credentialAt, gapAt, putCredential, putGap};
+ghost use Rattle.store_cells.specs.Layout.{hintAt, putHint};
+
+// the kind of a credential that has left
+const GAP: u32 = 2;
+
+fn kind_from(n: u32) -> Kind
+    ensures { λ r. ⌜ r ≡ kindFrom n ⌝ }
+{
+    if n == 0 {
+        Kind::Linear
+    } else {
+        Kind::Unrestricted
+    }
+}
+
+fn kind_number(k: Kind) -> u32
+    ensures { λ r. ⌜ r ≡ kindNumber k ⌝ }
+{
+    match k {
+        Kind::Linear => 0,
+        Kind::Unrestricted => 1,
+    }
+}
+
+pub fn serial(store: &Store, i: u32) -> u32
+    requires { ⌜ i < maxRows ⌝ }
+    ensures { λ r. ⌜ r ≡ credentialAt (now (store .entry)) i .serial ⌝ }
+{
+    store[CREDENTIALS + (i as usize) * CREDENTIAL_WIDTH]
+}
+
+pub fn credential(store: &Store, i: u32) -> Credential
+    requires { ⌜ i < maxRows ⌝ }
+    ensures { λ r. ⌜ r ≡ credentialAt (now (store .entry)) i ⌝ }
+{
+    let at = CREDENTIALS + (i as usize) * CREDENTIAL_WIDTH;
+    let kind = kind_from(store[at + 1]);
+    Credential {
+        serial: store[at],
+        kind,
+        formula: store[at + 2],
+        interval: Interval {
+            from: store[at + 3],
+            to: store[at + 4],
+        },
+    }
+}
+
+pub fn gap(store: &Store, i: u32) -> bool
+    requires { ⌜ i < maxRows ⌝ }
+    ensures { λ r. ⌜ r ≡ gapAt (now (store .entry)) i ⌝ }
+{
+    store[CREDENTIALS + (i as usize) * CREDENTIAL_WIDTH + 1] == GAP
+}
+
+pub fn put_gap(store: &mut Store, i: u32)
+    requires { ⌜ i < maxRows ⌝ }
+    ensures { λ _. ⌜ now (store .exit) ≡ putGap (now (store .entry)) i ⌝ }
+{
+    store[CREDENTIALS + (i as usize) * CREDENTIAL_WIDTH + 1] = GAP;
+}
+
+pub fn put_credential(store: &mut Store, i: u32, c: Credential)
+    requires { ⌜ i < maxRows ⌝ }
+    ensures { λ _. ⌜ now (store .exit) ≡ putCredential (now (store .entry)) i c ⌝ }
+{
+    let kind = c.kind;
+    let k = kind_number(kind);
+    let w = c.interval;
+    let at = CREDENTIALS + (i as usize) * CREDENTIAL_WIDTH;
+    store[at] = c.serial;
+    store[at + 1] = k;
+    store[at + 2] = c.formula;
+    store[at + 3] = w.from;
+    store[at + 4] = w.to;
+}
+
+// The row where the credential of a serial may stand: any number may be answered.
+pub fn hint(store: &Store, serial: u32) -> u32
+    ensures { λ r. ⌜ r ≡ hintAt (now (store .entry)) serial ⌝ }
+{
+    store[HINTS + (serial % ROWS) as usize]
+}
+
+pub fn put_hint(store: &mut Store, serial: u32, i: u32)
+    ensures { λ _. ⌜ now (store .exit) ≡ putHint (now (store .entry)) serial i ⌝ }
+{
+    store[HINTS + (serial % ROWS) as usize] = i;
+}

@@ -1,0 +1,32 @@
+// The numbers of the ledger's state, read and put: the counts at the head of the array (head.rt), the formula rows
+// (lines.rt), the credential rows and the hints (credentials.rt). No other functions know where a number stands in the
+// array. specs/Layout.antt has the layout and its reason.
+pub mod credentials;
+pub mod head;
+pub mod lines;
+
+// where the formula rows start; how many numbers a line has, and what stands after them; how wide a row is
+const LINES: usize = 4;
+
+const SIZE: usize = 7;
+
+const PLAIN: usize = SIZE + 1;
+
+const BALANCED: usize = PLAIN + 1;
+
+const LINE_WIDTH: usize = BALANCED + 1;
+
+// where the credential rows start, how wide they are and how many there are: twice as many as may live
+const CREDENTIALS: usize = LINES + ledger::MAX_FORMULAS as usize * LINE_WIDTH;
+
+const CREDENTIAL_WIDTH: usize = 5;
+
+pub const ROWS: u32 = 2 * ledger::MAX_LIVE;
+
+// where the hints start
+const HINTS: usize = CREDENTIALS + ROWS as usize * CREDENTIAL_WIDTH;
+
+// how many numbers there are
+pub const CELLS: usize = HINTS + ROWS as usize;
+
+pub type Store = [u32; CELLS];

@@ -1,0 +1,193 @@
+-- Moving the live credentials together, one row a turn.
+use Prim.Native.Nat.{ℕ, _+_, _<_, _≤_}
+use mathlib.Core.Path.{_≡_, refl, sym, ap, subst, _∙_}
+use mathlib.Core.List.{List, [], _∷_, _++_, append-nil}
+use mathlib.Core.Option.{none, some}
+use mathlib.Core.Bool.{Bool, true, false}
+use native.Mathlib.Omega.{arith}
+use native.Mathlib.Decide.{decLt}
+use lib.ListN.{length}
+use Rattle.logic.specs.Choice.{pick}
+use Rattle.logic.specs.Multiset.{Every}
+use Rattle.ledger.specs.declared.Credential.{Credential}
+use Rattle.ledger.specs.Ledger.{Ledger}
+use Rattle.ledger.proofs.Answers.{some-none, some-inj}
+use Rattle.ledger.specs.Bounds.{Rises, Below}
+use Rattle.store.specs.Tab.{tab, present}
+use Rattle.store_cells.specs.Layout.{maxRows, lineCount, liveCount, nextSerial, rowCount, credentialAt, gapAt, entryAt}
+use Rattle.store_cells.specs.Layout.{putCredential, putRowCount, putHint}
+use Rattle.store.specs.Store.{ledgerOf, RowsOrdered, Good, Compacted}
+use Rattle.store.proofs.Tabs.{length-tab, tab-ext, tab-append, every-tab, every-present, present-next, present-all}
+use Rattle.store_credentials.proofs.RowSerials.{rises-between}
+use Rattle.store_cells.proofs.CellWrites.{SameLines, lines-self, Stays, stays-credential, stays-gap, head-lines}
+use Rattle.store_cells.proofs.CellWrites.{head-same}
+use Rattle.store_cells.proofs.CellWrites.{head-other, head-stays}
+use Rattle.store_cells.proofs.CredentialRows.{entry-gap, entry-there, credential-same, credential-there}
+use Rattle.store_cells.proofs.CredentialRows.{credential-stays}
+use Rattle.store_cells.proofs.CredentialRows.{credential-before, credential-lines, hint-before, hint-lines, hint-stays}
+use Rattle.store_credentials.proofs.Stands.{stands-live, ledger-live}
+
+-- Every live credential is of a formula of the ledger.
+live-named : (l : List ℕ) → RowsOrdered l → Every (λ c. c .formula < lineCount l) (ledgerOf l .live)
+unfolding ledgerOf entryAt
+live-named l o = every-present _ (rowCount l) (entryAt l) (λ i c q. go i c q (gapAt l i))
+  where
+    go : (i : ℕ) (c : Credential) → i < rowCount l → (b : Bool)
+        → pick b none (some (credentialAt l i)) ≡ some c → c .formula < lineCount l
+    go i c q true e = absurd (some-none (sym e))
+    go i c q false e = subst (λ (d : Credential). d .formula < lineCount l) (some-inj e) (o .named i q)
+
+-- l is the store at the start, m when row i is next: the live ones of the rows before it stand in the first k rows
+pub record Gathering (l m : List ℕ) (i k : ℕ) : Type 0 where
+  pub lines : SameLines l m
+  pub count : liveCount m ≡ liveCount l
+  pub next : nextSerial m ≡ nextSerial l
+  pub low : k ≤ i
+  pub moved : tab k (credentialAt m) ≡ present (tab i (entryAt l))
+  pub full : (j : ℕ) → j < k → gapAt m j ≡ false
+  pub rest : (j : ℕ) → i ≤ j → j < maxRows → Stays l m j
+
+module _ (l : List ℕ) where
+  pub gather-start : Good l → Gathering l l 0 0
+  unfolding tab present
+  gather-start g = record {
+    lines = lines-self l (g .long);
+    count = refl;
+    next = refl;
+    low = omega arith;
+    moved = refl;
+    full = λ j q. absurd (omega arith);
+    rest = λ j q h f p. refl;
+  }
+
+  module _ (m : List ℕ) (i k : ℕ) (v : Gathering l m i k) where
+    -- a gap is passed
+    pub gather-gap : i < maxRows → gapAt m i ≡ true → Gathering l m (i + 1) k
+    gather-gap h e = record {
+      lines = v .lines;
+      count = v .count;
+      next = v .next;
+      low = omega (arith, v .low);
+      moved = v .moved ∙ sym (present-next i (entryAt l)
+          ∙ rw (entry-gap l i (sym (stays-gap l m i (v .rest i (omega arith) h)) ∙ e)) (append-nil _));
+      full = v .full;
+      rest = λ j q. v .rest j (omega arith);
+    }
+
+    -- a credential moves to row k
+    module _ (c : Credential) (h : i < maxRows) (e : gapAt m i ≡ false) (d : c ≡ credentialAt m i) where
+      abbrev m′ : List ℕ
+      m′ = putCredential m k c
+
+      full-next : (j : ℕ) → j < k + 1 → Dec (j < k) → gapAt m′ j ≡ false
+      full-next j q (yes z) = stays-gap m m′ j (credential-stays m k c j (omega arith)) ∙ v .full j z
+      full-next j q (no z) =
+          let x : j ≡ k = omega arith in
+          rw x (credential-there m k c (v .lines .long) (omega (arith, v .low)))
+
+      entry-moved : entryAt l i ≡ some c
+      entry-moved =
+          entry-there l i (sym (stays-gap l m i (v .rest i (omega arith) h)) ∙ e)
+          ∙ ap some (sym (d ∙ stays-credential l m i (v .rest i (omega arith) h)))
+
+      moved-next : tab (k + 1) (credentialAt m′) ≡ present (tab (i + 1) (entryAt l))
+      moved-next =
+          tab-append k (credentialAt m) (credentialAt m′) c
+          (λ j q. stays-credential m m′ j (credential-stays m k c j (omega arith)))
+          (credential-same m k c (v .lines .long) (omega (arith, v .low)))
+          ∙ ap (λ (cs : List Credential). cs ++ (c ∷ [])) (v .moved)
+          ∙ sym (rw (present-next i (entryAt l), entry-moved))
+
+      pub gather-move : Gathering l (putCredential m k c) (i + 1) (k + 1)
+      gather-move = record {
+        lines = credential-lines m k c l (v .lines);
+        count = credential-before m k c 1 (omega arith) ∙ v .count;
+        next = credential-before m k c 2 (omega arith) ∙ v .next;
+        low = omega (arith, v .low);
+        moved = moved-next;
+        full = λ j q. full-next j q (decLt j k);
+        rest = λ j q z f p. credential-stays m k c j (omega (arith, v .low)) f p ∙ v .rest j (omega arith) z f p;
+      }
+
+    -- a hint changes nothing
+    pub gather-hint : k ≤ maxRows → (s r : ℕ) → Gathering l (putHint m s r) i k
+    gather-hint h s r =
+        let x = putHint m s r in
+        let z : (j : ℕ) → j < k → Stays m x j = λ j q. hint-stays m s r j (omega arith) in
+        record {
+          lines = hint-lines m s r l (v .lines);
+          count = hint-before m s r 1 (omega arith) ∙ v .count;
+          next = hint-before m s r 2 (omega arith) ∙ v .next;
+          low = v .low;
+          moved = tab-ext k (credentialAt x) (credentialAt m) (λ j q. stays-credential m x j (z j q)) ∙ v .moved;
+          full = λ j q. stays-gap m x j (z j q) ∙ v .full j q;
+          rest = λ j q y f p. hint-stays m s r j y f p ∙ v .rest j q y f p;
+        }
+
+  -- when all rows are passed
+  module _ (m : List ℕ) (k : ℕ) (g : Good l) (v : Gathering l m (rowCount l) k) where
+    abbrev done : List ℕ
+    done = putRowCount m k
+
+    done-lines : SameLines l done
+    done-lines = head-lines l m 3 k (omega arith) (omega arith) (v .lines)
+
+    done-used : rowCount done ≡ k
+    done-used = head-same m 3 k (v .lines .long) (omega arith)
+
+    done-next : nextSerial done ≡ nextSerial l
+    done-next = head-other m 3 k 2 (omega arith) ∙ v .next
+
+    done-stays : (j : ℕ) → Stays m done j
+    done-stays j = head-stays m 3 k j (omega arith)
+
+    done-rows : tab k (credentialAt done) ≡ ledgerOf l .live
+    unfolding ledgerOf
+    done-rows =
+        tab-ext k (credentialAt done) (credentialAt m) (λ j q. stays-credential m done j (done-stays j)) ∙ v .moved
+
+    done-live : present (tab (rowCount done) (entryAt done)) ≡ ledgerOf l .live
+    done-live =
+        rw done-used (present-all k (entryAt done) (credentialAt done)
+        (λ j q. entry-there done j (stays-gap m done j (done-stays j) ∙ v .full j q)))
+        ∙ done-rows
+
+    done-ledger : ledgerOf done ≡ ledgerOf l
+    unfolding ledgerOf
+    done-ledger = ledger-live l done g done-lines _ _ done-live done-next
+
+    done-length : k ≡ length (ledgerOf l .live)
+    done-length = sym (length-tab k (credentialAt done)) ∙ ap length done-rows
+
+    rises : Rises 0 (tab k (credentialAt done))
+    rises = subst (Rises 0) (sym done-rows) (g .bounded .rises)
+
+    below : Below (ledgerOf l .next) (tab k (credentialAt done))
+    below = subst (Below (ledgerOf l .next)) (sym done-rows) (g .bounded .below)
+
+    done-ordered : RowsOrdered done
+    unfolding ledgerOf
+    done-ordered = record {
+      few = omega (arith, done-used, v .low, g .ordered .few);
+      counted = head-other m 3 k 1 (omega arith) ∙ v .count ∙ g .ordered .counted
+          ∙ ap (λ (t : Ledger). length (t .live)) (sym done-ledger);
+      between = λ i j p q. rises-between 0 k (credentialAt done) i j rises p (omega (arith, done-used));
+      below = λ i q. omega (arith, done-next, every-tab _ k (credentialAt done) below i (omega (arith, done-used)));
+      named = λ i q. omega (
+        arith,
+        done-lines .count,
+        every-tab _ k (credentialAt done) (subst (Every _) (sym done-rows) (live-named l (g .ordered))) i
+            (omega (arith, done-used)),
+      );
+    }
+
+    done-compact : Compacted l done
+    done-compact = record {
+      stands = stands-live l done g done-lines _ done-ordered done-ledger (g .bounded);
+      rows = done-used ∙ done-length;
+    }
+
+  -- by the stores that make it
+  pub compact-done : {m m₁ : List ℕ} {i k : ℕ} → Good l → i ≡ rowCount l → Gathering l m i k → m₁ ≡ putRowCount m k
+      → Compacted l m₁
+  compact-done {m} {m₁} {i} {k} g e v q = rw q (done-compact m k g (subst (λ (x : ℕ). Gathering l m x k) e v))

@@ -1,0 +1,5 @@
+mod RowSerials
+mod Stands
+mod Removed
+mod Gather
+mod Given

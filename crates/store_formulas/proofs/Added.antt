@@ -1,0 +1,147 @@
+-- What adding a formula row does to the ledger that a store stands for. Of the array only the laws of
+-- cells/proofs/Rows are used.
+use mathlib.Core.Path.{_≡_, sym, ap, subst, _∙_}
+use mathlib.Core.List.{List, [], _∷_, _++_}
+use mathlib.Core.Bool.{Bool, true, false}
+use Prim.Native.Nat.{ℕ, _+_, _<_}
+use native.Mathlib.Omega.{arith}
+use native.Mathlib.Decide.{ℕ-discrete}
+use borrow.Author.Tests.{eq-eqb}
+use lib.ListN.{getD}
+use Rattle.logic.specs.Formula.{Formula, size, plain, bit}
+use Rattle.logic.specs.Counts.{balanced}
+use Rattle.steps.specs.declared.Row.{Row}
+use Rattle.ledger.specs.Table.{form}
+use Rattle.ledger.specs.Ledger.{Ledger, formula}
+use Rattle.ledger.specs.Checks.{maxFormulas}
+use Rattle.ledger.specs.Calls.{withLine}
+use Rattle.ledger.proofs.FormulaTable.{formula-snoc, formula-stays}
+use Rattle.ledger.specs.Bounds.{Bounded}
+use Rattle.ledger.proofs.Bounds.{line-bounded}
+use Rattle.store.specs.Tab.{tab}
+use Rattle.store_cells.specs.Layout.{lineCount, lineCell, rowAt, sizeAt, plainAt, balancedAt, lineCells, putLineCount}
+use Rattle.store_cells.specs.Layout.{putLine, sizeCell, plainCell, balancedCell, lineWidth}
+use Rattle.store.specs.Store.{lineOf, ledgerOf, Canonical, StandsFor, Wordable}
+use Rattle.store.proofs.Tabs.{tab-append}
+use Rattle.store_cells.proofs.CellWrites.{row-ext, row-below, SameLive, count-live, head-same, head-line, line-same}
+use Rattle.store_cells.proofs.CellWrites.{line-other}
+use Rattle.store_cells.proofs.CellWrites.{line-live}
+use Rattle.store.proofs.Views.{lines-length}
+use Rattle.store.proofs.Live.{same-live, same-ordered}
+
+-- what is kept of row i is right
+record Right (m : List ℕ) (i : ℕ) : Type 0 where
+  canonical : Canonical (rowAt m i)
+  sized : sizeAt m i ≡ size (formula (ledgerOf m) i)
+  plain-kept : plainAt m i ≡ bit (plain (formula (ledgerOf m) i))
+  balancedly : balancedAt m i ≡ bit (balanced (formula (ledgerOf m) i))
+
+module _ (l : List ℕ) (r : Row) (s : ℕ) (p b : Bool) (a : Wordable l r s p b) where
+  abbrev n : ℕ
+  n = lineCount l
+
+  abbrev rowed : List ℕ
+  rowed = putLine l n r s p b
+
+  abbrev m : List ℕ
+  m = putLineCount rowed (n + 1)
+
+  abbrev t : Ledger
+  t = ledgerOf l
+
+  room : n < maxFormulas
+  room = omega (arith, lines-length l, a .room)
+
+  rowed-live : SameLive l rowed
+  rowed-live = line-live l n r s p b (a .good .long) room
+
+  live : SameLive l m
+  live = count-live l rowed (n + 1) rowed-live
+
+  count : lineCount m ≡ n + 1
+  count = head-same rowed 0 (n + 1) (rowed-live .long) (omega arith)
+
+  new-cell : (f : ℕ) → f < lineWidth → lineCell m n f ≡ getD (lineCells r s p b) f 0
+  new-cell f q = head-line rowed 0 (n + 1) n f (omega arith) ∙ line-same l n r s p b (a .good .long) room f q
+
+  old-cell : (k f : ℕ) → k < n → f < lineWidth → lineCell m k f ≡ lineCell l k f
+  old-cell k f h q = head-line rowed 0 (n + 1) k f (omega arith) ∙ line-other l n r s p b k f (omega arith) q
+
+  new-row : rowAt m n ≡ r
+  new-row =
+      row-below m n (omega (arith, count)) room
+      ∙ row-ext (lineCell m n) (λ f. getD (lineCells r s p b) f 0) (λ f q. new-cell f (omega arith))
+
+  old-row : (k : ℕ) → k < n → rowAt m k ≡ rowAt l k
+  old-row k h =
+      row-below m k (omega (arith, count)) (omega (arith, room))
+      ∙ row-ext (lineCell m k) (lineCell l k) (λ f q. old-cell k f h (omega arith))
+      ∙ sym (row-below l k h (omega (arith, room)))
+
+  added-lines : tab (lineCount m) (λ i. lineOf (rowAt m i)) ≡ t .lines ++ (lineOf r ∷ [])
+  unfolding ledgerOf
+  added-lines =
+      rw count (tab-append n (λ i. lineOf (rowAt l i)) (λ i. lineOf (rowAt m i)) (lineOf r)
+      (λ i q. ap lineOf (old-row i q)) (ap lineOf new-row))
+
+  ledger : ledgerOf m ≡ withLine t (lineOf r)
+  unfolding ledgerOf
+  ledger j = record { lines = added-lines j; live = same-live l m live (a .good .ordered) j; next = live .next j }
+
+  new-formula : formula (ledgerOf m) n ≡ form (formula t) (lineOf r)
+  new-formula =
+      ap (λ (x : Ledger). formula x n) ledger ∙ formula-snoc t (lineOf r) n
+      ∙ ap (λ (z : Bool). elim z as (λ _. Formula) [ true ↦ form (formula t) (lineOf r) | false ↦ formula t n ])
+      (eq-eqb n _ (sym (lines-length l)))
+
+  old-formula : (k : ℕ) → k < n → formula (ledgerOf m) k ≡ formula t k
+  old-formula k h =
+      ap (λ (x : Ledger). formula x k) ledger ∙ formula-stays t (lineOf r) k (omega (arith, lines-length l))
+
+  new-right : Right m n
+  unfolding sizeAt plainAt balancedAt
+  new-right = record {
+    canonical = subst Canonical (sym new-row) (a .canonical);
+    sized = new-cell sizeCell (omega arith) ∙ a .sized ∙ ap size (sym new-formula);
+    plain-kept = new-cell plainCell (omega arith) ∙ ap bit (a .plain-kept ∙ ap plain (sym new-formula));
+    balancedly = new-cell balancedCell (omega arith) ∙ ap bit (a .balancedly ∙ ap balanced (sym new-formula));
+  }
+
+  old-right : (k : ℕ) → k < n → Right m k
+  unfolding sizeAt plainAt balancedAt
+  old-right k h = record {
+    canonical = subst Canonical (sym (old-row k h)) (a .good .canonical k h);
+    sized = old-cell k sizeCell h (omega arith) ∙ a .good .sizes k h ∙ ap size (sym (old-formula k h));
+    plain-kept = old-cell k plainCell h (omega arith) ∙ a .good .plains k h
+        ∙ ap (λ x. bit (plain x)) (sym (old-formula k h));
+    balancedly = old-cell k balancedCell h (omega arith) ∙ a .good .balances k h
+        ∙ ap (λ x. bit (balanced x)) (sym (old-formula k h));
+  }
+
+  right : (k : ℕ) → k < lineCount m → Right m k
+  right k h = go (ℕ-discrete k n)
+    where
+      go : Dec (k ≡ n) → Right m k
+      go (yes e) = subst (Right m) (sym e) new-right
+      go (no e) = old-right k (omega (arith, count))
+
+  added : StandsFor m (withLine t (lineOf r))
+  added = record {
+    good = record {
+      long = live .long;
+      lines = omega (arith, count, room);
+      ordered = same-ordered l m live (a .good .ordered) (omega (arith, count));
+      canonical = λ k h. right k h .canonical;
+      sizes = λ k h. right k h .sized;
+      plains = λ k h. right k h .plain-kept;
+      balances = λ k h. right k h .balancedly;
+      bounded = subst Bounded (sym ledger) (line-bounded t (a .good .bounded) (lineOf r) (a .room) (a .there)
+          (omega (arith, a .sized, a .small)));
+    };
+    ledger = ledger;
+  }
+
+  -- by the stores that make it
+  pub add-done : {m₀ m₁ : List ℕ} {i : ℕ} → i ≡ lineCount l → m₀ ≡ putLine l i r s p b → m₁ ≡ putLineCount m₀ (i + 1)
+      → StandsFor m₁ (withLine (ledgerOf l) (lineOf r))
+  add-done e e₀ e₁ = rw (e₁, e₀, e) added

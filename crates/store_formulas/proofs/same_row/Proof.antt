@@ -1,0 +1,47 @@
+-- `same_row` meets its contract: what is left of `sameRow` after each test.
+use mathlib.Core.Path.{_≡_, refl, sym, _∙_}
+use mathlib.Core.Bool.{Bool, true, false, _&&_, and-assoc}
+use borrow.Author.Needs.{needs}
+use lib.Dec.{eqb}
+use Rattle.logic.specs.Interval.{sameInterval}
+use Rattle.steps.specs.declared.Row.{Row}
+use Rattle.ledger.specs.Checks.{sameRow}
+use Rattle.store_formulas.proofs.same_row.Statement.{statement}
+use Rattle.store_formulas.proofs.same_row.Tie as tie
+
+module _ (x y : Row) where
+  abbrev heads : Bool
+  heads = eqb (x .letter) (y .letter) && (eqb (x .a) (y .a) && eqb (x .b) (y .b))
+
+  abbrev firsts : Bool
+  firsts = sameInterval (x .first) (y .first)
+
+  abbrev seconds : Bool
+  seconds = sameInterval (x .second) (y .second)
+
+  in-three : sameRow x y ≡ (heads && (firsts && seconds))
+  unfolding sameRow
+  in-three = sym (rw (and-assoc, and-assoc) refl)
+
+  all-same : heads ≡ true → firsts ≡ true → seconds ≡ sameRow x y
+  all-same e f = sym (in-three ∙ rw (e, f))
+
+  firsts-differ : heads ≡ true → firsts ≡ false → false ≡ sameRow x y
+  firsts-differ e f = sym (in-three ∙ rw (e, f))
+
+  heads-differ : heads ≡ false → false ≡ sameRow x y
+  heads-differ e = sym (in-three ∙ rw e)
+
+returns : tie.Need-returns
+returns c =
+    let b = c .before .before in
+    c .same2 .ensures ∙ all-same _ _ (b .before .if1 .taken) (sym (b .same .ensures) ∙ c .before .if2 .taken)
+
+returns-2 : tie.Need-returns-2
+returns-2 c = firsts-differ _ _ (c .before .before .if1 .taken) (sym (c .before .same .ensures) ∙ c .if2 .left)
+
+returns-3 : tie.Need-returns-3
+returns-3 c = heads-differ _ _ (c .if1 .left)
+
+pub same-row-spec : {M : Type 1} → statement M
+same-row-spec = tie.close (tie.spec (λ c κs. search needs) (λ c κs. search needs) returns returns-2 returns-3)

@@ -1,0 +1,51 @@
+// The formula lines of a store (document 01: the wordings): whether a row stands there, and one more.
+use steps::Row;
+use store::Store;
+use store_cells::head;
+use store_cells::lines;
+ghost use mathlib.Core.Path.{_≡_};
+ghost use Rattle.ledger.specs.Table.{rowOf};
+ghost use Rattle.ledger.specs.Checks.{anyOf, sameRow};
+ghost use Rattle.ledger.specs.Calls.{withLine};
+ghost use Rattle.store.specs.Store.{lineOf, ledgerOf, Good, StandsFor, Wordable};
+
+// Equal letters and equal fields. Most rows differ in the letter or a number, so these are one test, and intervals are
+// looked at only where it holds.
+fn same_row(x: Row, y: Row) -> bool
+    ensures { λ r. ⌜ r ≡ sameRow x y ⌝ }
+{
+    if (x.letter == y.letter) & ((x.a == y.a) & (x.b == y.b)) {
+        if intervals::same(x.first, y.first) {
+            return intervals::same(x.second, y.second);
+        }
+    }
+    false
+}
+
+// Whether a line of the ledger has this row.
+pub fn has_row(store: &Store, row: Row) -> bool
+    requires { ⌜ Good (now store) ⌝ }
+    ensures { λ r. ⌜ r ≡ anyOf (λ m. sameRow row (rowOf m)) (ledgerOf (now (store .entry)) .lines) ⌝ }
+{
+    let n = head::line_count(store);
+    let mut i = 0;
+    while i < n {
+        let other = store::line_at(store, i);
+        if same_row(row, other) {
+            return true;
+        }
+        i += 1;
+    }
+    false
+}
+
+// One formula line (document 01: a wording) more, with its formula's size, whether it is plain and whether it is
+// balanced.
+pub fn add_row(store: &mut Store, row: Row, size: u32, plain: bool, balanced: bool)
+    requires { ⌜ Wordable (now store) row size plain balanced ⌝ }
+    ensures { λ _. ⌜ StandsFor (now (store .exit)) (withLine (ledgerOf (now (store .entry))) (lineOf row)) ⌝ }
+{
+    let n = head::line_count(store);
+    lines::put_line(store, n, row, size, plain, balanced);
+    head::put_line_count(store, n + 1);
+}

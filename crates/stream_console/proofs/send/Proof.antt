@@ -1,0 +1,15 @@
+-- `send` meets its contract.
+use mathlib.Core.Path.{sym}
+use lib.Seq.{length-take-le}
+use borrow.Author.Needs.{needs}
+use Rattle.stream_console.proofs.send.Statement.{statement}
+use Rattle.stream_console.proofs.send.Tie as tie
+
+pub send-spec : {M : Type 1} → statement M
+send-spec =
+    tie.close
+    (tie.spec
+    (λ c. sym (length-take-le _ _ (c .before .before .before .pre)))
+    (λ c κs. search needs)
+    (λ c κs. search needs)
+    (λ c. search needs))

@@ -1,0 +1,4 @@
+pub mod EmptyLines
+pub mod Splits
+mod Parting
+mod Keeping

@@ -1,4 +1,0 @@
-pub mod Limits
-pub mod Columns
-pub mod Counting
-pub mod Tallies

@@ -1,8 +1,0 @@
--- `timely` meets its contract.
-use borrow.Author.Needs.{needs}
-use Rattle.verdicts.proofs.Laws.{reworded, untimely}
-use Rattle.verdicts.proofs.timely.Statement.{statement}
-use Rattle.verdicts.proofs.timely.Tie as tie
-
-pub timely-spec : {M : Type 1} → statement M
-timely-spec = tie.close (tie.spec (λ c κs. search needs) (λ c. reworded (c .tested .ensures 30) (untimely _ _)))

@@ -1,0 +1,290 @@
+#!/usr/bin/env python3
+"""The crates: what each names, and crates/README.md, which is made of that.
+
+    tests/docs/crates.py           writes crates/README.md
+    tests/docs/crates.py --check   says where crates.txt or crates/README.md is not what the crates give
+    tests/docs/crates.py --list    prints the lines of crates.txt as they should be
+
+A crate is listed in crates.txt with those that it uses: the ones that its files name, and the ones that declare a type
+which a function that it calls takes or returns. The README's sentences are the first ones of each src/lib.rt (or
+main.rt).
+"""
+import glob
+import os
+import re
+import sys
+
+sys.dont_write_bytecode = True
+ROOT = os.path.dirname(os.path.dirname(os.path.dirname(os.path.abspath(__file__))))
+sys.path.insert(0, f"{ROOT}/tests/edits")
+from slips import Crate, read
+
+KIT = {"io", "libc", "os", "bytes", "check"}
+# where a booking's bytes come in, and the calls that are no booking
+ENTRY = ("entry", "till_call")
+OTHER_REQUESTS = {"word", "issue", "withdraw", "tally"}
+README = f"{ROOT}/crates/README.md"
+
+
+def listed():
+    """From each crate of crates.txt to those that it is listed with, in the file's order."""
+    found = {}
+    for line in read(f"{ROOT}/crates.txt").splitlines():
+        name, colon, uses = line.partition("#")[0].partition(":")
+        if colon:
+            found[name.strip()] = uses.split()
+    return found
+
+
+def sources(name):
+    """The texts of a crate's files: from the path inside the crate to the text."""
+    found = {}
+    for part in ("src", "specs", "proofs"):
+        for folder, _, files in sorted(os.walk(f"{ROOT}/crates/{name}/{part}")):
+            for file in sorted(files):
+                path = f"{folder}/{file}"
+                found[os.path.relpath(path, f"{ROOT}/crates/{name}")] = read(path)
+    return found
+
+
+def plain(text):
+    """A source without its comments."""
+    return re.sub(r"//.*", "", text)
+
+
+class Types:
+    """Which crates' types a type is made of, and which a function takes and returns."""
+
+    def __init__(self, names):
+        self.names, self.parts, self.signatures = names, {}, {}
+        for name in names:
+            for path, text in sources(name).items():
+                if path.endswith(".rt"):
+                    self.take(name, plain(text))
+
+    def take(self, name, text):
+        brought = {last: crate for crate, last in re.findall(r"^use (\w+)(?:::\w+)*::(\w+);", text, re.M)}
+        self.brought = {last: crate for last, crate in brought.items() if crate in self.names}
+        for kind, own, body in re.findall(r"^(?:pub )?(struct|enum) (\w+)\s*\{(.*?)^\}", text, re.M | re.S):
+            self.parts[name, own] = self.used(name, body)
+        for own, body in re.findall(r"^(?:pub )?type (\w+) = (.*?);", text, re.M | re.S):
+            self.parts[name, own] = self.used(name, body)
+        for own, head in re.findall(r'^(?:pub )?(?:extern "C" )?fn (\w+)\((.*?)^(?=\{|    requires|    ensures)', text,
+                                    re.M | re.S):
+            self.signatures[name, own] = self.used(name, head)
+
+    def used(self, name, text):
+        """The types, each with its crate, that a text names."""
+        found = set()
+        for before, own in re.findall(r"(?:(\w+)::)?(?:\w+::)*\b([A-Z]\w*)\b", text):
+            crate = before if before in self.names else self.brought.get(own, name)
+            found.add((crate, own))
+        return found
+
+    def crates(self, start):
+        """The crates of these types and of all that they are made of."""
+        seen, todo = set(), list(start)
+        while todo:
+            at = todo.pop()
+            if at not in seen:
+                seen.add(at)
+                todo += self.parts.get(at, ())
+        return {crate for crate, own in seen if (crate, own) in self.parts}
+
+
+def named(name, names):
+    """The crates that a crate's files name, and the functions of others that it calls."""
+    crates, calls = set(), set()
+    for path, text in sources(name).items():
+        crates.update(re.findall(r"Rattle·([a-z0-9_]+)", text))
+        if path.endswith(".rt"):
+            text = plain(text)
+            brought = re.findall(r"^use (\w+)(?:::\w+)*::(\w+);", text, re.M)
+            modules = {last: crate for crate, last in brought}
+            crates.update(word for word in re.findall(r"(?<![\w:])([a-z0-9_]+)::", text) if word not in modules)
+            for before, middle, own in re.findall(r"(?<![\w:])(?:(\w+)::)?(?:(\w+)::)?(\w+)\(", text):
+                crate = modules.get(before or own) or (before if before in names else None)
+                if crate:
+                    calls.add((crate, own))
+    return (crates - {name}) & (set(names) | KIT), calls
+
+
+def needed():
+    """From each crate of crates.txt to those that it has to be listed with, in the file's order."""
+    names = list(listed())
+    types = Types(names)
+    found = {}
+    for name in names:
+        crates, calls = named(name, names)
+        for call in calls:
+            crates |= types.crates(types.signatures.get(call, ()))
+        crates.discard(name)
+        found[name] = [other for other in [*names, *sorted(KIT)] if other in crates]
+    return found
+
+
+def groups():
+    """The groups of crates.txt: a heading, `## NAME: what it is`, and the crates below it."""
+    found = []
+    for line in read(f"{ROOT}/crates.txt").splitlines():
+        heading = re.match(r"## (.*)", line)
+        if heading:
+            found.append((heading[1], []))
+        elif re.match(r"\w+:", line) and found:
+            found[-1][1].append(line.partition(":")[0])
+    return found
+
+
+def sentence(name):
+    """The first sentence of the comment at the head of a crate's lib.rt or main.rt."""
+    folder = f"{ROOT}/crates/{name}/src"
+    path = f"{folder}/lib.rt" if os.path.isfile(f"{folder}/lib.rt") else f"{folder}/main.rt"
+    lines = []
+    for line in read(path).splitlines():
+        if not line.startswith("//"):
+            break
+        lines.append(line[2:].strip())
+    return re.match(r".*?\.(?= |$)", " ".join(lines) + " ")[0].strip()
+
+
+def floors(uses):
+    """How many crates stand below one another under each."""
+    found = {}
+
+    def floor(name):
+        if name not in found:
+            found[name] = max((floor(other) + 1 for other in uses[name] if other in uses), default=0)
+        return found[name]
+
+    for name in uses:
+        floor(name)
+    return found
+
+
+def nearest(uses):
+    """The crates that each uses, without those that it reaches through another."""
+    reached = {}
+
+    def reach(name):
+        if name not in reached:
+            reached[name] = set(uses.get(name, ())).union(*map(reach, uses.get(name, ())))
+        return reached[name]
+
+    return {name: [one for one in used if not any(one in reach(other) for other in used)] for name, used in uses.items()}
+
+
+def drawing(uses):
+    """A column for each group, a line for each floor, the lowest at the bottom."""
+    at, columns = floors(uses), groups()
+    heads = [head.partition(":")[0] for head, _ in columns]
+
+    def short(head, name):
+        return name[len(head) :] if head.endswith("_") and name.startswith(head) else name
+
+    cells = [[[short(head, name) for name in names if at[name] == floor] for head, (_, names) in zip(heads, columns)]
+             for floor in range(max(at.values()) + 1)]
+    widths = [max([len(head), *(len(name) for row in cells for name in row[k])]) for k, head in enumerate(heads)]
+    lines = ["    " + "  ".join(head.ljust(width) for head, width in zip(heads, widths)).rstrip()]
+    for floor in reversed(range(len(cells))):
+        for k in range(max(len(names) for names in cells[floor])):
+            row = [names[k] if k < len(names) else "" for names in cells[floor]]
+            number = str(floor) if k == 0 else ""
+            lines.append(number.rjust(2) + "  " + "  ".join(map(str.ljust, row, widths)).rstrip())
+    return lines
+
+
+class Calls:
+    """Who calls whom: functions as (crate, name), in the order of the caller's text."""
+
+    def __init__(self, names):
+        self.bodies, self.brought, self.crates = {}, {}, set(names)
+        for name in names:
+            crate = Crate(name)
+            for function in crate.functions.values():
+                own = function.name.split("::")[-1]
+                self.bodies[name, own] = function
+                uses = re.findall(r"^use (\w+)(?:::\w+)*::(\w+);", "\n".join(crate.lines(function.file)), re.M)
+                self.brought[name, own] = {last: other for other, last in uses if other in self.crates}
+
+    def of(self, at):
+        found = []
+        for before, own in re.findall(r"(?<![\w:])(?:(\w+)::(?:\w+::)*)?(\w+)\(", self.bodies[at].text):
+            crate = self.brought[at].get(before or own) or (before if before in self.crates else at[0])
+            if (crate, own) in self.bodies and (crate, own) not in found:
+                found.append((crate, own))
+        return found
+
+
+def way(names):
+    """A booking's bytes on their way: functions below the one that calls them, each where it first stands."""
+    calls, seen, lines = Calls(names), set(), []
+
+    def walk(at, depth):
+        new = [other for other in calls.of(at) if other not in seen and other[1] not in OTHER_REQUESTS]
+        seen.update(new)
+        row = None
+        for crate, own in new:
+            inner = [other for other in calls.of((crate, own)) if other not in seen]
+            if row is None or inner or row[0] != crate:
+                lines.append("  " * depth + f"{crate}::{own}")
+            else:
+                lines[-1] += f", {own}"
+            row = None if inner else (crate,)
+            walk((crate, own), depth + 1)
+
+    lines.append("::".join(ENTRY))
+    walk(ENTRY, 1)
+    return lines
+
+
+def written():
+    """The text of crates/README.md."""
+    uses = listed()
+    near = nearest({name: [other for other in used if other in uses] for name, used in uses.items()})
+    out = ["# The crates", "", "Made by `tests/docs/crates.py` from crates.txt and the head of each crate's `src/lib.rt`; a test compares.",
+           "Names group them; in a group the lower ones come first. \"Uses\" leaves out what is used through another. A",
+           "slip is a wrong edit that the proofs must refuse; those that do not meet share an edit (docs/CONTRIBUTING.md).", ""]
+    for heading, names in groups():
+        out += [f"## {heading}", "", "| crate | what it is | uses | slips | edits |", "|---|---|---|---|---|"]
+        for name in names:
+            slips, edits = (len(glob.glob(f"{ROOT}/crates/{name}/{part}/*.edit")) for part in ("slips", "must-fail"))
+            used = ", ".join(f"`{other}`" for other in near[name])
+            out.append(f"| `{name}` | {sentence(name)} | {used} | {slips} | {edits} |")
+        out.append("")
+    out += ["## Who stands on whom", "", "A column for each group; a crate uses crates of lower lines only.", "", "```text"]
+    out += drawing(uses) + ["```", "", "## The way of a booking's bytes", "",
+                            "From the call that C makes down to the cells: functions below the one that calls them, each where it first",
+                            "stands, in the order of the caller's text; the other four requests are left out.", "", "```text"]
+    return "\n".join(out + way(list(uses)) + ["```"]) + "\n"
+
+
+def faults():
+    """Where crates.txt and crates/README.md are not what the crates give."""
+    there, right = listed(), needed()
+    for name in there:
+        for other in sorted(set(there[name]) ^ set(right[name])):
+            yield f"crates.txt: {name} " + ("uses" if other in right[name] else "does not use") + f" {other}"
+    grouped = [name for _, names in groups() for name in names]
+    if sorted(grouped) != sorted(there):
+        yield "crates.txt: a crate stands in no group"
+    if not os.path.isfile(README) or read(README) != written():
+        yield "crates/README.md is not what the crates give: run tests/docs/crates.py"
+
+
+def main(words):
+    if words == ["--list"]:
+        print("\n".join(" ".join([f"{name}:", *uses]) for name, uses in needed().items()))
+    elif words == ["--check"]:
+        wrong = list(faults())
+        print("\n".join(wrong), end="\n" if wrong else "")
+        return not wrong
+    elif not words:
+        with open(README, "w", encoding="utf-8") as file:
+            file.write(written())
+    else:
+        sys.exit(__doc__)
+    return True
+
+
+if __name__ == "__main__":
+    sys.exit(0 if main(sys.argv[1:]) else 1)
