@@ -110,10 +110,10 @@ static struct Panel panel_of(struct Kiosk *kiosk) {
     uint32_t a[4];
     int length = snprintf(sheet, sizeof sheet, "tally,%u,%u\n", kiosk->session, kiosk->minute);
     call(kiosk, (const uint8_t *)sheet, (size_t)length, a);
-    const struct History *history = kiosk->history;
-    struct Panel p = {a[1], a[2], a[3], history->withdrawn[kiosk->session], history->issued[kiosk->session], 0};
+    struct Counted counted = history_count(kiosk->history, kiosk->session);
+    struct Panel p = {a[1], a[2], a[3], counted.withdrawn, counted.issued, 0};
     uint64_t sum = (uint64_t)p.open + p.shut + p.placed + p.withdrawn;
-    p.good = a[0] == 3 && sum == p.issued && history->unread == 0;
+    p.good = a[0] == 3 && sum == p.issued && kiosk->history->unread == 0;
     if (!p.good) kiosk->wrong = 1;
     return p;
 }
@@ -178,7 +178,7 @@ static void play_file(struct Kiosk *kiosk, struct Input *input, const char *name
 
 static void set_session(struct Kiosk *kiosk, struct Input *input, const char *text) {
     (void)input;
-    if (!number(text, SESSIONS - 1, &kiosk->session)) say(kiosk, "a session is a number from 0 to 255");
+    if (!number(text, LAST_SESSION, &kiosk->session)) say(kiosk, "a session is a number from 0 to 65535");
 }
 
 static void set_minute(struct Kiosk *kiosk, struct Input *input, const char *text) {
@@ -208,7 +208,7 @@ static const struct Command {
     const char *name, *words;
     void (*run)(struct Kiosk *, struct Input *, const char *);
 } COMMANDS[] = {{":file", ":file NAME   hands over the sheets of a file, parted by empty lines", play_file},
-                {":session", ":session N   the panel's session, 0 to 255", set_session},
+                {":session", ":session N   the panel's session, 0 to 65535", set_session},
                 {":minute", ":minute M    the panel's minute, 0 to 9999999", set_minute},
                 {":panel", ":panel       the panel as one line", show_panel},
                 {":drop", ":drop        drops a sheet that is begun", drop},

@@ -49,39 +49,50 @@ static int wording(const struct History *history, struct Field field, uint32_t *
     return number(field, WORDINGS - 1, value) && *value < history->wordings;
 }
 
-/* Adds the part's seats and places to those of wording `to`: a part counts as often as it stands there. */
-static int add_part(struct History *history, uint32_t to, struct Field field) {
+/* Adds a part to a wording: it counts as often as it stands there. */
+static int add_part(struct History *history, struct Wording *to, struct Field field) {
     uint32_t part;
     if (!wording(history, field, &part)) return 0;
-    for (int s = 0; s < SESSIONS; s++) {
-        uint32_t sum = (uint32_t)history->seats[to][s] + history->seats[part][s];
-        if (sum > MOST_SIZE) return 0;
-        history->seats[to][s] = (uint8_t)sum;
-    }
+    to->part[to->parts++] = part;
+    to->size += history->wording[part].size;
+    return to->size <= MOST_SIZE;
+}
+
+static int set_atom(struct Wording *to, const struct Field *fields) {
+    uint32_t predicate;
+    if (!number(fields[2], LAST_PREDICATE, &predicate) || !number(fields[3], LAST_SESSION, &to->session)) return 0;
+    to->seats = predicate == 1 || predicate == 2;
     return 1;
 }
 
-static int add_atom(struct History *history, uint32_t to, const struct Field *fields) {
-    uint32_t predicate, session;
-    if (!number(fields[2], 255, &predicate) || !number(fields[3], SESSIONS - 1, &session)) return 0;
-    if (predicate == 1 || predicate == 2) history->seats[to][session] = 1;
-    return 1;
+struct Counted history_count(const struct History *history, uint32_t session) {
+    struct Counted sum = {0, 0};
+    uint32_t seats[WORDINGS];
+    for (uint32_t n = 0; n < history->wordings; n++) {
+        const struct Wording *w = &history->wording[n];
+        seats[n] = w->session == session ? w->seats : 0;
+        for (uint32_t k = 0; k < w->parts; k++) seats[n] += seats[w->part[k]];
+        sum.issued += w->issued * seats[n];
+        sum.withdrawn += w->withdrawn * seats[n];
+    }
+    return sum;
 }
 
 static int note_word(struct History *history, const struct Field *fields, size_t count, uint32_t answer) {
     if (answer >= WORDINGS || answer != history->wordings || fields[1].length != 1) return 0;
     int good;
-    memset(history->seats[answer], 0, sizeof history->seats[answer]);
+    struct Wording *to = &history->wording[answer];
+    *to = (struct Wording){.size = 1};
     switch (fields[1].at[0]) {
-    case 'a': good = count == 4 && add_atom(history, answer, fields); break;
+    case 'a': good = count == 4 && set_atom(to, fields); break;
     case 'o': good = count == 2; break;
     case 'g': good = count == 6; break;
     case 't': case 'w': case 'p': case 'l': case 'u':
-        good = count == 4 && add_part(history, answer, fields[2]) && add_part(history, answer, fields[3]);
+        good = count == 4 && add_part(history, to, fields[2]) && add_part(history, to, fields[3]);
         break;
-    case 'b': good = count == 3 && add_part(history, answer, fields[2]); break;
-    case 'h': good = count == 5 && add_part(history, answer, fields[2]); break;
-    case 's': good = count == 4 && add_part(history, answer, fields[3]); break;
+    case 'b': good = count == 3 && add_part(history, to, fields[2]); break;
+    case 'h': good = count == 5 && add_part(history, to, fields[2]); break;
+    case 's': good = count == 4 && add_part(history, to, fields[3]); break;
     default: good = 0;
     }
     history->wordings++;
@@ -101,7 +112,7 @@ static int note_issue(struct History *history, const struct Field *fields, size_
     int single = is(fields[1], "s");
     if (count != 5 || (!single && !is(fields[1], "r")) || !wording(history, fields[2], &n)) return 0;
     if (!give(history, answer, single ? SINGLE + n : STANDING)) return 0;
-    for (int s = 0; single && s < SESSIONS; s++) history->issued[s] += history->seats[n][s];
+    history->wording[n].issued += (uint32_t)single;
     return 1;
 }
 
@@ -115,8 +126,7 @@ static int note_withdraw(struct History *history, const struct Field *fields, si
     if (count != 2 || !number(fields[1], LAST_SERIAL, &serial) || serial != answer) return 0;
     uint32_t coupon = history->coupon[serial];
     if (coupon == 0) return 0;
-    for (int s = 0; coupon >= SINGLE && s < SESSIONS; s++)
-        history->withdrawn[s] += history->seats[coupon - SINGLE][s];
+    if (coupon >= SINGLE) history->wording[coupon - SINGLE].withdrawn++;
     return 1;
 }
 

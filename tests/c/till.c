@@ -166,6 +166,32 @@ static void lengths(void) {
     ask(&block, "issue,s,3,0,600\n", 1, 1, 0, 0);
 }
 
+/* A seat of session 65,535 beside one of session 255, which a byte would take for it. */
+static void sessions(void) {
+    static struct Block block;
+    begin(&block);
+    ask(&block, "word,a,1,65535\n", 1, 0, 0, 0);
+    ask(&block, "word,a,1,255\n", 1, 1, 0, 0);
+    ask(&block, "word,a,2,65535\n", 1, 2, 0, 0);
+    ask(&block, "word,l,1,2\n", 1, 3, 0, 0);
+    ask(&block, "word,l,0,2\n", 1, 4, 0, 0);
+    ask(&block, "word,a,1,65536\n", 0, 2, 0, 0);
+    ask(&block, "issue,r,3,0,9\n", 0, 21, 0, 0);
+    ask(&block, "issue,r,4,0,9\n", 1, 1, 0, 0);
+    ask(&block, "issue,s,0,0,9\n", 1, 2, 0, 0);
+    ask(&block, "tally,255,5\n", 3, 0, 0, 0);
+    ask(&block, "issue,s,1,0,9\n", 1, 3, 0, 0);
+    ask(&block, "tally,65535,5\n", 3, 1, 0, 0);
+    ask(&block, "tally,255,5\n", 3, 1, 0, 0);
+    ask(&block, "tally,65536,5\n", 0, 2, 0, 0);
+    ask(&block, "book,5,0,0,9,1,1\nhold,3\nax,0\n", 0, 40, 1, 0);
+    ask(&block, "book,5,1,0,9,1,1\nhold,2\nax,0\n", 0, 40, 1, 0);
+    ask(&block, "book,5,0,0,9,1,1\nhold,2\nax,0\n", 1, 4, 0, 0);
+    ask(&block, "withdraw,3\n", 1, 3, 0, 0);
+    ask(&block, "tally,255,5\n", 3, 0, 0, 0);
+    ask(&block, "tally,65535,5\n", 3, 1, 0, 0);
+}
+
 /* 512 live credentials, and the place that a withdrawn one makes. */
 static void full(void) {
     static struct Block block;
@@ -338,7 +364,7 @@ static void stack(void) {
 static const struct Group {
     const char *name;
     void (*play)(void);
-} GROUPS[] = {{"calls", calls},     {"refusals", refusals}, {"lengths", lengths},   {"full", full},
+} GROUPS[] = {{"calls", calls},     {"refusals", refusals}, {"lengths", lengths},   {"sessions", sessions}, {"full", full},
               {"serials", serials}, {"two", two},           {"bookings", bookings}, {"stack", stack}};
 
 int main(int count, char **names) {

@@ -11,7 +11,7 @@
 #include <sys/mman.h>
 #include <time.h>
 
-enum { TILLS = 6, PAGE = 4096, LONG = 10, NUMBERS = 43, SHOWN = 10 };
+enum { TILLS = 6, PAGE = 4096, LONG = 10, NUMBERS = 43, SHOWN = 10, SUMS = 32 };
 
 struct Session {
     struct Sheet *sheets;
@@ -184,10 +184,10 @@ static void sum(struct Fuzz *fuzz, struct Till *till, uint32_t session, uint32_t
     size_t length = (size_t)snprintf(sheet, sizeof sheet, "tally,%u,%u\n", session, minute);
     fuzz->tallies++;
     const char *wrong = tried(fuzz, till, &old, (const uint8_t *)sheet, length, a);
-    const struct History *history = till->history;
-    uint64_t total = (uint64_t)a[1] + a[2] + a[3] + history->withdrawn[session];
+    struct Counted counted = history_count(till->history, session);
+    uint64_t total = (uint64_t)a[1] + a[2] + a[3] + counted.withdrawn;
     if (!wrong && a[0] != 3) wrong = "no tally";
-    if (!wrong && total != history->issued[session]) wrong = "open + shut + placed + withdrawn is not issued";
+    if (!wrong && total != counted.issued) wrong = "open + shut + placed + withdrawn is not issued";
     verdict(fuzz, wrong, (const uint8_t *)sheet, length, a);
 }
 
@@ -196,12 +196,12 @@ static uint32_t any_minute(struct Fuzz *fuzz) {
     return below(&fuzz->seed, 2) ? SOME[below(&fuzz->seed, 5)] : below(&fuzz->seed, 1u << below(&fuzz->seed, 23));
 }
 
-/* A session, mostly one of which something was issued. */
+/* A session: mostly that of an atom, or one that differs from it by 256; now and then any. */
 static uint32_t any_session(struct Fuzz *fuzz, const struct History *history) {
-    uint32_t from = below(&fuzz->seed, SESSIONS);
-    for (uint32_t i = 0; i < SESSIONS && from % 8 != 0; i++)
-        if (history->issued[(from + i) % SESSIONS] > 0) return (from + i) % SESSIONS;
-    return from;
+    uint32_t turn = below(&fuzz->seed, 8);
+    if (turn == 0 || history->wordings == 0) return below(&fuzz->seed, LAST_SESSION + 1);
+    uint32_t session = history->wording[below(&fuzz->seed, history->wordings)].session;
+    return turn == 1 ? (session + 256) % (LAST_SESSION + 1) : session;
 }
 
 /* ---- Playing ---- */
@@ -229,9 +229,11 @@ static void play(struct Fuzz *fuzz, struct Till *till, const uint8_t *sheet, siz
     if (real && a[0] == 1) sum(fuzz, till, any_session(fuzz, till->history), any_minute(fuzz));
 }
 
-/* Every session at a minute, then from the empty till with the next session. */
+/* The sessions of all atoms and some more, each at a minute, then from the empty till with the next list. */
 static void close_till(struct Fuzz *fuzz, struct Till *till) {
-    for (uint32_t s = 0; s < SESSIONS; s++) sum(fuzz, till, s, any_minute(fuzz));
+    for (uint32_t n = 0; n < till->history->wordings; n++)
+        sum(fuzz, till, till->history->wording[n].session, any_minute(fuzz));
+    for (int k = 0; k < SUMS; k++) sum(fuzz, till, any_session(fuzz, till->history), any_minute(fuzz));
     if (!till->worn) begin(fuzz, till);
     till->next = 0;
 }

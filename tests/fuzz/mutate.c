@@ -51,7 +51,7 @@ static void change_number(struct Draft *draft, uint64_t *seed) {
     static const char *const ENDS[] = {
         "0",   "1",   "2",   "7",    "31",   "32",     "33",      "63",      "64",       "199",        "200",
         "255", "256", "257", "540",  "999",  "1000",   "9999",    "999999",  "1000000",  "9999999",    "10000000",
-        "00",  "01",  "-1",  "",     "4294967295",     "4294967296",         "18446744073709551616"};
+        "65535", "65536", "00",  "01",  "-1",  "",     "4294967295",     "4294967296",         "18446744073709551616"};
     size_t from = below(seed, (uint32_t)draft->length + 1), to;
     while (from < draft->length && !is_digit(draft->bytes[from])) from++;
     for (to = from; to < draft->length && is_digit(draft->bytes[to]) && to - from < 9;) to++;

@@ -1,4 +1,5 @@
-//! Seeded sessions of sheets for the booking till, with the answers that document 01 demands.
+//! Seeded sessions of sheets for the booking till, with the answers that document 01 demands, and document 02 so far as
+//! it has landed (ask 1).
 
 pub mod balance;
 pub mod booking;
@@ -23,6 +24,7 @@ pub mod rng;
 pub mod session;
 pub mod slips;
 pub mod spans;
+pub mod tour;
 pub mod wording;
 pub mod world;
 pub mod write;
@@ -59,8 +61,9 @@ fn fixed(seed: u64, seen: &mut Seen) -> Vec<Session> {
     all.extend(capacity::sessions(seed));
     all.extend(ranges::sessions(seed));
     all.extend(pairs::sessions(seed));
+    all.extend(tour::sessions());
     all.push(full::session(seed));
-    all.extend([life::fixed(), life::many(seed), balance::random(seed)]);
+    all.extend([life::fixed(), life::many(seed), life::session(seed, 120), balance::random(seed)]);
     all.extend((0..3).map(|third| spans::session(seed, third)));
     all.extend([damage::fixed(seed), damage::calls(seed), damage::random(seed)]);
     all.extend(drills::DRILLS.iter().map(|letters| drills::session(letters, seed, seen)));

@@ -89,6 +89,16 @@ impl Recount {
         atoms.filter_map(|l| l.split(',').nth(1)?.parse().ok()).collect()
     }
 
+    /// Those, and some that may not: both ends of the range, and for each the number that a byte keeps of it and two
+    /// that a byte takes for it.
+    fn asked(&self) -> BTreeSet<u32> {
+        let mut all: BTreeSet<u32> = [0, 200, 255, 256, 65_535].into();
+        for session in self.sessions() {
+            all.extend([session, session % 256, session ^ 256, session ^ 65_280]);
+        }
+        all
+    }
+
     /// Some minutes: both ends of the range, and ends of windows.
     fn minutes(&self) -> Vec<u32> {
         let mut some = vec![0, 540, 9_999_999];
@@ -97,14 +107,12 @@ impl Recount {
         some
     }
 
-    /// open + shut + placed + withdrawn = issued, for every session that occurs (and one that may not).
+    /// open + shut + placed + withdrawn = issued, for every session that occurs (and some that may not).
     /// Gives the number of tallies made and what was found wrong.
     pub fn check(&self, tally: &mut dyn FnMut(u32, u32) -> Heard) -> (u32, Vec<String>) {
         let mut wrong = self.strange.clone();
         let mut made = 0;
-        let mut sessions = self.sessions();
-        sessions.insert(200);
-        for session in sessions {
+        for session in self.asked() {
             let total = |list: &[u32]| list.iter().map(|w| self.count(*w, session)).sum::<u32>();
             let (issued, withdrawn) = (total(&self.issued), total(&self.withdrawn));
             for minute in self.minutes() {

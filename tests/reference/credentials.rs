@@ -1,7 +1,8 @@
 //! The live credentials, found by serial.
 
+use super::content::{Atoms, NO_ATOMS};
 use super::form::MAX_SERIAL;
-use super::formulas::Atoms;
+use super::formulas::MAX_FORMULAS;
 use super::logic::{FormulaId, Interval};
 use super::refusal;
 
@@ -92,10 +93,14 @@ impl Credentials {
     }
 
     /// Open, shut and placed over the live linear credentials; `atoms` are the session's.
-    pub fn tally(&self, minute: u32, atoms: &[Atoms]) -> (u32, u32, u32) {
+    pub fn tally(&self, minute: u32, atoms: &[Atoms; MAX_FORMULAS]) -> (u32, u32, u32) {
         let (mut seats, mut open, mut placed) = (0, 0, 0);
         for credential in self.live[..self.count].iter().filter(|credential| credential.linear) {
             let found = atoms[credential.formula as usize];
+            // most have nothing of the session
+            if found == NO_ATOMS {
+                continue;
+            }
             seats += u32::from(found.seats);
             placed += u32::from(found.places);
             open += if credential.interval.has(minute) { u32::from(found.seats) } else { 0 };

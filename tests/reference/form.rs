@@ -8,6 +8,7 @@ pub const MAX_HOLDS: usize = 32;
 pub const MAX_STEPS: usize = 256;
 
 const MAX_BYTE_FIELD: u32 = 255;
+const MAX_SESSION: u32 = 65_535;
 const MAX_MINUTE: u32 = 9_999_999;
 const MAX_FORMULA: u32 = 999;
 const MAX_LABEL: u32 = 63;
@@ -23,7 +24,7 @@ pub enum Request {
     Issue { linear: bool, formula: FormulaId, interval: Interval },
     Withdraw { serial: u32 },
     Book(Booking),
-    Tally { session: u8, minute: u32 },
+    Tally { session: u16, minute: u32 },
 }
 
 /// The head line of a booking; its holds and steps stand on the `Page`.
@@ -79,7 +80,7 @@ impl Reader<'_> {
             return Some(Request::Book(self.booking(page)?));
         }
         if self.skip(b"tally,") {
-            let session = self.byte_field(COMMA)?;
+            let session = self.session(COMMA)?;
             return Some(Request::Tally { session, minute: self.minute(LINE_END)? });
         }
         if self.skip(b"issue,") {
@@ -130,7 +131,7 @@ impl Reader<'_> {
         Some(match &letter {
             b"a," => {
                 let predicate = self.byte_field(COMMA)?;
-                Formula::Atom { predicate, session: self.byte_field(LINE_END)? }
+                Formula::Atom { predicate, session: self.session(LINE_END)? }
             }
             b"o\n" => Formula::One,
             b"t," => Formula::Tensor(self.formula_id(COMMA)?, self.formula_id(LINE_END)?),
@@ -227,9 +228,13 @@ impl Reader<'_> {
         (digits[16] == end).then_some(value)
     }
 
-    /// Predicate, session or principal.
+    /// Predicate or principal.
     fn byte_field(&mut self, end: u8) -> Option<u8> {
         Some(self.number(0, MAX_BYTE_FIELD, end)? as u8)
+    }
+
+    fn session(&mut self, end: u8) -> Option<u16> {
+        Some(self.number(0, MAX_SESSION, end)? as u16)
     }
 
     fn minute(&mut self, end: u8) -> Option<u32> {

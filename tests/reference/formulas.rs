@@ -1,26 +1,17 @@
 //! The till's formulas by number, with size, plainness, weights and balance, each worked out once.
 
+use super::content::{Atoms, Content, NO_ATOMS};
 use super::logic::{Formula, FormulaId};
 use super::refusal;
 
 pub const MAX_FORMULAS: usize = 200;
 const MAX_SIZE: u32 = 64;
-const SESSIONS: usize = 256;
 
-/// Predicate of a seat.
-const SEAT: u8 = 1;
-/// Predicate of a place.
-const PLACE: u8 = 2;
-
-/// Weights for every session; the size bound keeps each within -64 to 64.
-type Weights = [i8; SESSIONS];
-
-/// How many seats and places of one session stand in a formula.
-#[derive(Clone, Copy)]
-pub struct Atoms {
-    pub seats: u8,
-    pub places: u8,
-}
+/// A set of formulas: bit n % 64 of word n / 64 stands for formula n.
+type Set = [u64; SET_WORDS];
+const SET_WORDS: usize = MAX_FORMULAS.div_ceil(64);
+/// Sessions fall into so many groups, by their remainder.
+const GROUPS: usize = 64;
 
 /// What is known of one formula besides its line.
 #[derive(Clone, Copy)]
@@ -40,9 +31,10 @@ pub struct Formulas {
     count: usize,
     lines: [Formula; MAX_FORMULAS],
     facts: [Facts; MAX_FORMULAS],
-    weights: [Weights; MAX_FORMULAS],
-    /// By session, then formula: a tally asks for one session and many formulas.
-    atoms: [[Atoms; MAX_FORMULAS]; SESSIONS],
+    contents: [Content; MAX_FORMULAS],
+    /// For each group of sessions the formulas in which one of them stands; a tally of one session
+    /// looks into these alone.
+    groups: [Set; GROUPS],
 }
 
 impl Formulas {
@@ -51,8 +43,8 @@ impl Formulas {
             count: 0,
             lines: [Formula::One; MAX_FORMULAS],
             facts: [Facts { size: 0, plain: false, even: false, balanced: false }; MAX_FORMULAS],
-            weights: [[0; SESSIONS]; MAX_FORMULAS],
-            atoms: [[Atoms { seats: 0, places: 0 }; MAX_FORMULAS]; SESSIONS],
+            contents: [Content::EMPTY; MAX_FORMULAS],
+            groups: [[0; SET_WORDS]; GROUPS],
         }
     }
 
@@ -74,8 +66,17 @@ impl Formulas {
     }
 
     /// Seats and places of a session, by formula number.
-    pub fn atoms(&self, session: u8) -> &[Atoms; MAX_FORMULAS] {
-        &self.atoms[usize::from(session)]
+    pub fn atoms(&self, session: u16) -> [Atoms; MAX_FORMULAS] {
+        let mut atoms = [NO_ATOMS; MAX_FORMULAS];
+        for (word, &bits) in self.groups[group(session)].iter().enumerate() {
+            let mut rest = bits;
+            while rest != 0 {
+                let id = 64 * word + rest.trailing_zeros() as usize;
+                atoms[id] = self.contents[id].atoms(session);
+                rest &= rest - 1;
+            }
+        }
+        atoms
     }
 
     /// Adds a formula and gives its number, or the refusal: 10, 12, 13, 14 in this order.
@@ -95,52 +96,51 @@ impl Formulas {
         if self.count == MAX_FORMULAS {
             return Err(refusal::FORMULAS_FULL);
         }
-        let weights = self.weigh(line);
+        let content = self.content_of(line);
         let even = self.is_even(line);
-        let balanced = even && is_zero(&weights);
+        let balanced = even && content.is_weightless();
         let plain = self.is_plain(line);
         self.facts[self.count] = Facts { size: size as u8, plain, even, balanced };
-        self.weights[self.count] = weights;
+        self.contents[self.count] = content;
+        for session in content.sessions() {
+            self.groups[group(session)][self.count / 64] |= 1 << (self.count % 64);
+        }
         self.lines[self.count] = line;
-        self.count_atoms(line);
         self.count += 1;
         Ok((self.count - 1) as FormulaId)
     }
 
-    fn weights(&self, id: FormulaId) -> &Weights {
-        &self.weights[id as usize]
+    fn content(&self, id: FormulaId) -> &Content {
+        &self.contents[id as usize]
     }
 
-    /// The weight of a new formula, for every session.
-    fn weigh(&self, line: Formula) -> Weights {
-        let mut weights = [0; SESSIONS];
+    /// The content of a new formula, a part used twice counted twice.
+    fn content_of(&self, line: Formula) -> Content {
         match line {
-            Formula::Atom { predicate: SEAT | PLACE, session } => weights[usize::from(session)] = 1,
-            Formula::Atom { .. } | Formula::One | Formula::Covers(..) => {}
-            Formula::Tensor(i, j) => {
-                let (left, right) = (self.weights(i), self.weights(j));
-                for (weight, (l, r)) in weights.iter_mut().zip(left.iter().zip(right)) {
-                    *weight = l + r;
-                }
-            }
-            Formula::Lolli(i, j) => {
-                let (left, right) = (self.weights(i), self.weights(j));
-                for (weight, (l, r)) in weights.iter_mut().zip(left.iter().zip(right)) {
-                    *weight = r - l;
-                }
-            }
-            Formula::With(left, _) | Formula::Plus(left, _) => weights = *self.weights(left),
-            Formula::Implies(_, right) => weights = *self.weights(right),
-            Formula::Bang(i) | Formula::At(i, _) | Formula::Says(_, i) => weights = *self.weights(i),
+            Formula::Atom { predicate, session } => Content::atom(predicate, session),
+            Formula::One | Formula::Covers(..) => Content::EMPTY,
+            Formula::Tensor(i, j) => self.join(i, j, |left, right| left + right),
+            Formula::Lolli(i, j) => self.join(i, j, |left, right| right - left),
+            Formula::With(i, j) | Formula::Plus(i, j) => self.join(i, j, |left, _| left),
+            Formula::Implies(i, j) => self.join(i, j, |_, right| right),
+            Formula::Bang(i) | Formula::At(i, _) | Formula::Says(_, i) => *self.content(i),
         }
-        weights
+    }
+
+    fn join(&self, i: FormulaId, j: FormulaId, weigh: impl Fn(i8, i8) -> i8) -> Content {
+        Content::join(self.content(i), self.content(j), weigh)
+    }
+
+    /// Two formulas weigh alike for every session.
+    fn alike(&self, i: FormulaId, j: FormulaId) -> bool {
+        self.content(i).weights().eq(self.content(j).weights())
     }
 
     /// The `even` fact of a new formula: of its parts, and of itself.
     fn is_even(&self, line: Formula) -> bool {
         let itself = match line {
-            Formula::With(i, j) | Formula::Plus(i, j) => self.weights(i) == self.weights(j),
-            Formula::Bang(i) | Formula::Implies(i, _) => is_zero(self.weights(i)),
+            Formula::With(i, j) | Formula::Plus(i, j) => self.alike(i, j),
+            Formula::Bang(i) | Formula::Implies(i, _) => self.content(i).is_weightless(),
             _ => true,
         };
         itself && line.parts().iter().flatten().all(|&part| self.facts[part as usize].even)
@@ -150,25 +150,8 @@ impl Formulas {
         let itself = matches!(line, Formula::Atom { .. } | Formula::Tensor(..) | Formula::Says(..));
         itself && line.parts().iter().flatten().all(|&part| self.plain(part))
     }
-
-    /// Counts seats and places of the new formula, a part used twice counted twice.
-    fn count_atoms(&mut self, line: Formula) {
-        let new = self.count;
-        for row in &mut self.atoms {
-            for part in line.parts().into_iter().flatten() {
-                let Atoms { seats, places } = row[part as usize];
-                row[new].seats += seats;
-                row[new].places += places;
-            }
-        }
-        if let Formula::Atom { predicate, session } = line {
-            let atoms = &mut self.atoms[usize::from(session)][new];
-            atoms.seats = u8::from(predicate == SEAT);
-            atoms.places = u8::from(predicate == PLACE);
-        }
-    }
 }
 
-fn is_zero(weights: &Weights) -> bool {
-    weights == &[0; SESSIONS]
+fn group(session: u16) -> usize {
+    usize::from(session) % GROUPS
 }

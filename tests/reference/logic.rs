@@ -27,7 +27,7 @@ pub type FormulaId = u32;
 #[derive(Clone, Copy, PartialEq, Eq, Debug)]
 pub enum Formula {
     /// `a,predicate,session`
-    Atom { predicate: u8, session: u8 },
+    Atom { predicate: u8, session: u16 },
     /// `o`: 1
     One,
     /// `t,i,j`: i ⊗ j

@@ -1,5 +1,7 @@
 //! The booking till: formulas, live credentials, and the one call that answers a request.
 
+#[path = "content.rs"]
+mod content;
 #[path = "credentials.rs"]
 mod credentials;
 #[path = "form.rs"]
@@ -87,8 +89,8 @@ impl Till {
         self.credentials.remove(serial).ok_or(refusal::NOT_LIVE)
     }
 
-    fn tally(&self, session: u8, minute: u32) -> Answer {
-        let (open, shut, placed) = self.credentials.tally(minute, self.formulas.atoms(session));
+    fn tally(&self, session: u16, minute: u32) -> Answer {
+        let (open, shut, placed) = self.credentials.tally(minute, &self.formulas.atoms(session));
         Answer::Counted(open, shut, placed)
     }
 

@@ -1,6 +1,6 @@
 /* Plays the sheets of standard input through the static library and prints the answers as tillrun does; then counts
- * again: at each of some minutes, for every session, open + shut + placed + withdrawn = issued, the last two counted from
- * the accepted sheets and their answers alone. Exit status 1 where a sum does not hold. */
+ * again: at each of some minutes, for every session that occurs and some more, open + shut + placed + withdrawn = issued,
+ * the last two counted from the accepted sheets and their answers alone. Exit status 1 where a sum does not hold. */
 #include "oysterbrim.h"
 #include "recount.h"
 #include <stdio.h>
@@ -43,10 +43,24 @@ static int holds(unsigned session, unsigned minute) {
     uint32_t answer[4];
     int length = snprintf(sheet, sizeof sheet, "tally,%u,%u\n", session, minute);
     till_call(till, (const uint8_t *)sheet, (size_t)length, scratch, answer);
-    uint32_t sum = answer[1] + answer[2] + answer[3] + history->withdrawn[session];
-    if (answer[0] == 3 && sum == history->issued[session]) return 1;
-    fprintf(stderr, "session %u, minute %u: the sum is %u, issued %u\n", session, minute, sum, history->issued[session]);
+    struct Counted counted = history_count(history, session);
+    uint32_t sum = answer[1] + answer[2] + answer[3] + counted.withdrawn;
+    if (answer[0] == 3 && sum == counted.issued) return 1;
+    fprintf(stderr, "session %u, minute %u: the sum is %u, issued %u\n", session, minute, sum, counted.issued);
     return 0;
+}
+
+/* Whether the sums hold at a minute: of the sessions of all atoms, of those that a byte or its neighbour would take for
+ * them, and of the first and the last. */
+static int hold_all(unsigned minute) {
+    static const unsigned some[] = {0, 1, 255, 256, LAST_SESSION - 1, LAST_SESSION};
+    int good = 1;
+    for (size_t k = 0; k < sizeof some / sizeof *some; k++) good &= holds(some[k], minute);
+    for (uint32_t n = 0; n < history->wordings; n++) {
+        unsigned session = history->wording[n].session;
+        good &= holds(session, minute) & holds(session % 256, minute) & holds((session + 256) % 65536, minute);
+    }
+    return good;
 }
 
 int main(void) {
@@ -61,9 +75,7 @@ int main(void) {
         from = i + 1;
     }
     if (from < count) play(bytes + from, count - from);
-    for (size_t m = 0; m < sizeof minutes / sizeof *minutes; m++) {
-        for (unsigned session = 0; session < SESSIONS; session++) good &= holds(session, minutes[m]);
-    }
+    for (size_t m = 0; m < sizeof minutes / sizeof *minutes; m++) good &= hold_all(minutes[m]);
     if (history->unread) fprintf(stderr, "%u accepted sheets cannot be read\n", history->unread);
     return good && !history->unread ? 0 : 1;
 }

@@ -51,12 +51,16 @@ form =
     ("word,a,01,7\n" ⇒ refused 2) ∷
     ("word,a,256,7\n" ⇒ refused 2) ∷
     ("word,a,99999999999999999999,7\n" ⇒ refused 2) ∷
-    ("word,a,255,255\n" ⇒ accepted 0) ∷
+    ("word,a,255,65536\n" ⇒ refused 2) ∷
+    ("word,a,7,65543\n" ⇒ refused 2) ∷
+    ("word,a,255,65535\n" ⇒ accepted 0) ∷
+    ("word,s,256,0\n" ⇒ refused 2) ∷
+    ("word,s,255,0\n" ⇒ accepted 1) ∷
     ("withdraw,0\n" ⇒ refused 2) ∷
     ("withdraw,1000000\n" ⇒ refused 2) ∷
     ("withdraw,999999\n" ⇒ refused 24) ∷
-    ("tally,255,9999999\n" ⇒ ok (0 ∷ 0 ∷ 0 ∷ [])) ∷
-    ("tally,256,0\n" ⇒ refused 2) ∷
+    ("tally,65535,9999999\n" ⇒ ok (0 ∷ 0 ∷ 0 ∷ [])) ∷
+    ("tally,65536,0\n" ⇒ refused 2) ∷
     ("tally,0,10000000\n" ⇒ refused 2) ∷ []
 
 -- 2, then 3 over the whole sheet, then 10; 13 for a line that is there.
@@ -136,8 +140,34 @@ tallies =
     ("withdraw,5\n" ⇒ refused 24) ∷
     ("withdraw,4\n" ⇒ accepted 4) ∷ []
 
+-- Document 02, ask 1, "Sessions go from 0 to 65,535": a seat of session 65,535 and one of session 255, alike in their
+-- last byte, side by side. Tally tells them apart, so does what weighs alike (21), and so does `ax` (40).
+abbrev pub sessions : List Turn
+sessions =
+    ("word,a,1,65535\n" ⇒ accepted 0) ∷
+    ("word,a,1,255\n" ⇒ accepted 1) ∷
+    ("word,a,2,65535\n" ⇒ accepted 2) ∷
+    ("word,l,1,2\n" ⇒ accepted 3) ∷
+    ("word,l,0,2\n" ⇒ accepted 4) ∷
+    ("issue,r,3,0,9\n" ⇒ refused 21) ∷
+    ("issue,r,4,0,9\n" ⇒ accepted 1) ∷
+    ("issue,s,0,0,9\n" ⇒ accepted 2) ∷
+    ("tally,65535,5\n" ⇒ ok (1 ∷ 0 ∷ 0 ∷ [])) ∷
+    ("tally,255,5\n" ⇒ ok (0 ∷ 0 ∷ 0 ∷ [])) ∷
+    ("issue,s,1,0,9\n" ⇒ accepted 3) ∷
+    ("tally,65535,5\n" ⇒ ok (1 ∷ 0 ∷ 0 ∷ [])) ∷
+    ("tally,255,5\n" ⇒ ok (1 ∷ 0 ∷ 0 ∷ [])) ∷
+    ("tally,65279,5\n" ⇒ ok (0 ∷ 0 ∷ 0 ∷ [])) ∷
+    (("book,5,0,0,9,1,1" ∷ "hold,3" ∷ "ax,0" ∷ []) ⇛ Told.no 40 1) ∷
+    (("book,5,1,0,9,1,1" ∷ "hold,2" ∷ "ax,0" ∷ []) ⇛ Told.no 40 1) ∷
+    (("book,5,2,0,9,2,4" ∷ "hold,1" ∷ "hold,2" ∷ "cp,0" ∷ "ll,2,0000000000000002,0,9" ∷ "ax,1" ∷ "ax,3"
+    ∷ []) ⇛ accepted 4) ∷
+    ("tally,65535,5\n" ⇒ ok (0 ∷ 0 ∷ 1 ∷ [])) ∷
+    ("withdraw,3\n" ⇒ accepted 3) ∷
+    ("tally,255,5\n" ⇒ ok (0 ∷ 0 ∷ 0 ∷ [])) ∷ []
+
 abbrev pub cases : List (List Turn)
-cases = form ∷ order ∷ bookings ∷ tallies ∷ []
+cases = form ∷ order ∷ bookings ∷ tallies ∷ sessions ∷ []
 
 abbrev pub CasesPlay : Type 0
 CasesPlay = AllAnswered cases

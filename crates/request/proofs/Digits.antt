@@ -16,7 +16,8 @@ use Rattle.request.specs.Text.{andThen, reads, decimalDigit, hexDigit, d
 use Rattle.request.specs.Text.{hexFirst, hexLast, hexShift}
 use Rattle.request.specs.Write.{written, digits, hexByte, hexWritten, hexDigits}
 use Rattle.request.specs.InRange.{_inRange_, LabelSet}
-use Rattle.request.proofs.Gives.{Gives, nothing, just, gives-then, gives-so, gives-if}
+use Rattle.request.specs.Statements.{Wider}
+use Rattle.request.proofs.Gives.{Gives, nothing, just, given, gives-then, gives-so, gives-if}
 
 -- all bytes from lo on
 abbrev pub Plain : ℕ → List ℕ → Type 0
@@ -263,6 +264,12 @@ unfolding numberIn
 number-only r t =
     gives-then (decimal-only t) (λ n e.
     gives-between (r .first) (r .last) n (λ h k. just (record { least = h; most = k }, e)) nothing)
+
+pub number-wider : Wider
+number-wider r s l m t n e =
+    let q = given (number-only r t) e in
+    subst (λ (u : List ℕ). numberIn s u ≡ some n) (q .1)
+    (number-back s n (record { least = omega (arith, q .0 .least); most = omega (arith, q .0 .most) }))
 
 -- A set of labels: hexadecimal, of fixed length
 

@@ -40,8 +40,8 @@ predicate-exact = number-exact predicate 2 (omega arith)
 pub principal-exact : NumberExact principal 4
 principal-exact = number-exact principal 2 (omega arith)
 
-pub session-exact : NumberExact session 4
-session-exact = number-exact session 2 (omega arith)
+pub session-exact : NumberExact session 6
+session-exact = number-exact session 4 (omega arith)
 
 pub holds-exact : NumberExact holds 3
 holds-exact = number-exact holds 1 (omega arith)

@@ -5,3 +5,4 @@ pub mod Readers
 pub mod Fields
 pub mod LineReaders
 pub mod Requests
+pub mod Ends

@@ -6,3 +6,4 @@ pub mod Read
 pub mod Write
 pub mod InRange
 pub mod Statements
+pub mod Ends

@@ -1,5 +1,5 @@
--- "Ranges: predicate, session, principal 0 to 255; minute 0 to 9,999,999; wording 0 to 999; serial 1 to 999,999;
--- label 0 to 63; holds 0 to 32; steps 1 to 256. A sheet has at most 16,384 bytes."
+-- "Ranges: predicate, .., principal 0 to 255; minute 0 to 9,999,999; wording 0 to 999; serial 1 to 999,999;
+-- label 0 to 63; holds 0 to 32; steps 1 to 256. A sheet has at most 16,384 bytes." Sessions: document 02.
 use Prim.Native.Nat.{ℕ, _+_}
 
 pub record Range : Type 0 where
@@ -13,8 +13,9 @@ m ‥ n = record { first = m; last = n }
 abbrev pub predicate : Range
 predicate = 0 ‥ 255
 
+-- document 02, ask 1: "Sessions go from 0 to 65,535 in atoms and in tally."
 abbrev pub session : Range
-session = 0 ‥ 255
+session = 0 ‥ 65535
 
 abbrev pub principal : Range
 principal = 0 ‥ 255

@@ -4,7 +4,8 @@ use mathlib.Core.List.{List}
 use mathlib.Core.Option.{some}
 use Prim.Native.Nat.{ℕ, _≤_}
 use lib.ListN.{length}
-use Rattle.request.specs.Range.{maxBytes}
+use Rattle.request.specs.Range.{Range, maxBytes}
+use Rattle.request.specs.Text.{numberIn}
 use Rattle.request.specs.Request.{Request}
 use Rattle.request.specs.Read.{requestOf}
 use Rattle.request.specs.Write.{write}
@@ -21,6 +22,12 @@ ReadInRange = (b : List ℕ) (r : Request) → requestOf b ≡ some r → InRang
 -- A request has one spelling: bytes that read as it are those that are written.
 abbrev pub ReadWrite : Type 0
 ReadWrite = (b : List ℕ) (r : Request) → requestOf b ≡ some r → write r ≡ b
+
+-- "Every sheet in use reads as before": a field that reads in a range reads as the same number in every wider one.
+abbrev pub Wider : Type 0
+Wider =
+    (r s : Range) → s .first ≤ r .first → r .last ≤ s .last → (t : List ℕ) (n : ℕ) → numberIn r t ≡ some n
+    → numberIn s t ≡ some n
 
 -- the bytes of a booking with all its fields at their longest: 40 + 32 * 12 + 256 * 39
 abbrev pub longest : ℕ

@@ -12,7 +12,8 @@ pub enum Kind {
 // What is proved of reading and writing requests. Each function does nothing: its `ensures` is the statement, of
 // specs/Statements.antt.
 
-ghost use Rattle.request.specs.Statements.{WriteRead, ReadInRange, ReadWrite, Longest, WriteShort};
+ghost use Rattle.request.specs.Ends.{RangesEnd};
+ghost use Rattle.request.specs.Statements.{WriteRead, ReadInRange, ReadWrite, Wider, Longest, WriteShort};
 
 // A request has one spelling: what is written is read again, and bytes that read as a request are those written.
 pub fn one_spelling()
@@ -23,6 +24,16 @@ pub fn one_spelling()
 // Whatever is read is in range.
 pub fn read_in_range()
     ensures { λ _. ⌜ ReadInRange ⌝ }
+{}
+
+// Both ends of each range.
+pub fn ranges_end()
+    ensures { λ _. ⌜ RangesEnd ⌝ }
+{}
+
+// A field that reads in a range reads in every wider one, as the same number.
+pub fn wider_ranges_read_the_same()
+    ensures { λ _. ⌜ Wider ⌝ }
 {}
 
 // No request is longer than the longest booking, so none that is written is over the bytes of a sheet.

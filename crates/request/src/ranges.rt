@@ -1,7 +1,9 @@
-// The ends of the ranges, as specs/Range.antt has them (document 01: "Ranges"), for the code that reads fields.
+// The ends of the ranges, as specs/Range.antt has them (document 01: "Ranges"; sessions: document 02), for the code
+// that reads fields.
 pub const PREDICATE_LAST: u32 = 255;
 
-pub const SESSION_LAST: u32 = 255;
+// document 02, ask 1: "Sessions go from 0 to 65,535"
+pub const SESSION_LAST: u32 = 65_535;
 
 pub const PRINCIPAL_LAST: u32 = 255;
 

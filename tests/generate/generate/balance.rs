@@ -21,9 +21,21 @@ fn offer(desk: &mut Desk, part: &Part, good: bool, name: &str) {
     desk.expect(format!("issue,r,{n},0,9\n").as_bytes(), answer, &[mark]);
 }
 
-/// Seat and place of 7, seat and place of 8, a free atom and 1.
+/// Marks the last sheet, which offered this wording, where a byte could not tell whether it is balanced.
+fn mark_alike(desk: &mut Desk, part: &Part) {
+    let by_a_byte = part.renumbered(&|s| s % 256).balanced();
+    if part.names_alike() && by_a_byte {
+        desk.mark(&[if part.balanced() { "alike: balanced for each" } else { "alike: balanced only by a byte" }]);
+    }
+}
+
+/// Seat and place of one session, seat and place of another, a free atom and 1.
+fn stock_of(s: u32, t: u32) -> [Part; 6] {
+    [atom(1, s), atom(2, s), atom(1, t), atom(2, t), atom(9, s), one()]
+}
+
 fn stock() -> [Part; 6] {
-    [atom(1, 7), atom(2, 7), atom(1, 8), atom(2, 8), atom(9, 7), one()]
+    stock_of(7, 8)
 }
 
 /// Weights of atoms, 1, ⊇, ⊗, & and ⊕.
@@ -33,7 +45,7 @@ fn light(desk: &mut Desk) {
     for predicate in [0, 3, 9, 255] {
         d(atom(predicate, 7), true, "weight: a");
     }
-    for part in [&s7, &p7, &s8, &atom(1, 0), &atom(2, 255)] {
+    for part in [&s7, &p7, &s8, &atom(1, 0), &atom(2, 255), &atom(1, 256), &atom(2, LAST_SESSION)] {
         d(part.clone(), false, "weight: a");
         d(lolli(part, part), true, "weight: a");
     }
@@ -85,10 +97,14 @@ fn single_weights() -> Session {
     desk.session("balance: weights", 0)
 }
 
-fn clauses() -> Session {
-    let [s7, p7, s8, p8, f, o] = stock();
+/// The clauses for two sessions, here called 7 and 8.
+fn clauses(s: u32, t: u32) -> Session {
+    let [s7, p7, s8, p8, f, o] = stock_of(s, t);
     let mut desk = Desk::new();
-    let mut d = |part: Part, good: bool, name: &str| offer(&mut desk, &part, good, name);
+    let mut d = |part: Part, good: bool, name: &str| {
+        offer(&mut desk, &part, good, name);
+        desk.mark(&[if part.names_alike() { "apart: clauses of balance" } else { "" }]);
+    };
     d(lolli(&tensor(&s7, &s8), &tensor(&p7, &p8)), true, "one session only");
     d(lolli(&tensor(&s7, &s8), &p7), false, "one session only");
     d(lolli(&tensor(&s7, &s8), &p8), false, "one session only");
@@ -156,20 +172,36 @@ fn not_plain() -> Session {
     desk.session("balance: not plain", 0)
 }
 
-/// Offers at random: made balanced, and then with an atom changed.
+/// Something for something else of two sessions alike; and for the same with one session in the place of the other.
+fn exchange(rng: &mut Rng, world: &World, fuel: u32) -> (Part, Part) {
+    let (s, t) = (world.sessions[0], world.sessions[1]);
+    let (given, got) = (world.wording(rng, &[s, t], fuel), world.wording(rng, &[t, s], fuel));
+    let crossed = got.renumbered(&|session| if session == s { t } else { session });
+    (lolli(&given, &got), lolli(&given, &crossed))
+}
+
+/// Offers at random: made balanced, and then with an atom or a session changed.
 pub fn random(seed: u64) -> Session {
     let mut rng = Rng::new(seed);
     let world = World::new(&mut rng);
     let mut desk = Desk::new();
+    let mut two = false;
     while desk.model.lines.len() < 150 {
+        two = !two;
         let fuel = rng.between(2, 14);
-        let part = world.wording(&mut rng, &[], fuel);
-        let small = part.size() <= 64 && desk.missing(std::slice::from_ref(&part)) <= 40;
-        if small {
-            offer(&mut desk, &part, true, "offer at random");
+        let (part, other) = if two {
+            exchange(&mut rng, &world, fuel / 2)
+        } else {
+            let part = world.wording(&mut rng, &[], fuel);
             let other = changed(&mut rng, &world, &part);
+            (part, other)
+        };
+        if part.size() <= 64 && desk.missing(&[part.clone(), other.clone()]) <= 50 {
+            offer(&mut desk, &part, true, "offer at random");
+            mark_alike(&mut desk, &part);
             let n = desk.enter(&other);
             desk.play(format!("issue,r,{n},0,9\n").as_bytes(), Steps::Close);
+            mark_alike(&mut desk, &other);
         }
     }
     desk.session("balance: random", seed)
@@ -187,13 +219,16 @@ fn changed(rng: &mut Rng, world: &World, part: &Part) -> Part {
         Wording::Bang(a) => bang(&go(a)),
         Wording::At(a, w) => at(&go(a), *w),
         Wording::Says(k, a) => says(*k, &go(a)),
+        Wording::Atom(k, s) if rng.chance(1, 2) => atom(*k, world.beside(*s)),
         _ if rng.chance(1, 2) => world.weighty_atom(rng, world.sessions[0]),
         _ => world.free_atom(rng),
     }
 }
 
 pub fn sessions() -> Vec<Session> {
-    let mut all = vec![single_weights(), clauses(), not_plain()];
+    let mut all = vec![single_weights(), not_plain()];
+    let pairs = [(7, 8), (7, 263), (255, LAST_SESSION), (256, 0), (65_279, LAST_SESSION)];
+    all.extend(pairs.map(|(s, t)| clauses(s, t)));
     all.extend((0..4).map(deep));
     all
 }

@@ -111,6 +111,7 @@ impl Booking {
         marks.extend((self.script.lines.len() == 256).then_some("256 steps"));
         marks.extend((self.holds.len() == 32).then_some("32 holds"));
         marks.extend(self.two_within_two().then_some("two premises within two"));
+        marks.extend(self.singles_alike().then_some("alike: both in one booking"));
         for h in self.holds.iter().filter(|h| h.standing) {
             let mut parts = vec![];
             h.wording.collect(&mut parts);
@@ -119,6 +120,13 @@ impl Booking {
         marks.sort();
         marks.dedup();
         marks
+    }
+
+    /// Singles of two sessions that are alike are held together.
+    fn singles_alike(&self) -> bool {
+        let singles = self.holds.iter().filter(|h| !h.standing);
+        let all: Vec<u32> = singles.flat_map(|h| h.wording.sessions()).collect();
+        all.iter().any(|s| all.iter().any(|t| alike(*s, *t)))
     }
 
     fn two_within_two(&self) -> bool {

@@ -37,6 +37,7 @@ fn required(long: bool) -> Vec<(&'static str, Vec<String>)> {
     ];
     let later = [&late::LATE[..], &slips::ARMS, &slips::JOINED, &slips::NAMES, &slips::ARROWS];
     let at_once = [&pairs::BOOK_PAIRS[..], &pairs::STEP_ORDER, &pairs::CALL_PAIRS];
+    let past_255 = [&tour::ENDS.concat()[..], &tour::TOUR];
     let mut groups = vec![
         ("refusal numbers", refusals),
         ("step letters in accepted bookings", all(&LETTERS)),
@@ -54,6 +55,8 @@ fn required(long: bool) -> Vec<(&'static str, Vec<String>)> {
         ("damage", all(&damage::DAMAGE)),
         ("life of coupons", all(&life::LIFE)),
         ("document 01's sessions", all(&papers::PAPERS)),
+        ("session numbers past 255", all(&past_255.concat())),
+        ("sessions alike, by chance", all(&tour::ALIKE)),
     ];
     groups.extend(long.then(|| ("the last serial", all(&long::LONG))));
     groups

@@ -19,11 +19,12 @@ fn mark_of(name: &str) -> &'static str {
 }
 
 /// A good sheet of each kind, with its answer when they are played in this order.
-const GOOD: [(&str, &str); 12] = [
+const GOOD: [(&str, &str); 14] = [
     ("word,a,12,34", "ok,5"), ("word,o", "ok,6"), ("word,t,1,2", "ok,7"), ("word,b,1", "ok,8"),
     ("word,h,1,23,45", "ok,9"), ("word,s,6,1", "ok,10"), ("word,g,12,34,56,78", "ok,11"),
+    ("word,a,1,65535", "ok,12"),
     ("issue,s,1,23,45", "ok,4"), ("issue,r,4,10,60", "ok,5"), ("withdraw,4", "ok,4"),
-    ("tally,7,1234567", "ok,0,1,0"),
+    ("tally,7,1234567", "ok,0,1,0"), ("tally,65535,50", "ok,0,0,0"),
     ("book,15,1,10,20,2,4|hold,1|hold,2|cp,0|ll,2,0000000000000002,10,20|ax,1|ax,3", "ok,6"),
 ];
 

@@ -134,6 +134,7 @@ pub fn exercise(b: &Booking, desk: &mut Desk, g: &mut Grower, seen: &mut Seen, b
     late::move_labels(b, desk, g.rng, 1 + breaks / 4);
     late::unused_single(b, desk, g.rng);
     late::missing_single(b, desk);
+    late::alike_single(b, desk, g.rng);
     late::ends(b, desk, g.rng);
     late::label_64(b, desk, g, seen, 1 + breaks / 5);
     b.accept(desk);

@@ -1,6 +1,6 @@
 //! The form of a sheet (η-logic's request): lines, fields and ranges, and nothing else.
 
-use super::wording::{window, Window, LAST_MINUTE};
+use super::wording::{window, Window, LAST_MINUTE, LAST_SESSION};
 
 #[derive(Clone, Copy, PartialEq, Eq, Debug)]
 pub enum Kind {
@@ -53,8 +53,13 @@ fn minute(field: &str) -> Option<u32> {
     number(field, 0, LAST_MINUTE)
 }
 
+/// A predicate or a principal.
 fn byte(field: &str) -> Option<u32> {
     number(field, 0, 255)
+}
+
+fn session(field: &str) -> Option<u32> {
+    number(field, 0, LAST_SESSION)
 }
 
 fn wording(field: &str) -> Option<u32> {
@@ -87,7 +92,7 @@ fn wording_line(fields: &[&str]) -> Option<WordingLine> {
         text: fields.join(","),
     };
     match fields {
-        ["a", p, s] => line.numbers = vec![byte(p)?, byte(s)?],
+        ["a", p, s] => line.numbers = vec![byte(p)?, session(s)?],
         ["o"] => {}
         ["t" | "w" | "p" | "l" | "u", i, j] => line.refs = vec![wording(i)?, wording(j)?],
         ["b", i] => line.refs = vec![wording(i)?],
@@ -170,7 +175,7 @@ fn lines(text: &str) -> Option<Sheet> {
             Some(Sheet::Issue(kind, wording(w)?, span(from, to)?))
         }
         ["withdraw", s] => serial(s).map(Sheet::Withdraw),
-        ["tally", s, m] => Some(Sheet::Tally(byte(s)?, minute(m)?)),
+        ["tally", s, m] => Some(Sheet::Tally(session(s)?, minute(m)?)),
         _ => None,
     }
 }

@@ -55,7 +55,7 @@ fn play(desk: &mut Desk, b: &Booking) {
 /// As many singles as that, joined in one goal, the shares between empty and full.
 fn many_singles(g: &mut Grower, n: usize, w: Window) -> Deriv {
     if n == 1 {
-        let session = g.rng.pick(&[7, 8]);
+        let session = g.rng.pick(&[7, 8, 263]);
         return g.axiom(atom(1, session), w);
     }
     let cut = 1 + g.rng.below(n - 1);
@@ -83,5 +83,6 @@ pub fn session(seed: u64) -> Session {
     }
     desk.tally(7, 3);
     desk.tally(8, 9);
+    desk.tally(263, 3);
     desk.session("full bookings", seed)
 }

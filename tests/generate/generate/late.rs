@@ -11,12 +11,12 @@ use super::session::Desk;
 use super::wording::*;
 use super::write::{Hold, Script, StepLine};
 
-pub const LATE: [&str; 15] = [
+pub const LATE: [&str; 16] = [
     "tr: label moved left", "tr: label moved right", "ll: label moved to the share",
     "ll: label moved to the rest", "ax: unused single", "or: unused single", "br: unused single",
     "gr: unused single", "42: a step missing", "42: cut short", "42: a step too many",
     "42: many steps too many", "40 where label 64 is wanted", "missing single",
-    "42: cut after a first premise",
+    "42: cut after a first premise", "ax: single of a session alike",
 ];
 
 fn late(text: &str) -> &'static str {
@@ -96,6 +96,27 @@ pub fn missing_single(b: &Booking, desk: &mut Desk) {
     }
     let sheet = b.sheet(&b.serials[..last], &b.texts());
     desk.expect(&sheet, Answer::Refused(40, used), &[late("missing single")]);
+}
+
+/// For one of the atoms held, that of a session alike: the step that closes with it is wrong.
+pub fn alike_single(b: &Booking, desk: &mut Desk, rng: &mut Rng) {
+    let bare = |i: &usize| !b.holds[*i].standing && b.holds[*i].wording.letter() == 'a';
+    let mut bare: Vec<usize> = (0..b.holds.len()).filter(bare).collect();
+    rng.shuffle(&mut bare);
+    let Some(place) = bare.pop() else { return };
+    let Wording::Atom(predicate, session) = &*b.holds[place].wording else { return };
+    let other = atom(*predicate, rng.alike(*session));
+    if desk.missing(std::slice::from_ref(&other)) + desk.model.lines.len() > 200 {
+        return;
+    }
+    let serial = desk.issue(Kind::Single, &other, b.holds[place].window);
+    let mut serials = b.serials.clone();
+    serials[place] = serial;
+    let closes = |l: &StepLine| l.letters == "ax" && l.label == Some(place as u32);
+    let step = b.script.lines.iter().position(closes).expect("every single is used") as u32 + 1;
+    let mark = late("ax: single of a session alike");
+    desk.expect(&b.sheet(&serials, &b.texts()), Answer::Refused(40, step), &[mark]);
+    desk.expect(format!("withdraw,{serial}\n").as_bytes(), Answer::Done(serial), &["withdraw single"]);
 }
 
 /// 42 both ways.

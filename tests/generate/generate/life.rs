@@ -60,6 +60,10 @@ fn withdraw(desk: &mut Desk, rng: &mut Rng, booked: &[u32], dead: &mut Vec<u32>)
         Kind::Single => "withdraw single",
     };
     desk.script(&format!("withdraw,{}", c.serial), &format!("ok,{}", c.serial), name);
+    let own = c.wording.sessions();
+    if c.kind == Kind::Single && desk.model.seated(&|s| own.iter().any(|t| alike(s, *t))) {
+        desk.mark(&["alike: withdrawn beside the other"]);
+    }
     dead.push(c.serial);
     let held = format!("book,0,0,0,0,1,1\nhold,{}\nax,0\n", c.serial);
     if desk.model.wordings[0].plain() {
@@ -118,10 +122,10 @@ pub fn session(seed: u64, calls: usize) -> Session {
     desk.session("life", seed)
 }
 
-/// Tallies at both ends of every live window, for every session that occurs.
+/// Tallies at both ends of every live window, for every session that occurs and one that is alike.
 fn every_end(desk: &mut Desk) {
-    let sessions: std::collections::BTreeSet<u32> =
-        desk.model.live.iter().flat_map(|c| c.wording.sessions()).collect();
+    let named = desk.model.live.iter().flat_map(|c| c.wording.sessions());
+    let sessions: std::collections::BTreeSet<u32> = named.flat_map(|s| [s, s ^ 256]).collect();
     let windows: std::collections::BTreeSet<Window> = desk.model.live.iter().map(|c| c.window).collect();
     for session in sessions {
         for w in windows.iter().take(4) {
@@ -130,6 +134,7 @@ fn every_end(desk: &mut Desk) {
         }
     }
     desk.play(b"tally,255,0\n", Steps::Close);
+    desk.play(b"tally,65535,0\n", Steps::Close);
 }
 
 /// One coupon of each sort through all that can happen to it.

@@ -149,6 +149,12 @@ impl Model {
         Ok(Done(serial))
     }
 
+    /// Some live single has a seat or place of such a session.
+    pub fn seated(&self, of: &dyn Fn(u32) -> bool) -> bool {
+        let singles = self.live.iter().filter(|c| c.kind == Kind::Single);
+        singles.into_iter().any(|c| c.wording.sessions().into_iter().any(of))
+    }
+
     fn tally(&self, session: u32, minute: u32) -> Answer {
         let (mut open, mut shut, mut placed) = (0, 0, 0);
         for c in self.live.iter().filter(|c| c.kind == Kind::Single) {

@@ -200,6 +200,8 @@ fn words(desk: &mut Desk) {
     desk.script("word,t,999,0,", "no,2,0", "pair: word 2 and 10");
     desk.script("word,t,999,1000", "no,2,0", "pair: word 2 and 10");
     desk.script("word,a,9,07", "no,2,0", "pair: word 2 and 13");
+    desk.script("word,a,9,65543", "no,2,0", "pair: word 2 and 13");
+    desk.script("word,a,265,7", "no,2,0", "pair: word 2 and 13");
     desk.script("word,h,0,0,09", "no,2,0", "pair: word 2 and 13");
     desk.script("word,h,999,9,8", "no,3,0", "pair: word 3 and 10");
     desk.script("word,h,6,9,8", "no,3,0", "pair: word 3 and 12");
@@ -211,6 +213,7 @@ fn words(desk: &mut Desk) {
         desk.words(&[&format!("a,10,{n}")]);
     }
     desk.script("word,a,300,0", "no,2,0", "pair: word 2 and 14");
+    desk.script("word,a,0,65536", "no,2,0", "pair: word 2 and 14");
     desk.script("word,h,0,9,8", "no,3,0", "pair: word 3 and 14");
     desk.script("word,g,0,9,9,8", "no,3,0", "pair: word 3 and 14");
     desk.script("word,t,0,200", "no,10,0", "pair: word 10 and 14");
@@ -219,6 +222,8 @@ fn words(desk: &mut Desk) {
     desk.script("word,t,5,5", "no,12,0", "pair: word 12 and 14");
     desk.script("word,t,4,4", "no,13,0", "pair: word 13 and 14");
     desk.script("word,h,0,0,9", "no,13,0", "pair: word 13 and 14");
+    desk.script("word,a,9,263", "no,14,0", "200 wordings there");
+    desk.script("word,a,9,65535", "no,14,0", "200 wordings there");
     desk.script(&format!("word,t,4,4{long}"), "no,1,0", "pair: overlong");
 }
 
@@ -240,6 +245,7 @@ fn other_calls(desk: &mut Desk) {
     }
     desk.script(&format!("issue,s,7,9,8{long}"), "no,1,0", "pair: overlong");
     desk.script(&format!("tally,256,5{long}"), "no,1,0", "pair: overlong");
+    desk.script(&format!("tally,65536,5{long}"), "no,1,0", "pair: overlong");
     desk.script(&format!("withdraw,777777{long}"), "no,1,0", "pair: overlong");
     for text in ["withdraw,0777", "withdraw,777,", "withdraw,0", "withdraw,777|withdraw,778"] {
         desk.script(text, "no,2,0", "pair: withdraw 2 and 24");

@@ -2,7 +2,7 @@
 
 use super::session::{Desk, Session};
 
-const WORDS: [&str; 8] = ["a,1,7", "a,2,7", "a,9,7", "s,1,0", "s,2,2", "s,1,1", "t,3,4", "l,6,5"];
+pub const WORDS: [&str; 8] = ["a,1,7", "a,2,7", "a,9,7", "s,1,0", "s,2,2", "s,1,1", "t,3,4", "l,6,5"];
 
 /// M1 up to the booking, serial 2's window ending as given.
 fn before_booking(desk: &mut Desk, last: u32) {
@@ -22,6 +22,11 @@ fn booking(head: &str, holds: &str, share: &str) -> String {
 const HEAD: &str = "540,5,540,600";
 const HOLDS: &str = "hold,1|hold,2|hold,3";
 const SHARE: &str = "0000000000000002";
+
+/// M1's booking as it stands.
+pub fn m1_booking() -> String {
+    booking(HEAD, HOLDS, SHARE)
+}
 
 fn variant(n: usize) -> Desk {
     let mut desk = Desk::new();

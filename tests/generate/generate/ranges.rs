@@ -39,7 +39,10 @@ fn field(desk: &mut Desk, text: &str, lo: u32, hi: u32, steps: Steps) {
 fn wording_fields(desk: &mut Desk) {
     let no = Steps::Close;
     field(desk, "word,a,{},7", 0, 255, no);
-    field(desk, "word,a,9,{}", 0, 255, no);
+    field(desk, "word,a,{},65535", 0, 255, no);
+    for predicate in [1, 2, 9] {
+        field(desk, &format!("word,a,{predicate},{{}}"), 0, LAST_SESSION, no);
+    }
     for letter in ["t", "w", "p", "l", "u"] {
         field(desk, &format!("word,{letter},{{}},1"), 0, 999, no);
         field(desk, &format!("word,{letter},2,{{}}"), 0, 999, no);
@@ -70,7 +73,7 @@ fn call_fields(desk: &mut Desk) {
         field(desk, &format!("issue,{kind},0,{{}},9999999"), 0, LAST_MINUTE, no);
         field(desk, &format!("issue,{kind},0,0,{{}}"), 0, LAST_MINUTE, no);
     }
-    field(desk, "tally,{},5", 0, 255, no);
+    field(desk, "tally,{},5", 0, LAST_SESSION, no);
     field(desk, "tally,7,{}", 0, LAST_MINUTE, no);
     let serial = desk.issue(Kind::Single, &atom(9, 7), window(0, 9));
     desk.script(&format!("withdraw,{}", serial + 1), "no,24,0", "range: first serial not given");

@@ -34,6 +34,12 @@ impl Rng {
         list[self.below(list.len())].clone()
     }
 
+    /// A session number that differs from this one by a multiple of 256, often by 256 itself.
+    pub fn alike(&mut self, session: u32) -> u32 {
+        let far = self.between(1, 255);
+        session ^ (256 * self.pick(&[1, 255, far]))
+    }
+
     pub fn shuffle<T>(&mut self, list: &mut [T]) {
         for i in (1..list.len()).rev() {
             let j = self.below(i + 1);

@@ -135,17 +135,22 @@ impl Desk {
     pub fn tally(&mut self, session: u32, minute: u32) {
         self.play(format!("tally,{session},{minute}\n").as_bytes(), Steps::Close);
         self.mark(&["tally"]);
+        if self.model.seated(&|s| alike(s, session)) {
+            let both = self.model.seated(&|s| s == session);
+            self.mark(&[if both { "alike: tally of both" } else { "alike: tally of the other" }]);
+        }
     }
 
-    /// Tallies for some live coupon's sessions at and beside both ends of its window.
+    /// Tallies for some live coupon's sessions, or ones alike, at and beside both ends of its window.
     pub fn tallies(&mut self, rng: &mut Rng, how_many: usize) {
         for _ in 0..how_many {
-            let (mut session, mut minute) = (rng.between(0, 255), rng.between(0, LAST_MINUTE));
+            let (mut session, mut minute) = (rng.between(0, LAST_SESSION), rng.between(0, LAST_MINUTE));
             if !self.model.live.is_empty() {
                 let c = rng.pick(&self.model.live);
                 let all: Vec<u32> = c.wording.sessions().into_iter().collect();
                 if !all.is_empty() {
                     session = rng.pick(&all);
+                    session = if rng.chance(1, 4) { rng.alike(session) } else { session };
                 }
                 let (from, to) = (c.window.from, c.window.to);
                 minute = rng.pick(&[from, to, from.saturating_sub(1), (to + 1).min(LAST_MINUTE)]);

@@ -4,6 +4,13 @@ use std::collections::BTreeSet;
 use std::rc::Rc;
 
 pub const LAST_MINUTE: u32 = 9_999_999;
+/// The last session number, in atoms and in tally; predicates and principals end at 255.
+pub const LAST_SESSION: u32 = 65_535;
+
+/// Two session numbers that differ by a multiple of 256: a byte would not tell them apart.
+pub fn alike(a: u32, b: u32) -> bool {
+    a != b && a % 256 == b % 256
+}
 
 /// A window (η-logic's interval).
 #[derive(Clone, Copy, PartialEq, Eq, PartialOrd, Ord, Debug)]
@@ -142,6 +149,30 @@ impl Wording {
             all.insert(*session);
         }
         all
+    }
+
+    /// Seats and places of two sessions that are alike.
+    pub fn names_alike(&self) -> bool {
+        let all = self.sessions();
+        all.iter().any(|s| all.iter().any(|t| alike(*s, *t)))
+    }
+
+    /// The wording with every session number exchanged for another.
+    pub fn renumbered(&self, of: &dyn Fn(u32) -> u32) -> Part {
+        let go = |p: &Part| p.renumbered(of);
+        match self {
+            Atom(predicate, session) => atom(*predicate, of(*session)),
+            One => one(),
+            Tensor(a, b) => tensor(&go(a), &go(b)),
+            With(a, b) => with(&go(a), &go(b)),
+            Plus(a, b) => plus(&go(a), &go(b)),
+            Lolli(a, b) => lolli(&go(a), &go(b)),
+            Implies(a, b) => implies(&go(a), &go(b)),
+            Bang(a) => bang(&go(a)),
+            At(a, w) => at(&go(a), *w),
+            Says(k, a) => says(*k, &go(a)),
+            Covers(outer, inner) => covers(*outer, *inner),
+        }
     }
 
     pub fn weighs_nothing(&self) -> bool {

@@ -5,6 +5,7 @@ use super::wording::*;
 
 pub struct World {
     pub now: u32,
+    /// Three, of which the first two are alike.
     pub sessions: Vec<u32>,
     pub principals: Vec<u32>,
     /// Predicates other than seat and place.
@@ -30,11 +31,24 @@ impl World {
         let pair = |rng: &mut Rng| vec![rng.between(0, 255), rng.pick(&[0, 7, 255])];
         World {
             now,
-            sessions: pair(rng),
+            sessions: World::sessions(rng),
             principals: pair(rng),
             free: vec![rng.pick(&[0, 3, 255]), rng.between(3, 254)],
             windows,
         }
+    }
+
+    /// A number of any length, one that a byte does not tell from it, and one at an end.
+    fn sessions(rng: &mut Rng) -> Vec<u32> {
+        let (small, large) = (rng.between(0, 255), rng.between(256, LAST_SESSION));
+        let first = rng.pick(&[small, small, large, 0, 7, 255, LAST_SESSION]);
+        let end = rng.pick(&[0, 7, 255, 256, LAST_SESSION, large]);
+        vec![first, rng.alike(first), end]
+    }
+
+    /// The session of the stock that is alike, or else the nearest that is.
+    pub fn beside(&self, session: u32) -> u32 {
+        self.sessions.iter().copied().find(|s| alike(*s, session)).unwrap_or(session ^ 256)
     }
 
     pub fn any(&self, rng: &mut Rng) -> Window {
@@ -74,7 +88,7 @@ impl World {
             'w' => with(&self.wording(rng, want, fuel / 2), &self.wording(rng, want, fuel / 2)),
             'p' => plus(&self.wording(rng, want, fuel / 2), &self.wording(rng, want, fuel / 2)),
             'l' => {
-                let extra = vec![rng.pick(&self.sessions); rng.below(3)];
+                let extra: Vec<u32> = (0..rng.below(3)).map(|_| rng.pick(&self.sessions)).collect();
                 let both = [want, &extra].concat();
                 lolli(&self.wording(rng, &extra, fuel / 2), &self.wording(rng, &both, fuel / 2))
             }

@@ -195,6 +195,18 @@ fn refusal_13_for_an_equal_line_only() {
     }
 }
 
+#[test]
+fn refusal_13_not_for_sessions_that_differ_by_256_or_more() {
+    let words =
+        ["word,a,1,7", "word,a,1,263", "word,a,1,255", "word,a,1,65535", "word,a,1,32767", "word,a,1,0"];
+    for line in words {
+        assert_eq!(after(&words, line), Refused(13, 0), "{line}");
+    }
+    for line in ["word,a,1,519", "word,a,1,65279", "word,a,1,256", "word,a,1,65534", "word,a,1,32768"] {
+        assert_eq!(after(&words, line), Done(6), "{line}");
+    }
+}
+
 /// Words 0 to 199: atoms of predicate 3.
 fn full_of_words() -> Till {
     let mut till = Till::new();

@@ -20,9 +20,30 @@ fn check(pattern: &str, inside: &[u32], outside: &[u32]) {
 }
 
 #[test]
-fn predicate_session_and_principal_go_from_0_to_255() {
-    for pattern in ["word,a,#,0", "word,a,0,#", "word,s,#,0", "tally,#,0"] {
-        check(pattern, &[0, 9, 10, 99, 100, 255], &[256, 260, 300, 999, 1000]);
+fn predicate_and_principal_go_from_0_to_255() {
+    for pattern in ["word,a,#,0", "word,a,#,65535", "word,s,#,0"] {
+        check(pattern, &[0, 9, 10, 99, 100, 255], &[256, 260, 300, 999, 1000, 65_535, 65_536, 65_791]);
+    }
+}
+
+#[test]
+fn sessions_go_from_0_to_65_535() {
+    // 65,543 is 7 and 131,071 is 65,535 with 16 bits; 16,777,223 is 7 with 24
+    let outside = [65_536, 65_537, 65_543, 65_791, 70_000, 99_999, 100_000, 131_071, 655_350, 16_777_223];
+    for pattern in ["word,a,0,#", "word,a,1,#", "word,a,255,#", "tally,#,0", "tally,#,9999999"] {
+        check(pattern, &[0, 9, 10, 255, 256, 999, 1000, 9999, 10_000, 32_767, 32_768, 65_535], &outside);
+    }
+}
+
+#[test]
+fn a_session_too_large_breaks_the_form_and_is_never_cut() {
+    let words = ["word,a,1,7", "issue,s,0,0,9"];
+    for number in ["65536", "65543", "4294967303", "18446744073709551623", "065535", "65535 ", "65535,"] {
+        assert_eq!(after(&words, &format!("word,a,1,{number}")), Refused(2, 0), "{number}");
+        assert_eq!(after(&words, &format!("word,a,2,{number}")), Refused(2, 0), "{number}");
+    }
+    for number in ["65536", "65543", "4294967303", "18446744073709551623", "065535", "65535 "] {
+        assert_eq!(after(&words, &format!("tally,{number},0")), Refused(2, 0), "{number}");
     }
 }
 

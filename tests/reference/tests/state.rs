@@ -27,6 +27,106 @@ fn balanced_needs_weight_0_for_every_session() {
     assert_eq!(stand(&["a,1,7", "a,9,7", "l,0,1"]), WRONG);
 }
 
+/// Sessions that a cut to 8 or 15 bits, or a sign, would mix up.
+const APART: [(u32, u32); 6] = [(255, 65_535), (7, 263), (0, 256), (32_767, 65_535), (0, 32_768), (71, 135)];
+
+#[test]
+fn balance_tells_sessions_apart() {
+    for (one, other) in APART.into_iter().chain(APART.map(|(one, other)| (other, one))) {
+        let (seat, place) = (format!("a,1,{one}"), format!("a,2,{one}"));
+        let (other_seat, other_place) = (format!("a,1,{other}"), format!("a,2,{other}"));
+        assert_eq!(stand(&[&seat, &place, "l,0,1"]), RIGHT, "{one}");
+        assert_eq!(stand(&[&seat, &other_place, "l,0,1"]), WRONG, "{one} {other}");
+        assert_eq!(stand(&[&seat, &other_seat, "l,0,1"]), WRONG, "{one} {other}");
+        // seat of one and seat of the other ⊸ place of the other and place of one
+        let mut words = vec![&seat[..], &other_seat, &place, &other_place, "t,0,1", "t,3,2", "l,4,5"];
+        assert_eq!(stand(&words), RIGHT, "{one} {other}");
+        // .. and two places of one
+        words[5] = "t,2,2";
+        assert_eq!(stand(&words), WRONG, "{one} {other}");
+        // arms of & and ⊕, under ! and left of ⊃
+        for letter in ["w", "p"] {
+            let arms = format!("{letter},0,1");
+            assert_eq!(stand(&[&seat, &place, &arms, "l,0,2"]), RIGHT, "{one}");
+            assert_eq!(stand(&[&seat, &other_place, &arms, "l,0,2"]), WRONG, "{one} {other}");
+            assert_eq!(stand(&[&seat, &other_place, &arms, "l,2,2"]), WRONG, "{one} {other}");
+        }
+        assert_eq!(stand(&[&seat, &other_place, "l,0,1", "b,2", "l,3,3"]), WRONG, "{one} {other}");
+        assert_eq!(stand(&[&seat, &other_place, "l,0,1", "u,2,2", "l,3,3"]), WRONG, "{one} {other}");
+    }
+}
+
+#[test]
+fn the_last_session_weighs() {
+    for session in [65_534, 65_535] {
+        let seat = format!("a,1,{session}");
+        assert_eq!(stand(&[&seat]), WRONG);
+        assert_eq!(stand(&[&seat, "o", "l,0,1"]), WRONG);
+        assert_eq!(stand(&[&seat, "l,0,0"]), RIGHT);
+    }
+}
+
+/// Lines for seats of these sessions, in this order, then for their ⊗, grown to the left; the last
+/// line has size 2n - 1.
+fn seats_of(sessions: &[u32]) -> Vec<String> {
+    let seats = sessions.iter().map(|session| format!("a,1,{session}"));
+    let count = sessions.len();
+    let tensors = (1..count).map(|n| format!("t,{},{n}", if n == 1 { 0 } else { count + n - 2 }));
+    seats.chain(tensors).collect()
+}
+
+#[test]
+fn thirty_two_sessions_in_a_wording() {
+    // neither rising nor falling, from 0 to 65,535
+    let sessions: Vec<u32> = (0..32).map(|n| n * 13 % 32 * 65_535 / 31).collect();
+    let mut till = Till::new();
+    for (number, line) in seats_of(&sessions).iter().enumerate() {
+        assert_eq!(ask(&mut till, &format!("word,{line}")), Done(number as u32));
+    }
+    assert_eq!(ask(&mut till, "issue,s,62,0,9"), Done(1));
+    assert_eq!(ask(&mut till, "word,s,1,62"), Done(63));
+    assert_eq!(ask(&mut till, "issue,s,63,5,9"), Done(2));
+    assert_eq!(ask(&mut till, "word,t,0,62"), Refused(12, 0));
+    for session in &sessions {
+        assert_eq!(ask(&mut till, &format!("tally,{session},0")), Counted(1, 1, 0));
+        assert_eq!(ask(&mut till, &format!("tally,{session},5")), Counted(2, 0, 0));
+        if *session > 0 {
+            assert_eq!(ask(&mut till, &format!("tally,{},5", session - 1)), Counted(0, 0, 0));
+        }
+        if *session < 65_535 {
+            assert_eq!(ask(&mut till, &format!("tally,{},5", session + 1)), Counted(0, 0, 0));
+        }
+    }
+}
+
+/// ⊗ of the seats of 16 sessions ⊸ ⊗ of those of them with these numbers, 0 to 15.
+fn offer_of_sixteen(right: &[usize]) -> Vec<String> {
+    let sessions: Vec<u32> = (0..16).map(|n| 65_535 - n * 256).collect();
+    let mut words = seats_of(&sessions);
+    let left = words.len() - 1;
+    words.push(format!("t,{},{}", right[0], right[1]));
+    for number in &right[2..] {
+        words.push(format!("t,{},{number}", words.len() - 1));
+    }
+    words.push(format!("l,{left},{}", words.len() - 1));
+    words
+}
+
+#[test]
+fn sixteen_sessions_on_either_side_balance_one_by_one() {
+    let falling: Vec<usize> = (0..16).rev().collect();
+    let stand_for = |right: &[usize]| {
+        let words = offer_of_sixteen(right);
+        stand(&words.iter().map(String::as_str).collect::<Vec<_>>())
+    };
+    assert_eq!(stand_for(&falling), RIGHT);
+    for at in 0..16 {
+        let mut right = falling.clone();
+        right[at] = (right[at] + 1) % 16;
+        assert_eq!(stand_for(&right), WRONG, "{at}");
+    }
+}
+
 #[test]
 fn weights_of_tensor_lolli_and_says() {
     assert_eq!(stand(&["a,1,7", "l,0,0", "t,0,1"]), WRONG);
@@ -98,6 +198,45 @@ fn tally_counts_seats_by_window_and_places_in_any() {
 }
 
 #[test]
+fn tally_tells_sessions_apart() {
+    for (one, other) in APART {
+        let words = [format!("word,a,1,{one}"), format!("word,a,1,{other}"), format!("word,a,2,{other}")];
+        let coupons = ["word,t,0,1", "issue,s,0,0,9", "issue,s,1,0,4", "issue,s,2,0,9", "issue,s,3,5,9"];
+        let mut till = till_after(&[&[&words[0][..], &words[1], &words[2]][..], &coupons].concat());
+        assert_eq!(ask(&mut till, &format!("tally,{one},0")), Counted(1, 1, 0), "{one} {other}");
+        assert_eq!(ask(&mut till, &format!("tally,{one},5")), Counted(2, 0, 0), "{one} {other}");
+        assert_eq!(ask(&mut till, &format!("tally,{other},0")), Counted(1, 1, 1), "{one} {other}");
+        assert_eq!(ask(&mut till, &format!("tally,{other},9")), Counted(1, 1, 1), "{one} {other}");
+        assert_eq!(ask(&mut till, "withdraw,1"), Done(1));
+        assert_eq!(ask(&mut till, &format!("tally,{one},5")), Counted(1, 0, 0), "{one} {other}");
+        assert_eq!(ask(&mut till, &format!("tally,{other},5")), Counted(1, 1, 1), "{one} {other}");
+    }
+}
+
+#[test]
+fn a_session_past_255_is_moved_by_a_booking_and_stays_in_its_sum() {
+    let session = 65_535;
+    let words = ["a,1,#", "a,2,#", "a,9,#", "s,1,0", "s,2,2", "s,1,1", "t,3,4", "l,6,5"];
+    let mut till = Till::new();
+    for word in words {
+        let line = format!("word,{}", word.replace('#', &session.to_string()));
+        assert!(matches!(ask(&mut till, &line), Done(_)), "{line}");
+    }
+    for issue in ["issue,r,7,0,9999", "issue,s,3,0,600", "issue,s,4,0,600"] {
+        assert!(matches!(ask(&mut till, issue), Done(_)), "{issue}");
+    }
+    assert_eq!(ask(&mut till, "tally,65535,540"), Counted(1, 0, 0));
+    assert_eq!(ask(&mut till, "tally,255,540"), Counted(0, 0, 0));
+    let steps = [
+        "cp,0", "ll,3,0000000000000006,540,600", "tr,0000000000000002", "sr", "sl,1", "af", "ax,4", "sr",
+        "sl,2", "af", "ax,5", "sr", "sl,6", "af", "ax,7",
+    ];
+    assert_eq!(ask(&mut till, &booking("540,5,540,600", &[1, 2, 3], &steps)), Done(4));
+    assert_eq!(ask(&mut till, "tally,65535,540"), Counted(0, 0, 1));
+    assert_eq!(ask(&mut till, "tally,255,540"), Counted(0, 0, 0));
+}
+
+#[test]
 fn tally_leaves_standing_coupons_out() {
     let mut till = till_after(&["word,a,1,7", "word,a,2,7", "word,l,0,1", "issue,r,2,0,9", "issue,s,0,0,9"]);
     assert_eq!(ask(&mut till, "tally,7,0"), Counted(1, 0, 0));
@@ -109,6 +248,7 @@ fn tally_leaves_standing_coupons_out() {
 fn tally_of_an_empty_till_is_zero() {
     assert_eq!(after(&[], "tally,0,0"), Counted(0, 0, 0));
     assert_eq!(after(&[], "tally,255,9999999"), Counted(0, 0, 0));
+    assert_eq!(after(&[], "tally,65535,9999999"), Counted(0, 0, 0));
 }
 
 #[test]
@@ -240,6 +380,105 @@ fn live_serials_are_found_as_in_a_plain_list() {
         assert_eq!(ask(&mut till, &format!("withdraw,{serial}")), wanted);
         live.retain(|other| *other != serial);
         assert_eq!(ask(&mut till, "tally,7,9"), Counted(live.len() as u32, 0, 0));
+    }
+}
+
+/// Sessions of the random wordings below.
+const SESSIONS: [u32; 7] = [0, 7, 255, 263, 32_767, 65_279, 65_535];
+
+/// A wording line as letter and numbers, for the plain recursions below.
+type Line = (char, usize, usize);
+
+/// The weight for a session, read from the paper's sentence.
+fn weight(lines: &[Line], id: usize, session: usize) -> i32 {
+    let (letter, i, j) = lines[id];
+    let part = |part| weight(lines, part, session);
+    match letter {
+        'a' => i32::from((i == 1 || i == 2) && j == session),
+        't' => part(i) + part(j),
+        'w' | 'p' => part(i),
+        'l' => part(j) - part(i),
+        'u' => part(j),
+        'b' => part(i),
+        _ => part(j),
+    }
+}
+
+/// "In every part, itself included", for a session.
+fn even(lines: &[Line], id: usize, session: usize) -> bool {
+    let (letter, i, j) = lines[id];
+    let weigh = |part| weight(lines, part, session);
+    match letter {
+        'a' => true,
+        'b' => weigh(i) == 0 && even(lines, i, session),
+        's' => even(lines, j, session),
+        _ => {
+            let itself = match letter {
+                'w' | 'p' => weigh(i) == weigh(j),
+                'u' => weigh(i) == 0,
+                _ => true,
+            };
+            itself && even(lines, i, session) && even(lines, j, session)
+        }
+    }
+}
+
+/// How many atoms of a predicate and session stand in a wording.
+fn count(lines: &[Line], id: usize, predicate: usize, session: usize) -> u32 {
+    let (letter, i, j) = lines[id];
+    match letter {
+        'a' => u32::from(i == predicate && j == session),
+        'b' => count(lines, i, predicate, session),
+        's' => count(lines, j, predicate, session),
+        _ => count(lines, i, predicate, session) + count(lines, j, predicate, session),
+    }
+}
+
+/// Adds a random line if the till takes it.
+fn grow(till: &mut Till, lines: &mut Vec<Line>, numbers: &mut Numbers) {
+    let letter = ['a', 't', 'w', 'p', 'l', 'u', 'b', 's', 't', 'l'][numbers.below(10)];
+    let count = lines.len();
+    let line = match letter {
+        'a' => (letter, numbers.below(4), SESSIONS[numbers.below(SESSIONS.len())] as usize),
+        _ if count == 0 => return,
+        's' => (letter, numbers.below(256), numbers.below(count)),
+        _ => (letter, numbers.below(count), numbers.below(count)),
+    };
+    let (_, i, j) = line;
+    let text = if letter == 'b' { format!("word,b,{i}") } else { format!("word,{letter},{i},{j}") };
+    if let Done(number) = ask(till, &text) {
+        assert_eq!(number as usize, count);
+        lines.push(line);
+    }
+}
+
+#[test]
+fn balance_and_tally_are_those_of_a_plain_recursion() {
+    let mut numbers = Numbers(1);
+    for _ in 0..300 {
+        let (mut till, mut lines) = (Till::new(), Vec::new());
+        for _ in 0..150 {
+            grow(&mut till, &mut lines, &mut numbers);
+        }
+        let mut singles = Vec::new();
+        for id in 0..lines.len() {
+            let all = |holds: fn(&[Line], usize, usize) -> bool| {
+                SESSIONS.iter().all(|&session| holds(&lines, id, session as usize))
+            };
+            let balanced = all(even) && all(|lines, id, session| weight(lines, id, session) == 0);
+            let accepted = matches!(ask(&mut till, &format!("issue,r,{id},0,9")), Done(_));
+            assert_eq!(accepted, balanced, "{id} of {lines:?}");
+            if matches!(ask(&mut till, &format!("issue,s,{id},0,9")), Done(_)) {
+                singles.push(id);
+            }
+        }
+        for session in SESSIONS {
+            let sum = |predicate| {
+                singles.iter().map(|&id| count(&lines, id, predicate, session as usize)).sum::<u32>()
+            };
+            assert_eq!(ask(&mut till, &format!("tally,{session},0")), Counted(sum(1), 0, sum(2)));
+            assert_eq!(ask(&mut till, &format!("tally,{session},10")), Counted(0, sum(1), sum(2)));
+        }
     }
 }
 
