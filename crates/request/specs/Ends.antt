@@ -7,7 +7,7 @@ use Rattle.request.specs.Range.{Range, predicate, session, principal, mi
 use Rattle.request.specs.Range.{holds, steps}
 use Rattle.request.specs.Text.{bytes, numberIn}
 
--- the text is read as the range's first number, or its last, and no number that the other text stands for is read
+-- these texts are read as the range's first number and its last; those of the numbers before and after are not read
 pub record Ends (r : Range) (first last below past : String) : Type 0 where
   pub from : numberIn r (bytes first) ≡ some (r .first)
   pub to : numberIn r (bytes last) ≡ some (r .last)

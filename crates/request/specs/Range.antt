@@ -1,6 +1,5 @@
 -- "Ranges: predicate, .., principal 0 to 255; minute 0 to 9,999,999; wording 0 to 999; serial 1 to 999,999;
--- label 0 to 63; holds 0 to 32; steps 1 to 256. A sheet has at most 16,384 bytes." Sessions are as document 02 has
--- them.
+-- label 0 to 63; holds 0 to 32; steps 1 to 256. A sheet has at most 16,384 bytes." Sessions: document 02.
 use Prim.Native.Nat.{ℕ, _+_}
 
 pub record Range : Type 0 where

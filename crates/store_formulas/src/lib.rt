@@ -9,12 +9,12 @@ ghost use Rattle.ledger.specs.Checks.{anyOf, sameRow};
 ghost use Rattle.ledger.specs.Calls.{withLine};
 ghost use Rattle.store.specs.Store.{lineOf, ledgerOf, Good, StandsFor, Wordable};
 
-// Equal letters and equal fields. Most rows differ in the letter or a number, so these are one test, and intervals are
-// looked at only where it holds.
+// Equal letters and equal fields. Most rows differ in a number, then in the letter, and intervals are looked at only
+// where these are the same.
 fn same_row(x: Row, y: Row) -> bool
     ensures { λ r. ⌜ r ≡ sameRow x y ⌝ }
 {
-    if (x.letter == y.letter) & ((x.a == y.a) & (x.b == y.b)) {
+    if (x.a == y.a) & ((x.b == y.b) & (x.letter == y.letter)) {
         if intervals::same(x.first, y.first) {
             return intervals::same(x.second, y.second);
         }

@@ -1,6 +1,6 @@
 -- `same_row` meets its contract: what is left of `sameRow` after each test.
 use mathlib.Core.Path.{_≡_, refl, sym, _∙_}
-use mathlib.Core.Bool.{Bool, true, false, _&&_, and-assoc}
+use mathlib.Core.Bool.{Bool, true, false, _&&_}
 use borrow.Author.Needs.{needs}
 use lib.Dec.{eqb}
 use Rattle.logic.specs.Interval.{sameInterval}
@@ -9,9 +9,18 @@ use Rattle.ledger.specs.Checks.{sameRow}
 use Rattle.store_formulas.proofs.same_row.Statement.{statement}
 use Rattle.store_formulas.proofs.same_row.Tie as tie
 
+-- the letter is tried after the numbers
+letter-last : (l a b f : Bool) → (l && (a && (b && f))) ≡ ((a && (b && l)) && f)
+letter-last true true true f = refl
+letter-last true true false f = refl
+letter-last true false b f = refl
+letter-last false true true f = refl
+letter-last false true false f = refl
+letter-last false false b f = refl
+
 module _ (x y : Row) where
   abbrev heads : Bool
-  heads = eqb (x .letter) (y .letter) && (eqb (x .a) (y .a) && eqb (x .b) (y .b))
+  heads = eqb (x .a) (y .a) && (eqb (x .b) (y .b) && eqb (x .letter) (y .letter))
 
   abbrev firsts : Bool
   firsts = sameInterval (x .first) (y .first)
@@ -21,7 +30,7 @@ module _ (x y : Row) where
 
   in-three : sameRow x y ≡ (heads && (firsts && seconds))
   unfolding sameRow
-  in-three = sym (rw (and-assoc, and-assoc) refl)
+  in-three = letter-last (eqb (x .letter) (y .letter)) (eqb (x .a) (y .a)) (eqb (x .b) (y .b)) (firsts && seconds)
 
   all-same : heads ≡ true → firsts ≡ true → seconds ≡ sameRow x y
   all-same e f = sym (in-three ∙ rw (e, f))
