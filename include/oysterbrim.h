@@ -2,7 +2,7 @@
  *
  * The functions are those of target/staticlib/libentry.a, which `rt staticlib entry` proves and writes (x86-64 Linux).
  * They keep nothing between calls, allocate nothing and do no input or output; several tills may be used side by side. A
- * call takes up to 96 KB of stack, at a booking of 256 steps of which each waits for the next.
+ * call takes up to 128 KB of stack, at a booking of 256 steps of which each waits for the next.
  */
 #ifndef OYSTERBRIM_H
 #define OYSTERBRIM_H

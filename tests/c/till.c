@@ -10,7 +10,7 @@
 #include <sys/mman.h>
 #include <ucontext.h>
 
-enum { PAGE = 4096, ROOM = 1 << 21, SMALL = 256 * 1024, TAKEN = 96 * 1024 };
+enum { PAGE = 4096, ROOM = 1 << 21, SMALL = 256 * 1024, TAKEN = 128 * 1024 };
 
 static unsigned passed, failed;
 
