@@ -322,7 +322,7 @@ static size_t on_small_stack(struct Block *block, const char *sheet) {
 static void measured(struct Block *block, const char *sheet, const uint32_t expected[4], const char *name) {
     size_t taken = on_small_stack(block, sheet);
     check(memcmp(small.answer, expected, sizeof small.answer) == 0, "the answer on a small stack", name);
-    check(taken <= TAKEN, "the header's 96 KB of stack", name);
+    check(taken <= TAKEN, "the header's 128 KB of stack", name);
     printf("%s: %zu bytes of stack\n", name, taken);
 }
 
