@@ -42,8 +42,8 @@ trait Side {
 }
 
 struct Proved {
-    block: [u32; 8148],
-    scratch: [u32; 1536],
+    block: [u32; 10996],
+    scratch: [u32; 2048],
 }
 
 impl Side for Proved {
@@ -176,7 +176,7 @@ impl Together {
 }
 
 fn main() {
-    let mut proved = Box::new(Proved { block: [0; 8148], scratch: [0; 1536] });
+    let mut proved = Box::new(Proved { block: [0; 10996], scratch: [0; 2048] });
     let mut reference = Box::new(Till::new());
     let words: Vec<String> = std::env::args().skip(1).collect();
     if words[0] == "--once" {

@@ -7,7 +7,7 @@ import sys
 
 M1 = ["a,1,7", "a,2,7", "a,9,7", "s,1,0", "s,2,2", "s,1,1", "t,3,4", "l,6,5"]
 M1_STEPS = (
-    "cp,0 ll,3,0000000000000006,540,600 tr,0000000000000002 sr sl,1 af ax,4 sr sl,2 af ax,5 sr sl,6 af ax,7"
+    "cp,0 ll,3,0000000000000006,540,600,0,0 tr,0000000000000002 sr sl,1 af ax,4 sr sl,2 af ax,5 sr sl,6 af ax,7"
 ).split()
 
 
@@ -21,18 +21,18 @@ def book(head, holds, steps):
 
 
 def m1():
-    issues = ["issue,r,7,0,9999", "issue,s,3,0,600", "issue,s,4,0,600", "tally,7,540"]
-    return [], words(M1) + issues + [book("540,5,540,600", [1, 2, 3], M1_STEPS), "tally,7,540"]
+    issues = ["issue,r,7,0,9999,0,0", "issue,s,3,0,600,0,0", "issue,s,4,0,600,0,0", "tally,7,540"]
+    return [], words(M1) + issues + [book("540,5,540,600,0,0", [1, 2, 3], M1_STEPS), "tally,7,540"]
 
 
 def full_till():
     """512 coupons live; then one is withdrawn and one issued, in turns, all over the till, until each has changed often."""
-    begin = words(M1) + ["issue,s,0,0,9"] * 512
+    begin = words(M1) + ["issue,s,0,0,9,0,0"] * 512
     live = list(range(1, 513))
     turns = []
     for n in range(2048):
         k = (n * 173) % 512
-        turns += [f"withdraw,{live[k]}", "issue,s,0,0,9"]
+        turns += [f"withdraw,{live[k]}", "issue,s,0,0,9,0,0"]
         live[k] = 513 + n
     return begin, turns
 
@@ -41,50 +41,52 @@ def tallies():
     """200 wordings, 512 coupons."""
     atoms = [f"a,{1 + n % 3},{n // 3}" for n in range(150)]
     pairs = [f"t,{n},{n + 1}" for n in range(50)]
-    begin = words(atoms + pairs) + [f"issue,s,{n % 200},0,{n}" for n in range(512)]
+    begin = words(atoms + pairs) + [f"issue,s,{n % 200},0,{n},0,0" for n in range(512)]
     return begin, [f"tally,{n % 50},{n}" for n in range(200)]
 
 
 def booked_15():
     """M1's booking, 100 times."""
-    begin = words(M1) + ["issue,r,7,0,9999"] + ["issue,s,3,0,600", "issue,s,4,0,600"] * 100
-    return begin, [book("540,5,540,600", [1, 2 + 2 * n, 3 + 2 * n], M1_STEPS) for n in range(100)]
+    begin = words(M1) + ["issue,r,7,0,9999,0,0"] + ["issue,s,3,0,600,0,0", "issue,s,4,0,600,0,0"] * 100
+    return begin, [book("540,5,540,600,0,0", [1, 2 + 2 * n, 3 + 2 * n], M1_STEPS) for n in range(100)]
 
 
 def booked_256():
     """A goal under 63 affirmations, by way of an offer whose part is under 61 of them; accepted in 256 steps."""
     begin = words(["a,1,7"] + [f"s,1,{n}" for n in range(63)] + ["o"] + [f"s,1,{n}" for n in range(64, 125)])
-    begin += words(["l,125,64", "h,64,0,9"]) + ["issue,r,126,0,9", "issue,r,127,0,9"] + ["issue,s,0,0,9"] * 40
-    steps = ["sr", "af"] * 63 + ["cp,0", "cp,1", "hl,4", "ol,5", "ll,3,0000000000000000,0,9"] + ["sr", "af"] * 61
+    begin += words(["l,125,64", "h,64,0,9,0,0"]) + ["issue,r,126,0,9,0,0", "issue,r,127,0,9,0,0"]
+    begin += ["issue,s,0,0,9,0,0"] * 40
+    steps = ["sr", "af"] * 63 + ["cp,0", "cp,1", "hl,4", "ol,5", "ll,3,0000000000000000,0,9,0,0"] + ["sr", "af"] * 61
     steps += ["or", "ol,6", "ax,2"]
-    return begin, [book("5,63,0,9", [1, 2, 3 + n], steps) for n in range(40)]
+    return begin, [book("5,63,0,9,0,0", [1, 2, 3 + n], steps) for n in range(40)]
 
 
 def refused():
     """For each refusal sheets that get it; all but 14, 22 and 23 of a till with M1's coupons."""
-    begin = words(M1 + ["t,5,5", "l,3,8"]) + ["issue,r,7,0,9999"] + ["issue,s,3,0,600", "issue,s,4,0,600"]
-    head, good = "540,5,540,600", list(M1_STEPS)
+    begin = words(M1 + ["t,5,5", "l,3,8"]) + ["issue,r,7,0,9999,0,0"] + ["issue,s,3,0,600,0,0", "issue,s,4,0,600,0,0"]
+    head, good = "540,5,540,600,0,0", list(M1_STEPS)
     sizes = words(["a,1,7", "t,0,0", "t,1,1", "t,2,2", "t,3,3", "t,4,4"])
     all_words = words([f"a,{1 + n % 3},{n // 3}" for n in range(200)])
-    atom = words(["a,1,7"])
+    atom, issue = words(["a,1,7"]), "issue,s,0,0,9,0,0"
     return {
         1: (begin, ["x" * 16384]),  # with its line end 16,385 bytes
         2: (begin, ["word,a,01,7", book(head, [1, 2, 3], good[:-1] + ["ax,64"]), "issue,s,99,0", "", "tally,1,1,1"]),
-        3: (begin, ["issue,s,3,9,8", book(head, [1, 2, 3], ["ul,3,9,8"] + good)]),
-        10: (begin, ["issue,s,99,0,9", "word,t,0,99", book("540,99,540,600", [1, 2, 3], good)]),
+        3: (begin, ["issue,s,3,9,8,0,0", book(head, [1, 2, 3], ["ul,3,9,8,0,0"] + good)]),
+        10: (begin, ["issue,s,99,0,9,0,0", "word,t,0,99", book("540,99,540,600,0,0", [1, 2, 3], good)]),
         12: (sizes, ["word,t,5,5"]),
         13: (begin, ["word,a,1,7", "word,l,6,5"]),
         14: (all_words, ["word,o"]),
-        20: (begin, ["issue,s,7,0,9", book("540,7,540,600", [1, 2, 3], good)]),
-        21: (begin, ["issue,r,9,0,9"]),
-        22: (atom + ["issue,s,0,0,9"] * 512, ["issue,s,0,0,9"]),
-        23: (atom + [s for n in range(999999) for s in ("issue,s,0,0,9", f"withdraw,{n + 1}")], ["issue,s,0,0,9"]),
+        20: (begin, ["issue,s,7,0,9,0,0", book("540,7,540,600,0,0", [1, 2, 3], good)]),
+        21: (begin, ["issue,r,9,0,9,0,0"]),
+        22: (atom + [issue] * 512, [issue]),
+        23: (atom + [s for n in range(999999) for s in (issue, f"withdraw,{n + 1}")], [issue]),
         24: (begin, ["withdraw,99", book(head, [1, 2, 9], good)]),
-        30: (begin, [book("539,5,540,600", [1, 2, 3], good)]),
+        30: (begin, [book("539,5,540,600,0,0", [1, 2, 3], good)]),
         31: (begin, [book(head, [1, 2, 2], good)]),
         40: (begin, [book(head, [1, 2, 3], good[:2] + ["tr,0000000000000006"] + good[3:])]),
         41: (begin, [book(head, [1, 2, 3], ["cp,0"] * 70)]),
         42: (begin, [book(head, [1, 2, 3], good[:-1]), book(head, [1, 2, 3], good + ["or"])]),
+        43: (begin, ["issue,s,3,0,9,5,9", book(head, [1, 2, 3], ["ul,3,0,9,0,5"] + good)]),
     }
 
 

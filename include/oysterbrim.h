@@ -2,7 +2,7 @@
  *
  * The functions are those of target/staticlib/libentry.a, which `rt staticlib entry` proves and writes (x86-64 Linux).
  * They keep nothing between calls, allocate nothing and do no input or output; several tills may be used side by side. A
- * call takes up to 96 KB of stack, at a booking of 256 steps of which each waits for the next.
+ * call takes up to 128 KB of stack, at a booking of 256 steps of which each waits for the next.
  */
 #ifndef OYSTERBRIM_H
 #define OYSTERBRIM_H
@@ -14,15 +14,15 @@
 extern "C" {
 #endif
 
-/* A till: a block of 8,148 numbers of 32 bits (32,592 bytes), aligned as uint32_t. It holds no pointer. */
-#define TILL_NUMBERS 8148
+/* A till: a block of 10,996 numbers of 32 bits (43,984 bytes), aligned as uint32_t. It holds no pointer. */
+#define TILL_NUMBERS 10996
 
 /* No sheet has more bytes; a longer one is refused with 1. */
 #define TILL_SHEET_BYTES 16384
 
-/* Room to work on: 1,536 numbers of 32 bits (6,144 bytes), lent for a call. What they hold before a call has no bearing
+/* Room to work on: 2,048 numbers of 32 bits (8,192 bytes), lent for a call. What they hold before a call has no bearing
  * on it, and what they hold after it says nothing. */
-#define TILL_SCRATCH 1536
+#define TILL_SCRATCH 2048
 
 /* Makes the block an empty till, whatever it held before. */
 void till_start(uint32_t till[TILL_NUMBERS]);

@@ -76,6 +76,7 @@ static const char *meaning(uint32_t refusal) {
     case 40: return "the step breaks its rule";
     case 41: return "the step is right but needs label 64";
     case 42: return "the steps end with a premise open, or lines follow the close";
+    case 43: return "a break is neither 0,0 nor inside its window";
     default: return "a refusal that the paper does not have";
     }
 }

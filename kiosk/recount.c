@@ -2,7 +2,7 @@
 #include <stdlib.h>
 #include <string.h>
 
-enum { FIELDS = 7, STANDING = 1, SINGLE = 2 };
+enum { FIELDS = 10, STANDING = 1, SINGLE = 2 };
 
 struct Field {
     const uint8_t *at;
@@ -86,12 +86,12 @@ static int note_word(struct History *history, const struct Field *fields, size_t
     switch (fields[1].at[0]) {
     case 'a': good = count == 4 && set_atom(to, fields); break;
     case 'o': good = count == 2; break;
-    case 'g': good = count == 6; break;
+    case 'g': good = count == 10; break;
     case 't': case 'w': case 'p': case 'l': case 'u':
         good = count == 4 && add_part(history, to, fields[2]) && add_part(history, to, fields[3]);
         break;
     case 'b': good = count == 3 && add_part(history, to, fields[2]); break;
-    case 'h': good = count == 5 && add_part(history, to, fields[2]); break;
+    case 'h': good = count == 7 && add_part(history, to, fields[2]); break;
     case 's': good = count == 4 && add_part(history, to, fields[3]); break;
     default: good = 0;
     }
@@ -110,7 +110,7 @@ static int give(struct History *history, uint32_t serial, uint32_t kind) {
 static int note_issue(struct History *history, const struct Field *fields, size_t count, uint32_t answer) {
     uint32_t n;
     int single = is(fields[1], "s");
-    if (count != 5 || (!single && !is(fields[1], "r")) || !wording(history, fields[2], &n)) return 0;
+    if (count != 7 || (!single && !is(fields[1], "r")) || !wording(history, fields[2], &n)) return 0;
     if (!give(history, answer, single ? SINGLE + n : STANDING)) return 0;
     history->wording[n].issued += (uint32_t)single;
     return 1;
@@ -118,7 +118,7 @@ static int note_issue(struct History *history, const struct Field *fields, size_
 
 static int note_book(struct History *history, const struct Field *fields, size_t count, uint32_t answer) {
     uint32_t n;
-    return count == 7 && wording(history, fields[2], &n) && give(history, answer, SINGLE + n);
+    return count == 9 && wording(history, fields[2], &n) && give(history, answer, SINGLE + n);
 }
 
 static int note_withdraw(struct History *history, const struct Field *fields, size_t count, uint32_t answer) {

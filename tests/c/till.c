@@ -10,7 +10,7 @@
 #include <sys/mman.h>
 #include <ucontext.h>
 
-enum { PAGE = 4096, ROOM = 1 << 21, SMALL = 256 * 1024, TAKEN = 96 * 1024 };
+enum { PAGE = 4096, ROOM = 1 << 21, SMALL = 256 * 1024, TAKEN = 128 * 1024 };
 
 static unsigned passed, failed;
 
@@ -114,9 +114,9 @@ static void words(struct Block *block) {
 /* M1 up to its first tally. */
 static void opening(struct Block *block) {
     words(block);
-    ask(block, "issue,r,7,0,9999\n", 1, 1, 0, 0);
-    ask(block, "issue,s,3,0,600\n", 1, 2, 0, 0);
-    ask(block, "issue,s,4,0,600\n", 1, 3, 0, 0);
+    ask(block, "issue,r,7,0,9999,0,0\n", 1, 1, 0, 0);
+    ask(block, "issue,s,3,0,600,0,0\n", 1, 2, 0, 0);
+    ask(block, "issue,s,4,0,600,0,0\n", 1, 3, 0, 0);
     ask(block, "tally,7,540\n", 3, 1, 0, 0);
 }
 
@@ -129,7 +129,7 @@ static void calls(void) {
     ask(&block, "tally,8,540\n", 3, 0, 0, 0);
     ask(&block, "withdraw,2\n", 1, 2, 0, 0);
     ask(&block, "tally,7,540\n", 3, 0, 0, 0);
-    ask(&block, "issue,s,5,5,5\n", 1, 4, 0, 0);
+    ask(&block, "issue,s,5,5,5,0,0\n", 1, 4, 0, 0);
     ask(&block, "tally,7,540\n", 3, 0, 0, 1);
 }
 
@@ -138,16 +138,21 @@ static void refusals(void) {
     opening(&block);
     static const char *const BROKEN[] = {
         "word,a,1,7", "word,a,1\n", "word,a,1,7,\n", "word,a,01,7\n", "word,a,256,7\n", "word,A,1,7\n", " word,o\n",
-        "issue,s,1000,0,9\n", "issue,x,0,0,9\n", "issue,s,0,0,10000000\n", "withdraw,0\n", "withdraw,1000000\n",
+        "issue,s,1000,0,9,0,0\n", "issue,x,0,0,9,0,0\n", "issue,s,0,0,10000000,0,0\n", "issue,s,0,0,9,1,10000000\n",
+        "issue,s,0,0,9\n", "word,h,0,0,9\n", "word,g,0,9,0,9\n", "withdraw,0\n", "withdraw,1000000\n",
         "tally,7,540\n\n", "tally,7,540\r\n", "book\n", "\n", "\xff\xfe\n", "hold,1\n"};
     for (size_t i = 0; i < sizeof BROKEN / sizeof *BROKEN; i++) ask(&block, BROKEN[i], 0, 2, 0, 0);
-    ask(&block, "issue,s,3,9,8\n", 0, 3, 0, 0);
-    ask(&block, "word,h,999,9,8\n", 0, 3, 0, 0);
+    ask(&block, "issue,s,3,9,8,0,0\n", 0, 3, 0, 0);
+    ask(&block, "word,h,999,9,8,0,0\n", 0, 3, 0, 0);
+    ask(&block, "issue,s,3,9,8,5,4\n", 0, 3, 0, 0);
+    ask(&block, "issue,s,99,0,9,5,9\n", 0, 43, 0, 0);
+    ask(&block, "word,h,999,0,9,0,5\n", 0, 43, 0, 0);
+    ask(&block, "word,g,0,9,1,8,0,9,5,4\n", 0, 43, 0, 0);
     ask(&block, "word,t,7,8\n", 0, 10, 0, 0);
-    ask(&block, "issue,s,8,0,9\n", 0, 10, 0, 0);
+    ask(&block, "issue,s,8,0,9,0,0\n", 0, 10, 0, 0);
     ask(&block, "word,a,9,7\n", 0, 13, 0, 0);
-    ask(&block, "issue,s,7,0,9\n", 0, 20, 0, 0);
-    ask(&block, "issue,r,3,0,9\n", 0, 21, 0, 0);
+    ask(&block, "issue,s,7,0,9,0,0\n", 0, 20, 0, 0);
+    ask(&block, "issue,r,3,0,9,0,0\n", 0, 21, 0, 0);
     ask(&block, "withdraw,4\n", 0, 24, 0, 0);
     ask(&block, "tally,7,540\n", 3, 1, 0, 0);
 }
@@ -163,7 +168,7 @@ static void lengths(void) {
     ask_long(&block, 16384, 2);
     ask_long(&block, 16385, 1);
     ask_long(&block, 1 << 20, 1);
-    ask(&block, "issue,s,3,0,600\n", 1, 1, 0, 0);
+    ask(&block, "issue,s,3,0,600,0,0\n", 1, 1, 0, 0);
 }
 
 /* A seat of session 65,535 beside one of session 255, which a byte would take for it. */
@@ -176,32 +181,54 @@ static void sessions(void) {
     ask(&block, "word,l,1,2\n", 1, 3, 0, 0);
     ask(&block, "word,l,0,2\n", 1, 4, 0, 0);
     ask(&block, "word,a,1,65536\n", 0, 2, 0, 0);
-    ask(&block, "issue,r,3,0,9\n", 0, 21, 0, 0);
-    ask(&block, "issue,r,4,0,9\n", 1, 1, 0, 0);
-    ask(&block, "issue,s,0,0,9\n", 1, 2, 0, 0);
+    ask(&block, "issue,r,3,0,9,0,0\n", 0, 21, 0, 0);
+    ask(&block, "issue,r,4,0,9,0,0\n", 1, 1, 0, 0);
+    ask(&block, "issue,s,0,0,9,0,0\n", 1, 2, 0, 0);
     ask(&block, "tally,255,5\n", 3, 0, 0, 0);
-    ask(&block, "issue,s,1,0,9\n", 1, 3, 0, 0);
+    ask(&block, "issue,s,1,0,9,0,0\n", 1, 3, 0, 0);
     ask(&block, "tally,65535,5\n", 3, 1, 0, 0);
     ask(&block, "tally,255,5\n", 3, 1, 0, 0);
     ask(&block, "tally,65536,5\n", 0, 2, 0, 0);
-    ask(&block, "book,5,0,0,9,1,1\nhold,3\nax,0\n", 0, 40, 1, 0);
-    ask(&block, "book,5,1,0,9,1,1\nhold,2\nax,0\n", 0, 40, 1, 0);
-    ask(&block, "book,5,0,0,9,1,1\nhold,2\nax,0\n", 1, 4, 0, 0);
+    ask(&block, "book,5,0,0,9,0,0,1,1\nhold,3\nax,0\n", 0, 40, 1, 0);
+    ask(&block, "book,5,1,0,9,0,0,1,1\nhold,2\nax,0\n", 0, 40, 1, 0);
+    ask(&block, "book,5,0,0,9,0,0,1,1\nhold,2\nax,0\n", 1, 4, 0, 0);
     ask(&block, "withdraw,3\n", 1, 3, 0, 0);
     ask(&block, "tally,255,5\n", 3, 0, 0, 0);
     ask(&block, "tally,65535,5\n", 3, 1, 0, 0);
+}
+
+/* A seat with a break from 3 to 5: the minutes in it and beside it, goals with breaks; 43 in a goal and in a step. */
+static void breaks(void) {
+    static struct Block block;
+    begin(&block);
+    ask(&block, "word,a,1,7\n", 1, 0, 0, 0);
+    ask(&block, "issue,s,0,0,9,3,5\n", 1, 1, 0, 0);
+    ask(&block, "tally,7,2\n", 3, 1, 0, 0);
+    ask(&block, "tally,7,3\n", 3, 0, 1, 0);
+    ask(&block, "tally,7,5\n", 3, 0, 1, 0);
+    ask(&block, "tally,7,6\n", 3, 1, 0, 0);
+    ask(&block, "book,4,0,0,9,3,5,1,1\nhold,1\nax,0\n", 0, 30, 0, 0);
+    ask(&block, "book,2,0,0,9,0,0,1,1\nhold,1\nax,0\n", 0, 40, 1, 0);
+    ask(&block, "book,2,0,0,9,4,5,1,1\nhold,1\nax,0\n", 0, 40, 1, 0);
+    ask(&block, "book,2,0,0,9,3,4,1,1\nhold,1\nax,0\n", 0, 40, 1, 0);
+    ask(&block, "book,2,0,0,9,3,9,1,1\nhold,1\nax,0\n", 0, 43, 0, 0);
+    ask(&block, "book,2,0,0,9,3,5,1,2\nhold,1\nax,0\nul,0,0,9,0,5\n", 0, 43, 0, 0);
+    ask(&block, "book,2,0,0,9,3,9,1,2\nhold,1\nax,0\nul,0,9,8,0,0\n", 0, 3, 0, 0);
+    ask(&block, "book,2,0,0,9,2,6,1,1\nhold,1\nax,0\n", 0, 30, 0, 0);
+    ask(&block, "book,1,0,0,9,2,6,1,1\nhold,1\nax,0\n", 1, 2, 0, 0);
+    ask(&block, "book,7,0,7,9,0,0,1,1\nhold,2\nax,0\n", 1, 3, 0, 0);
 }
 
 /* 512 live credentials, and the place that a withdrawn one makes. */
 static void full(void) {
     static struct Block block;
     words(&block);
-    for (uint32_t i = 1; i <= 512; i++) ask(&block, "issue,s,0,0,9\n", 1, i, 0, 0);
-    ask(&block, "issue,s,0,0,9\n", 0, 22, 0, 0);
+    for (uint32_t i = 1; i <= 512; i++) ask(&block, "issue,s,0,0,9,0,0\n", 1, i, 0, 0);
+    ask(&block, "issue,s,0,0,9,0,0\n", 0, 22, 0, 0);
     ask(&block, "tally,7,9\n", 3, 512, 0, 0);
     ask(&block, "withdraw,100\n", 1, 100, 0, 0);
-    ask(&block, "issue,s,0,0,9\n", 1, 513, 0, 0);
-    ask(&block, "issue,s,0,0,9\n", 0, 22, 0, 0);
+    ask(&block, "issue,s,0,0,9,0,0\n", 1, 513, 0, 0);
+    ask(&block, "issue,s,0,0,9,0,0\n", 0, 22, 0, 0);
 }
 
 /* Every serial is given, 500 credentials live; then 23. */
@@ -209,11 +236,11 @@ static void serials(void) {
     static struct Block block;
     static uint32_t scratch[TILL_SCRATCH];
     uint32_t answer[4];
-    char sheet[40] = "issue,s,0,0,9\n";
+    char sheet[40] = "issue,s,0,0,9,0,0\n";
     int good = 1;
     words(&block);
     for (uint32_t n = 1; good && n <= 999999; n++) {
-        till_call(block.till, (const uint8_t *)"issue,s,0,0,9\n", 14, scratch, answer);
+        till_call(block.till, (const uint8_t *)"issue,s,0,0,9,0,0\n", 18, scratch, answer);
         good = answer[0] == 1 && answer[1] == n;
         if (n <= 500) continue;
         int length = snprintf(sheet, sizeof sheet, "withdraw,%u\n", n - 500);
@@ -221,11 +248,11 @@ static void serials(void) {
         good &= answer[0] == 1 && answer[1] == n - 500;
     }
     check(good, "a serial up to the last", sheet);
-    ask(&block, "issue,s,0,0,9\n", 0, 23, 0, 0);
-    ask(&block, "book,5,0,0,9,1,1\nhold,999999\nax,0\n", 0, 23, 0, 0);
+    ask(&block, "issue,s,0,0,9,0,0\n", 0, 23, 0, 0);
+    ask(&block, "book,5,0,0,9,0,0,1,1\nhold,999999\nax,0\n", 0, 23, 0, 0);
     ask(&block, "tally,7,9\n", 3, 500, 0, 0);
     ask(&block, "withdraw,999999\n", 1, 999999, 0, 0);
-    ask(&block, "issue,s,0,0,9\n", 0, 23, 0, 0);
+    ask(&block, "issue,s,0,0,9,0,0\n", 0, 23, 0, 0);
 }
 
 /* Two tills, call by call. */
@@ -234,7 +261,7 @@ static void two(void) {
     words(&one);
     begin(&other);
     ask(&other, "word,a,1,7\n", 1, 0, 0, 0);
-    ask(&one, "issue,s,0,0,9\n", 1, 1, 0, 0);
+    ask(&one, "issue,s,0,0,9,0,0\n", 1, 1, 0, 0);
     ask(&other, "tally,7,0\n", 3, 0, 0, 0);
     ask(&one, "tally,7,0\n", 3, 1, 0, 0);
     ask(&other, "withdraw,1\n", 0, 24, 0, 0);
@@ -242,19 +269,20 @@ static void two(void) {
 }
 
 #define STEPS(share) \
-    "cp,0\nll,3,0000000000000006,540,600\ntr," share "\nsr\nsl,1\naf\nax,4\nsr\nsl,2\naf\nax,5\nsr\nsl,6\naf\nax,7\n"
+    "cp,0\nll,3,0000000000000006,540,600,0,0\ntr," share "\n" \
+    "sr\nsl,1\naf\nax,4\nsr\nsl,2\naf\nax,5\nsr\nsl,6\naf\nax,7\n"
 
 /* M1's booking, and bookings that are refused. */
 static void bookings(void) {
     static struct Block block;
     opening(&block);
-    ask(&block, "book,539,5,540,600,3,15\nhold,1\nhold,2\nhold,3\n" STEPS("0000000000000002"), 0, 30, 0, 0);
-    ask(&block, "book,540,5,540,600,3,15\nhold,1\nhold,2\nhold,2\n" STEPS("0000000000000002"), 0, 31, 0, 0);
-    ask(&block, "book,540,5,540,600,3,15\nhold,1\nhold,2\nhold,3\n" STEPS("0000000000000006"), 0, 40, 7, 0);
-    ask(&block, "book,540,5,540,600,3,1\nhold,1\nhold,2\nhold,3\ncp,0\n", 0, 42, 2, 0);
-    ask(&block, "book,540,5,540,600,3,15\nhold,1\nhold,2\nhold,3\n" STEPS("0000000000000002"), 1, 4, 0, 0);
+    ask(&block, "book,539,5,540,600,0,0,3,15\nhold,1\nhold,2\nhold,3\n" STEPS("0000000000000002"), 0, 30, 0, 0);
+    ask(&block, "book,540,5,540,600,0,0,3,15\nhold,1\nhold,2\nhold,2\n" STEPS("0000000000000002"), 0, 31, 0, 0);
+    ask(&block, "book,540,5,540,600,0,0,3,15\nhold,1\nhold,2\nhold,3\n" STEPS("0000000000000006"), 0, 40, 7, 0);
+    ask(&block, "book,540,5,540,600,0,0,3,1\nhold,1\nhold,2\nhold,3\ncp,0\n", 0, 42, 2, 0);
+    ask(&block, "book,540,5,540,600,0,0,3,15\nhold,1\nhold,2\nhold,3\n" STEPS("0000000000000002"), 1, 4, 0, 0);
     ask(&block, "tally,7,540\n", 3, 0, 0, 1);
-    ask(&block, "book,540,5,540,600,3,15\nhold,1\nhold,2\nhold,3\n" STEPS("0000000000000002"), 0, 24, 0, 0);
+    ask(&block, "book,540,5,540,600,0,0,3,15\nhold,1\nhold,2\nhold,3\n" STEPS("0000000000000002"), 0, 24, 0, 0);
     ask(&block, "withdraw,2\n", 0, 24, 0, 0);
     ask(&block, "withdraw,1\n", 1, 1, 0, 0);
     ask(&block, "withdraw,4\n", 1, 4, 0, 0);
@@ -294,7 +322,7 @@ static size_t on_small_stack(struct Block *block, const char *sheet) {
 static void measured(struct Block *block, const char *sheet, const uint32_t expected[4], const char *name) {
     size_t taken = on_small_stack(block, sheet);
     check(memcmp(small.answer, expected, sizeof small.answer) == 0, "the answer on a small stack", name);
-    check(taken <= TAKEN, "the header's 96 KB of stack", name);
+    check(taken <= TAKEN, "the header's 128 KB of stack", name);
     printf("%s: %zu bytes of stack\n", name, taken);
 }
 
@@ -313,9 +341,9 @@ static void tower(struct Block *block) {
         ask(block, line, 1, n, 0, 0);
     }
     ask(block, "word,l,125,64\n", 1, 126, 0, 0);
-    ask(block, "issue,r,126,0,9\n", 1, 1, 0, 0);
-    ask(block, "issue,r,64,0,9\n", 1, 2, 0, 0);
-    ask(block, "issue,s,0,0,9\n", 1, 3, 0, 0);
+    ask(block, "issue,r,126,0,9,0,0\n", 1, 1, 0, 0);
+    ask(block, "issue,r,64,0,9,0,0\n", 1, 2, 0, 0);
+    ask(block, "issue,s,0,0,9,0,0\n", 1, 3, 0, 0);
 }
 
 /* Wordings: 30 is & 30 times, the first arm each time & again, over an atom; 31 is 1, 32 is 30 -o 31. Credentials: 32
@@ -331,11 +359,11 @@ static void first_premises(struct Block *block, char *sheet) {
     }
     ask(block, "word,o\n", 1, 31, 0, 0);
     ask(block, "word,l,30,31\n", 1, 32, 0, 0);
-    ask(block, "issue,r,32,0,9\n", 1, 1, 0, 0);
-    ask(block, "issue,s,0,0,9\n", 1, 2, 0, 0);
-    sheet = stpcpy(sheet, "book,5,0,0,9,2,256\nhold,1\nhold,2\n");
+    ask(block, "issue,r,32,0,9,0,0\n", 1, 1, 0, 0);
+    ask(block, "issue,s,0,0,9,0,0\n", 1, 2, 0, 0);
+    sheet = stpcpy(sheet, "book,5,0,0,9,0,0,2,256\nhold,1\nhold,2\n");
     for (int label = 2; label < 10; label++) {
-        snprintf(line, sizeof line, "cp,0\nll,%d,0000000000000000,0,9\n", label);
+        snprintf(line, sizeof line, "cp,0\nll,%d,0000000000000000,0,9,0,0\n", label);
         sheet = times(stpcpy(sheet, line), 30, "wr\n");
     }
 }
@@ -346,14 +374,14 @@ static void stack(void) {
     static const uint32_t OPEN[4] = {0, 42, 257, 0}, BOOKED[4] = {1, 4, 0, 0};
     static char sheet[4096];
     tower(&block);
-    char *at = stpcpy(sheet, "book,5,63,0,9,3,256\nhold,1\nhold,2\nhold,3\n");
+    char *at = stpcpy(sheet, "book,5,63,0,9,0,0,3,256\nhold,1\nhold,2\nhold,3\n");
     at = times(at, 63, "sr\naf\n");
-    at = stpcpy(at, "cp,0\ncp,1\nol,4\ncp,1\nol,5\ncp,1\nol,6\nll,3,0000000000000000,0,9\n");
+    at = stpcpy(at, "cp,0\ncp,1\nol,4\ncp,1\nol,5\ncp,1\nol,6\nll,3,0000000000000000,0,9,0,0\n");
     times(at, 61, "sr\naf\n");
     measured(&block, sheet, OPEN, "256 steps, the last premise open");
-    at = stpcpy(sheet, "book,5,63,0,9,3,255\nhold,1\nhold,2\nhold,3\n");
+    at = stpcpy(sheet, "book,5,63,0,9,0,0,3,255\nhold,1\nhold,2\nhold,3\n");
     at = times(at, 63, "sr\naf\n");
-    at = stpcpy(at, "cp,0\ncp,1\nol,4\nll,3,0000000000000000,0,9\n");
+    at = stpcpy(at, "cp,0\ncp,1\nol,4\nll,3,0000000000000000,0,9,0,0\n");
     at = times(at, 61, "sr\naf\n");
     stpcpy(at, "or\nol,5\nax,2\n");
     measured(&block, sheet, BOOKED, "255 steps, accepted");
@@ -364,8 +392,9 @@ static void stack(void) {
 static const struct Group {
     const char *name;
     void (*play)(void);
-} GROUPS[] = {{"calls", calls},     {"refusals", refusals}, {"lengths", lengths},   {"sessions", sessions}, {"full", full},
-              {"serials", serials}, {"two", two},           {"bookings", bookings}, {"stack", stack}};
+} GROUPS[] = {{"calls", calls},   {"refusals", refusals}, {"lengths", lengths}, {"sessions", sessions},
+              {"breaks", breaks}, {"full", full},         {"serials", serials}, {"two", two},
+              {"bookings", bookings}, {"stack", stack}};
 
 int main(int count, char **names) {
     open_pages();

@@ -11,7 +11,7 @@
 #include <sys/mman.h>
 #include <time.h>
 
-enum { TILLS = 6, PAGE = 4096, LONG = 10, NUMBERS = 43, SHOWN = 10, SUMS = 32 };
+enum { TILLS = 6, PAGE = 4096, LONG = 10, NUMBERS = 44, SHOWN = 10, SUMS = 32 };
 
 struct Session {
     struct Sheet *sheets;
@@ -93,8 +93,8 @@ static int kind_of(const uint8_t *sheet, size_t length) {
 
 /* The refusals that the paper has for a sheet of a kind. */
 static int may_refuse(int kind, uint32_t refusal) {
-    static const uint8_t MAY[6][14] = {{1, 2, 3, 10, 12, 13, 14}, {1, 2, 3, 10, 20, 21, 22, 23}, {1, 2, 24},
-                                       {1, 2, 3, 10, 20, 30, 24, 31, 40, 41, 42, 22, 23}, {1, 2}, {1, 2}};
+    static const uint8_t MAY[6][14] = {{1, 2, 3, 43, 10, 12, 13, 14}, {1, 2, 3, 43, 10, 20, 21, 22, 23}, {1, 2, 24},
+                                       {1, 2, 3, 43, 10, 20, 30, 24, 31, 40, 41, 42, 22, 23}, {1, 2}, {1, 2}};
     for (int i = 0; i < 14; i++)
         if (MAY[kind][i] == refusal && refusal > 0) return 1;
     return 0;
@@ -260,7 +260,7 @@ static void turn(struct Fuzz *fuzz, uint32_t place) {
 /* Gives all serials. */
 static void wear(struct Till *till) {
     static uint32_t scratch[TILL_SCRATCH];
-    static const uint8_t WORD[] = "word,a,1,7\n", ISSUE[] = "issue,s,0,0,600\n";
+    static const uint8_t WORD[] = "word,a,1,7\n", ISSUE[] = "issue,s,0,0,600,0,0\n";
     uint32_t a[4];
     char withdraw[32];
     till_call(till->block.till, WORD, sizeof WORD - 1, scratch, a);
@@ -286,7 +286,7 @@ static void open_pages(struct Fuzz *fuzz) {
 
 static void report(struct Fuzz *fuzz, int all) {
     static const char *const KINDS[] = {"word", "issue", "withdraw", "book", "tally"};
-    static const uint8_t REFUSALS[] = {1, 2, 3, 10, 12, 13, 14, 20, 21, 22, 23, 24, 30, 31, 40, 41, 42};
+    static const uint8_t REFUSALS[] = {1, 2, 3, 10, 12, 13, 14, 20, 21, 22, 23, 24, 30, 31, 40, 41, 42, 43};
     printf("%llu calls, %llu tallies for sums, %zu tills begun\naccepted:", (unsigned long long)fuzz->calls,
            (unsigned long long)fuzz->tallies, fuzz->begun);
     for (int i = 0; i < 5; i++) printf(" %s %llu", KINDS[i], (unsigned long long)fuzz->accepted[i]);

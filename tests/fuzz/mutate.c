@@ -125,15 +125,28 @@ void draft_noise(struct Draft *draft, uint64_t *seed) {
         draft->bytes[i] = (uint8_t)(usual ? (uint32_t)USUAL[below(seed, sizeof USUAL - 1)] : below(seed, 256));
 }
 
+/* `from,to` and a break: none, or one near the beginning, which most often lies inside. */
+static const char *window(char text[48], uint32_t from, uint32_t to, uint64_t *seed) {
+    uint32_t first = 0, last = 0;
+    if (below(seed, 3) == 0) {
+        first = from + below(seed, 4);
+        last = first + below(seed, 4);
+    }
+    snprintf(text, 48, "%u,%u,%u,%u", from, to, first, last);
+    return text;
+}
+
 static int make_word(char *text, size_t room, uint32_t wordings, uint64_t *seed) {
     uint32_t i = below(seed, wordings + 1), j = below(seed, wordings + 1), n = below(seed, 8);
+    char v[48], w[48];
     switch (below(seed, 8)) {
     case 0: case 1: return snprintf(text, room, "word,a,%u,%u\n", below(seed, 4), n);
     case 2: return snprintf(text, room, "word,%c,%u,%u\n", "twplu"[below(seed, 5)], i, j);
     case 3: return snprintf(text, room, "word,t,%u,%u\n", i, j);
-    case 4: return snprintf(text, room, "word,h,%u,%u,%u\n", i, n, 8 * n);
+    case 4: return snprintf(text, room, "word,h,%u,%s\n", i, window(w, n, 8 * n, seed));
     case 5: return below(seed, 4) ? snprintf(text, room, "word,b,%u\n", i) : snprintf(text, room, "word,o\n");
-    case 6: return snprintf(text, room, "word,g,%u,%u,%u,%u\n", n, n + i, n, n + j);
+    case 6:
+        return snprintf(text, room, "word,g,%s,%s\n", window(v, n, n + i, seed), window(w, n, n + j, seed));
     default: return snprintf(text, room, "word,s,%u,%u\n", n, i);
     }
 }
@@ -142,22 +155,23 @@ void draft_make(struct Draft *draft, const struct History *history, uint64_t *se
     char *text = (char *)draft->bytes;
     uint32_t wording = below(seed, history->wordings + 1), serial = 1 + below(seed, history->serial + 1);
     uint32_t from = below(seed, 900), to = from + below(seed, 900);
+    char w[48];
     int length;
     if (serial + 300 < history->serial) serial = history->serial - below(seed, 300);
     switch (below(seed, 8)) {
     case 0: length = make_word(text, 128, history->wordings, seed); break;
     case 1: length = snprintf(text, 128, "tally,%u,%u\n", below(seed, 9), from); break;
     case 2: length = snprintf(text, 128, "withdraw,%u\n", serial); break;
-    case 3: length = snprintf(text, 128, "issue,r,%u,%u,%u\n", wording, from, to); break;
+    case 3: length = snprintf(text, 128, "issue,r,%u,%s\n", wording, window(w, from, to, seed)); break;
     case 4: case 5: {
         uint32_t coupon = serial <= history->serial ? history->coupon[serial] : 0;
         uint32_t goal = coupon >= 2 ? coupon - 2 : wording;
         const char *copied = coupon == 1 ? "2\nhold,%u\ncp,0\nax,1\n" : "1\nhold,%u\nax,0\n";
-        length = snprintf(text, 128, "book,%u,%u,%u,%u,1,", from, goal, from, from);
+        length = snprintf(text, 128, "book,%u,%u,%u,%u,0,0,1,", from, goal, from, from);
         length += snprintf(text + length, 128 - (size_t)length, copied, serial);
         break;
     }
-    default: length = snprintf(text, 128, "issue,s,%u,%u,%u\n", wording, from, to);
+    default: length = snprintf(text, 128, "issue,s,%u,%s\n", wording, window(w, from, to, seed));
     }
     draft->length = (size_t)length;
 }

@@ -1,5 +1,5 @@
 //! Seeded sessions of sheets for the booking till, with the answers that document 01 demands, and document 02 so far as
-//! it has landed (ask 1).
+//! it has landed (asks 1 and 2).
 
 pub mod balance;
 pub mod booking;
@@ -11,15 +11,18 @@ pub mod derivation;
 pub mod drills;
 pub mod form;
 pub mod full;
+pub mod grid;
 pub mod grow;
 pub mod late;
 pub mod life;
 pub mod long;
 pub mod matrix;
+pub mod midday;
 pub mod model;
 pub mod pairs;
 pub mod papers;
 pub mod ranges;
+pub mod relation;
 pub mod rng;
 pub mod session;
 pub mod slips;
@@ -62,16 +65,21 @@ fn fixed(seed: u64, seen: &mut Seen) -> Vec<Session> {
     all.extend(ranges::sessions(seed));
     all.extend(pairs::sessions(seed));
     all.extend(tour::sessions());
+    all.extend(midday::sessions());
+    all.extend(grid::sessions());
     all.push(full::session(seed));
     all.extend([life::fixed(), life::many(seed), life::session(seed, 120), balance::random(seed)]);
-    all.extend((0..3).map(|third| spans::session(seed, third)));
+    all.extend(spans::sessions(seed));
     all.extend([damage::fixed(seed), damage::calls(seed), damage::random(seed)]);
-    all.extend(drills::DRILLS.iter().map(|letters| drills::session(letters, seed, seen)));
+    for paused in [false, true] {
+        all.extend(drills::DRILLS.iter().map(|letters| drills::session(letters, paused, seed, seen)));
+    }
     all
 }
 
 /// All sessions of a run.
 pub fn sessions(wish: &Wish) -> Vec<Session> {
+    relation::check();
     let mut seen = Seen::new();
     let mut all = fixed(wish.seed, &mut seen);
     for n in 0..wish.sessions {

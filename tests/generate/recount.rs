@@ -46,14 +46,14 @@ impl Recount {
             }
             "issue" => {
                 let wording = number(&fields, 2)?;
-                self.window(number(&fields, 3)?, number(&fields, 4)?);
+                self.window(&fields[3..])?;
                 if fields[1] == "s" {
                     self.issued.push(wording);
                     self.singles.insert(answer, wording);
                 }
             }
             "book" => {
-                self.window(number(&fields, 3)?, number(&fields, 4)?);
+                self.window(&fields[3..])?;
                 self.singles.insert(answer, number(&fields, 2)?);
             }
             "withdraw" => {
@@ -65,8 +65,14 @@ impl Recount {
         Some(())
     }
 
-    fn window(&mut self, from: u32, to: u32) {
-        self.minutes.extend([from, to, to.saturating_add(1).min(9_999_999)]);
+    /// Notes the ends of a window and of its break.
+    fn window(&mut self, fields: &[&str]) -> Option<()> {
+        let [from, to, first, last] = [0, 1, 2, 3].map(|place| number(fields, place));
+        self.minutes.extend([from?, to?, to?.saturating_add(1).min(9_999_999)]);
+        if (first?, last?) != (0, 0) {
+            self.minutes.extend([first?.saturating_sub(1), first?, last?, last?.saturating_add(1).min(9_999_999)]);
+        }
+        Some(())
     }
 
     /// Seats and places of the session in a wording, every part as often as it stands there.
@@ -99,7 +105,7 @@ impl Recount {
         all
     }
 
-    /// Some minutes: both ends of the range, and ends of windows.
+    /// Some minutes: both ends of the range, and ends of windows and breaks.
     fn minutes(&self) -> Vec<u32> {
         let mut some = vec![0, 540, 9_999_999];
         let step = (self.minutes.len() / 5).max(1);

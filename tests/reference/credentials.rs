@@ -27,8 +27,7 @@ pub struct Credential {
     pub linear: bool,
 }
 
-const NOTHING: Credential =
-    Credential { serial: 0, interval: Interval { from: 0, to: 0 }, formula: 0, linear: false };
+const NOTHING: Credential = Credential { serial: 0, interval: Interval::ZERO, formula: 0, linear: false };
 
 /// Live credentials without gaps, in no order, and an index from serial to slot: open addressing,
 /// where an entry stands at its serial's home or in the run of entries after it.

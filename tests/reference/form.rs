@@ -1,4 +1,4 @@
-//! Reading a request ("sheet"): one pass over the bytes settles refusals 1, 2 and 3.
+//! Reading a request ("sheet"): one pass over the bytes settles refusals 1, 2, 3 and 43.
 
 use super::logic::{Formula, FormulaId, Interval, Label, Step};
 use super::refusal;
@@ -50,19 +50,22 @@ impl Page {
     }
 }
 
-/// Reads a whole request, or gives the refusal number. Refusal 3 waits until the whole form is
-/// found right, since 2 comes before it.
+/// Reads a whole request, or gives the refusal number. Refusals 3 and 43 wait until the whole form is
+/// found right, since 2 comes before them, and 43 until no interval is found crossed.
 pub fn read(sheet: &[u8], page: &mut Page) -> Result<Request, u32> {
     if sheet.len() > MAX_BYTES {
         return Err(refusal::OVERLONG);
     }
-    let mut reader = Reader { rest: sheet, crossed: false };
+    let mut reader = Reader { rest: sheet, crossed: false, unfit_break: false };
     let request = reader.request(page).ok_or(refusal::FORM)?;
     if !reader.rest.is_empty() {
         return Err(refusal::FORM);
     }
     if reader.crossed {
         return Err(refusal::INTERVAL);
+    }
+    if reader.unfit_break {
+        return Err(refusal::BREAK);
     }
     Ok(request)
 }
@@ -72,6 +75,8 @@ struct Reader<'a> {
     rest: &'a [u8],
     /// An interval with from > to was read.
     crossed: bool,
+    /// An interval whose break does not fit was read.
+    unfit_break: bool,
 }
 
 impl Reader<'_> {
@@ -255,8 +260,14 @@ impl Reader<'_> {
     }
 
     fn interval(&mut self, end: u8) -> Option<Interval> {
-        let interval = Interval { from: self.minute(COMMA)?, to: self.minute(end)? };
+        let interval = Interval {
+            from: self.minute(COMMA)?,
+            to: self.minute(COMMA)?,
+            first: self.minute(COMMA)?,
+            last: self.minute(end)?,
+        };
         self.crossed |= interval.from > interval.to;
+        self.unfit_break |= !interval.break_fits();
         Some(interval)
     }
 }

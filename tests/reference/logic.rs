@@ -1,21 +1,46 @@
 //! Intervals, formulas and the steps of a derivation: the ground part of the logic.
 
-/// A closed interval of minutes; the paper's "window".
+/// The set of the minutes from..to, both ends included, without the break first..last, both ends
+/// included; the paper's "window". No break is 0,0; any other is strictly inside, so its first
+/// minute is not 0 and the set has `from` and `to`.
 #[derive(Clone, Copy, PartialEq, Eq, Debug)]
 pub struct Interval {
     pub from: u32,
     pub to: u32,
+    pub first: u32,
+    pub last: u32,
 }
 
 impl Interval {
-    /// The minute lies in the interval, both ends included.
-    pub fn has(self, minute: u32) -> bool {
-        self.from <= minute && minute <= self.to
+    pub const ZERO: Interval = Interval { from: 0, to: 0, first: 0, last: 0 };
+
+    /// There is no break, or it is strictly inside.
+    pub fn break_fits(self) -> bool {
+        let inside = self.from < self.first && self.first <= self.last && self.last < self.to;
+        self.first == 0 && self.last == 0 || inside
     }
 
-    /// `self ⊇ other`.
+    /// The minute is one of the set.
+    pub fn has(self, minute: u32) -> bool {
+        self.from <= minute && minute <= self.to && !self.in_break(minute)
+    }
+
+    /// The minute is one of the break.
+    fn in_break(self, minute: u32) -> bool {
+        self.last != 0 && self.first <= minute && minute <= self.last
+    }
+
+    /// `self ⊇ other`, as sets.
     pub fn covers(self, other: Interval) -> bool {
-        self.from <= other.from && other.to <= self.to
+        self.from <= other.from && other.to <= self.to && self.break_misses(other)
+    }
+
+    /// No minute of the break is one of `other`: it lies before, behind or within the break there.
+    /// It cannot lie in two of them, since a minute of `other` stands between. Without a break there,
+    /// `other.last` is 0 and below `self.last`.
+    fn break_misses(self, other: Interval) -> bool {
+        let within = other.first <= self.first && self.last <= other.last;
+        self.last == 0 || self.last < other.from || other.to < self.first || within
     }
 }
 
@@ -42,11 +67,11 @@ pub enum Formula {
     Implies(FormulaId, FormulaId),
     /// `b,i`: !i
     Bang(FormulaId),
-    /// `h,i,from,to`: i @ from..to
+    /// `h,i,from,to,first,last`: i @ that interval
     At(FormulaId, Interval),
     /// `s,principal,i`: ⟨principal⟩ i
     Says(u8, FormulaId),
-    /// `g,from,to,from,to`: first interval ⊇ second
+    /// `g,from,to,first,last,from,to,first,last`: first interval ⊇ second
     Covers(Interval, Interval),
 }
 
@@ -92,9 +117,9 @@ pub enum Step {
     PlusR2,
     /// `pl,L`
     PlusL(Label),
-    /// `ll,L,share,from,to`
+    /// `ll,L,share,from,to,first,last`
     LolliL(Label, u64, Interval),
-    /// `ul,L,from,to`
+    /// `ul,L,from,to,first,last`
     ImpliesL(Label, Interval),
     /// `br`
     BangR,

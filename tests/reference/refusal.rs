@@ -6,6 +6,8 @@ pub const OVERLONG: u32 = 1;
 pub const FORM: u32 = 2;
 /// An interval with from > to, in a head, a step or a formula.
 pub const INTERVAL: u32 = 3;
+/// A break that is neither 0,0 nor strictly inside its interval, in a head, a step or a formula.
+pub const BREAK: u32 = 43;
 /// A named formula is not there.
 pub const NO_FORMULA: u32 = 10;
 /// Formula size over 64.

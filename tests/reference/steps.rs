@@ -90,7 +90,7 @@ pub struct Checker<'a> {
 
 impl<'a> Checker<'a> {
     pub fn new(formulas: &'a Formulas, steps: &'a [Step]) -> Checker<'a> {
-        let nothing = Hypothesis { formula: 0, interval: Interval { from: 0, to: 0 } };
+        let nothing = Hypothesis { formula: 0, interval: Interval::ZERO };
         Checker { formulas, steps, read: 0, hypotheses: [nothing; MAX_LABELS], taken: 0 }
     }
 
@@ -200,7 +200,8 @@ impl<'a> Checker<'a> {
     }
 
     /// The left steps without an interval of their own: L leaves the linear context, its parts
-    /// enter with its interval.
+    /// enter with its interval. Inlined, it need not copy what it gives.
+    #[inline(always)]
     fn left(&self, label: Label, step: Step, sequent: Sequent) -> Option<Outcome> {
         let (hypothesis, sequent) = self.use_up(label, sequent)?;
         let part = |formula| Hypothesis { formula, ..hypothesis };

@@ -52,7 +52,7 @@ fn book_read(store: &mut Store, head: Head, serials: &Serials, rows: &StepRows) 
     book_holds(store, head, serials, rows)
 }
 
-// A booking whose head has been read: the rest of 2, 3, then as above. The rows are lent for its step lines.
+// A booking whose head has been read: the rest of 2, 3, 43, then as above. The rows are lent for its step lines.
 pub fn book(store: &mut Store, sheet: &[u8], rows: &mut StepRows, head: Head) -> Answer
     requires { ⌜ Opened (now store) (now sheet) head ⌝ }
     ensures { λ r. ⌜ Called (now (store .entry)) (now (sheet .entry)) r (now (store .exit)) ⌝ }
@@ -68,12 +68,16 @@ pub fn book(store: &mut Store, sheet: &[u8], rows: &mut StepRows, head: Head) ->
         return Answer::Refused(2, 0);
     };
     let read = read_steps(&sheet[at..], head.steps, rows);
-    let StepsRead::Read(backward) = read else {
+    let StepsRead::Read(backward, broken) = read else {
         return Answer::Refused(2, 0);
     };
     let ordered = call_checks::check_lines_ordered(head.interval, backward);
     let Verdict::Passed = ordered else {
         return Answer::Refused(3, 0);
+    };
+    let unbroken = call_checks::check_lines_unbroken(head.interval, broken);
+    let Verdict::Passed = unbroken else {
+        return Answer::Refused(43, 0);
     };
     book_read(store, head, &serials, rows)
 }

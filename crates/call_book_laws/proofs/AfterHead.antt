@@ -1,21 +1,23 @@
 -- What becomes of the bytes of a booking, by what is read after its head.
 use mathlib.Core.Path.{_≡_, refl, sym, ap, _∙_}
-use mathlib.Core.List.{List, []}
+use mathlib.Core.List.{List, [], _∷_}
 use mathlib.Core.Option.{none, some}
 use mathlib.Core.Bool.{Bool, _||_}
 use Prim.Native.Nat.{ℕ, zero, suc, _-_, _≤_}
 use native.Mathlib.Omega.{arith}
 use lib.ListN.{length, take, drop, length-drop, drop-of-length-le}
 use lib.Seq.{take-length}
-use Rattle.logic.specs.Interval.{reversed}
+use Rattle.logic.specs.declared.Interval.{Interval}
+use Rattle.logic.specs.Interval.{reversed, broken}
 use Rattle.request.specs.Text.{andThen}
-use Rattle.request.specs.Request.{intervals}
+use Rattle.request.specs.Request.{intervals, stepsIntervals}
 use Rattle.request.specs.Read.{holdLine, stepLine}
 use Rattle.ledger.specs.declared.Answer.{Answer}
 use Rattle.ledger.specs.declared.Answer.the-variants.{Refused}
-use Rattle.ledger.specs.Checks.{anyOf, checks}
+use Rattle.ledger.specs.Checks.{_if_, anyOf, checks}
 use Rattle.ledger.specs.Statements.{from-start, _▸_}
 use Rattle.read_formulas.specs.Line.{split, readLine}
+use Rattle.store.specs.Store.{ledgerOf}
 use Rattle.step_rows.specs.LabelRows.{maxHolds}
 use Rattle.step_rows.specs.StepRows.{maxSteps, stepsFrom}
 use Rattle.read_heads.specs.declared.Head.{Head}
@@ -28,7 +30,7 @@ use Rattle.call_checks.specs.Verdicts.{Tells}
 use Rattle.call_checks.proofs.Verdicts.{shown, reworded}
 use Rattle.call_contracts.specs.Called.{Handled, Called}
 use Rattle.call_contracts.proofs.Laws.{refused, called-broken, called-read}
-use Rattle.call_book_laws.specs.BookingFound.{bookingAt, Opened, ReadLines}
+use Rattle.call_book_laws.specs.BookingFound.{bookingAt, Opened, Past, ReadLines}
 
 -- the part of the bytes from a position on, as the code hands it over
 abbrev pub from : List ℕ → ℕ → List ℕ
@@ -75,33 +77,45 @@ module _ {l b : List ℕ} {h : Head} {serials : List ℕ} {at : ℕ} (r : ReadHo
   pub no-bytes : length b ≤ at → Called l b (Refused 2 0) l
   no-bytes m = no-lines (rw (drop-of-length-le b m) (none-of (h .steps) (r .opened .head .range .steps .least)))
 
--- and its steps; x says whether an interval of theirs is reversed
-pub record ReadSteps (l b : List ℕ) (h : Head) (serials rows : List ℕ) (at : ℕ) (x : Bool) : Type 0 where
+-- and its steps; x says whether an interval of theirs is reversed, y whether one is broken
+pub record ReadSteps (l b : List ℕ) (h : Head) (serials rows : List ℕ) (at : ℕ) (x y : Bool) : Type 0 where
   pub holds : ReadHolds l b h serials at
-  pub steps : StepsAre (allLines (h .steps) stepLine (from b at)) (stepsFrom rows 0 (h .steps)) x
+  pub steps : StepsAre (allLines (h .steps) stepLine (from b at)) (stepsFrom rows 0 (h .steps)) x y
 
-module _ {l b : List ℕ} {h : Head} {serials rows : List ℕ} {at : ℕ} {x : Bool}
-    (r : ReadSteps l b h serials rows at x) where
+module _ {l b : List ℕ} {h : Head} {serials rows : List ℕ} {at : ℕ} {x y : Bool}
+    (r : ReadSteps l b h serials rows at x y) where
   pub lines-handled : {a : Answer} {l′ : List ℕ} → Handled l (bookingAt h serials rows) a l′ → Called l b a l′
   lines-handled d =
       let o = r .holds .opened in
       let steps = rw (from-is b at) at (r .steps .steps) in
       called-read (o .short) (booking-read h (drop (h .next) b) (o .head .reads) (sym (r .holds .lines)) steps) d
 
-  -- 3: all intervals of the booking, the goal's and the steps'
-  reversals-told : {v : Verdict} → Tells 3 v (reversed (h .interval) || x)
-      → Tells 3 v (anyOf reversed (intervals (bookingAt h serials rows)))
+  -- 3 and 43: all intervals of the booking, the goal's and the steps'
+  intervals-told : {n : ℕ} (p : Interval → Bool) {v : Verdict} {z : Bool}
+      → anyOf p (stepsIntervals (stepsFrom rows 0 (h .steps))) ≡ z → Tells n v (p (h .interval) || z)
+      → Tells n v (anyOf p (intervals (bookingAt h serials rows)))
   unfolding intervals anyOf
-  reversals-told t = reworded t (ap (λ (y : Bool). reversed (h .interval) || y) (sym (r .steps .reversals)))
+  intervals-told p e t = reworded t (ap (λ (z : Bool). p (h .interval) || z) (sym e))
 
   pub lines-reversed : {v : Verdict} → Tells 3 v (reversed (h .interval) || x) → v ≡ Failed → Called l b (Refused 3 0) l
-  lines-reversed t e = lines-handled (refused (r .holds .opened .good) from-start (shown (reversals-told t) e))
+  lines-reversed t e =
+      lines-handled (refused (r .holds .opened .good) from-start
+      (shown (intervals-told reversed (r .steps .reversals) t) e))
 
-  pub lines-read : {v : Verdict} → Tells 3 v (reversed (h .interval) || x) → v ≡ Passed → ReadLines l h serials rows
-  unfolding checks
-  lines-read t e = record {
-    good = r .holds .opened .good;
-    held = r .holds .held;
-    steps = r .holds .opened .head .range .steps .most;
-    so-far = from-start ▸ shown (reversals-told t) e;
-  }
+  module _ {v : Verdict} (o : Tells 3 v (reversed (h .interval) || x)) (d : v ≡ Passed) where
+    past-3 : Past l h serials rows ((43 if anyOf broken (intervals (bookingAt h serials rows)))
+        ∷ checks (ledgerOf l) (bookingAt h serials rows))
+    past-3 = from-start ▸ shown (intervals-told reversed (r .steps .reversals) o) d
+
+    pub lines-broken : {w : Verdict} → Tells 43 w (broken (h .interval) || y) → w ≡ Failed → Called l b (Refused 43 0) l
+    lines-broken t e =
+        lines-handled (refused (r .holds .opened .good) past-3 (shown (intervals-told broken (r .steps .breaks) t) e))
+
+    pub lines-read : {w : Verdict} → Tells 43 w (broken (h .interval) || y) → w ≡ Passed → ReadLines l h serials rows
+    unfolding checks
+    lines-read t e = record {
+      good = r .holds .opened .good;
+      held = r .holds .held;
+      steps = r .holds .opened .head .range .steps .most;
+      so-far = past-3 ▸ shown (intervals-told broken (r .steps .breaks) t) e;
+    }

@@ -65,7 +65,12 @@ no-labels : labelAt zeros ≡ noLabels
 unfolding labelAt
 no-labels i k = record {
   formula = zero-at (labelPlace k) i;
-  interval = record { from = zero-at (labelPlace k + 1) i; to = zero-at (labelPlace k + 2) i };
+  interval = record {
+    from = zero-at (labelPlace k + 1) i;
+    to = zero-at (labelPlace k + 2) i;
+    first = zero-at (labelPlace k + 3) i;
+    last = zero-at (labelPlace k + 4) i;
+  };
 }
 
 verdict-told : (o : Outcome (List ℕ)) → verdict (shownOutcome labelAt o) ≡ verdict o

@@ -8,7 +8,7 @@ ghost use mathlib.Core.Path.{_≡_};
 ghost use mathlib.Core.Bool.{not, _||_};
 ghost use Prim.Native.Nat.{ℕ, _<_};
 ghost use lib.ListN.{length};
-ghost use Rattle.logic.specs.Interval.{has, reversed};
+ghost use Rattle.logic.specs.Interval.{has, reversed, broken};
 ghost use Rattle.logic.specs.Formula.{plain};
 ghost use Rattle.logic.specs.Counts.{balanced};
 ghost use Rattle.ledger.specs.Table.{names};
@@ -53,6 +53,28 @@ pub fn check_lines_ordered(interval: Interval, backward: bool) -> Verdict
     ensures { λ r. ⌜ Tells 3 r (reversed interval || backward) ⌝ }
 {
     tested(intervals::reversed(interval) | backward)
+}
+
+// 43: a break is neither 0,0 nor strictly inside.
+pub fn check_unbroken(i: Interval) -> Verdict
+    ensures { λ r. ⌜ Tells 43 r (broken i) ⌝ }
+{
+    tested(intervals::broken(i))
+}
+
+// 43: one of a formula line is not.
+pub fn check_line_unbroken(row: Row) -> Verdict
+    requires { ⌜ Canonical row ⌝ }
+    ensures { λ r. ⌜ Tells 43 r (anyOf broken (lineIntervals (lineOf row))) ⌝ }
+{
+    tested(formula_parts::broken_row(row))
+}
+
+// 43: the goal's is not, or a step's.
+pub fn check_lines_unbroken(interval: Interval, astray: bool) -> Verdict
+    ensures { λ r. ⌜ Tells 43 r (broken interval || astray) ⌝ }
+{
+    tested(intervals::broken(interval) | astray)
 }
 
 // 10: a named formula is not there.

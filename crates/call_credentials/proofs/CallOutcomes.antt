@@ -7,7 +7,7 @@ use lib.ListN.{length}
 use borrow.Author.Tests.{leb-false, ltb-false}
 use native.Mathlib.Omega.{arith}
 use Rattle.logic.specs.declared.Interval.{Interval}
-use Rattle.logic.specs.Interval.{reversed}
+use Rattle.logic.specs.Interval.{reversed, broken}
 use Rattle.request.specs.declared.Kind.{Kind}
 use Rattle.request.specs.declared.Kind.the-variants.{Linear, Unrestricted}
 use Rattle.request.specs.Range.{serial}
@@ -15,7 +15,7 @@ use Rattle.request.specs.Request.{issue, withdraw, tally, intervals}
 use Rattle.ledger.specs.declared.Credential.{Credential}
 use Rattle.ledger.specs.declared.Answer.the-variants.{Accepted, Counted, Refused}
 use Rattle.ledger.specs.Ledger.{formula, withoutSerial, isNone}
-use Rattle.ledger.specs.Checks.{_if_, anyOf, maxLive, missing, noRoom, usedUp, checks}
+use Rattle.ledger.specs.Checks.{Check, _if_, anyOf, maxLive, missing, noRoom, usedUp, checks}
 use Rattle.ledger.specs.Calls.{openSeats, shutSeats, withLive, withCredential, accept}
 use Rattle.ledger.specs.Statements.{from-start, _▸_}
 use Rattle.ledger.proofs.Firsts.{if-false, if-true, no-intervals}
@@ -68,29 +68,41 @@ or-false : (b : Bool) → b ≡ (b || false)
 or-false true = refl
 or-false false = refl
 
--- 3, by its verdict
-reversals-told : (k : Kind) (n : ℕ) (i : Interval) {v : Verdict} → Tells 3 v (reversed i)
-    → Tells 3 v (anyOf reversed (intervals (issue k n i)))
+-- 3 and 43, by their verdicts
+intervals-told : {m : ℕ} (p : Interval → Bool) (k : Kind) (n : ℕ) (i : Interval) {v : Verdict} → Tells m v (p i)
+    → Tells m v (anyOf p (intervals (issue k n i)))
 unfolding intervals anyOf
-reversals-told k n i h = reworded h (or-false (reversed i))
+intervals-told p k n i h = reworded h (or-false (p i))
 
--- the checks after the intervals', in one list for both kinds
-pub past-intervals : (l : List ℕ) (k : Kind) (n : ℕ) (i : Interval) {v : Verdict} → Tells 3 v (reversed i) → v ≡ Passed
-    → Past l k n i ((10 if missing (ledgerOf l) n) ∷ (unissuableNumber k if unissuable k (formula (ledgerOf l) n))
-    ∷ lastChecks (ledgerOf l))
-unfolding checks
-past-intervals l k n i h e = subst (Past l k n i) (by-kind k) (from-start ▸ shown (reversals-told k n i h) e)
-  where
-    by-kind : (k : Kind) → checks (ledgerOf l) (issue k n i)
-        ≡ (10 if missing (ledgerOf l) n) ∷ (unissuableNumber k if unissuable k (formula (ledgerOf l) n))
-        ∷ lastChecks (ledgerOf l)
-    by-kind Linear = refl
-    by-kind Unrestricted = refl
+-- the checks after 3
+abbrev pub after-3 : List ℕ → Kind → ℕ → Interval → List Check
+after-3 l k n i = (43 if anyOf broken (intervals (issue k n i))) ∷ checks (ledgerOf l) (issue k n i)
+
+module _ (l : List ℕ) (k : Kind) (n : ℕ) (i : Interval) where
+  pub past-3 : {v : Verdict} → Tells 3 v (reversed i) → v ≡ Passed → Past l k n i (after-3 l k n i)
+  past-3 h e = from-start ▸ shown (intervals-told reversed k n i h) e
+
+  -- the checks after the intervals', in one list for both kinds
+  pub past-43 : {v : Verdict} → Past l k n i (after-3 l k n i) → Tells 43 v (broken i) → v ≡ Passed
+      → Past l k n i ((10 if missing (ledgerOf l) n) ∷ (unissuableNumber k if unissuable k (formula (ledgerOf l) n))
+      ∷ lastChecks (ledgerOf l))
+  unfolding checks
+  past-43 s h e = subst (Past l k n i) (by-kind k) (s ▸ shown (intervals-told broken k n i h) e)
+    where
+      by-kind : (k : Kind) → checks (ledgerOf l) (issue k n i)
+          ≡ (10 if missing (ledgerOf l) n) ∷ (unissuableNumber k if unissuable k (formula (ledgerOf l) n))
+          ∷ lastChecks (ledgerOf l)
+      by-kind Linear = refl
+      by-kind Unrestricted = refl
 
 module _ {l : List ℕ} {k : Kind} {n : ℕ} {i : Interval} where
   pub issue-reversed : {v : Verdict} → Good l → Tells 3 v (reversed i) → v ≡ Failed
       → Handled l (issue k n i) (Refused 3 0) l
-  issue-reversed g h e = refused g from-start (shown (reversals-told k n i h) e)
+  issue-reversed g h e = refused g from-start (shown (intervals-told reversed k n i h) e)
+
+  pub issue-broken : {v : Verdict} → Good l → Past l k n i (after-3 l k n i) → Tells 43 v (broken i) → v ≡ Failed
+      → Handled l (issue k n i) (Refused 43 0) l
+  issue-broken g s h e = refused g s (shown (intervals-told broken k n i h) e)
 
   pub issue-unissuable : {c : ℕ} → c ≡ unissuableNumber k → Handled l (issue k n i) (Refused (unissuableNumber k) 0) l
       → Handled l (issue k n i) (Refused c 0) l

@@ -29,7 +29,7 @@ fn issue_checked(store: &mut Store, kind: Kind, formula: u32, interval: Interval
     Answer::Accepted(serial)
 }
 
-// Issue: 3, 10, 20 or 21 by the kind, then as above.
+// Issue: 3, 43, 10, 20 or 21 by the kind, then as above.
 pub fn issue(store: &mut Store, kind: Kind, formula: u32, interval: Interval) -> Answer
     requires { ⌜ Good (now store) ⌝ }
     ensures { λ r. ⌜ Handled (now (store .entry)) (issueRequest kind formula interval) r (now (store .exit)) ⌝ }
@@ -37,6 +37,10 @@ pub fn issue(store: &mut Store, kind: Kind, formula: u32, interval: Interval) ->
     let ordered = call_checks::check_ordered(interval);
     let Verdict::Passed = ordered else {
         return Answer::Refused(3, 0);
+    };
+    let unbroken = call_checks::check_unbroken(interval);
+    let Verdict::Passed = unbroken else {
+        return Answer::Refused(43, 0);
     };
     let present = call_checks::check_present(store, formula);
     let Verdict::Passed = present else {
@@ -62,7 +66,7 @@ pub fn withdraw(store: &mut Store, serial: u32) -> Answer
     Answer::Accepted(serial)
 }
 
-// Tally: no check after 3 fails, and a tally has no interval.
+// Tally: no check after 43 fails, and a tally has no interval.
 pub fn tally(store: &Store, session: u32, minute: u32) -> Answer
     requires { ⌜ Good (now store) ⌝ }
     ensures { λ r. ⌜ Handled (now (store .entry)) (tallyRequest session minute) r (now (store .entry)) ⌝ }

@@ -6,7 +6,8 @@ use Prim.Native.Nat.{ℕ}
 use lib.Dec.{leb, ltb}
 use lib.ListN.{length}
 use borrow.Author.Tests.{leb-false, ltb-false}
-use Rattle.logic.specs.Interval.{reversed}
+use Rattle.logic.specs.declared.Interval.{Interval}
+use Rattle.logic.specs.Interval.{reversed, broken}
 use Rattle.logic.specs.Formula.{size, plain}
 use Rattle.logic.specs.Counts.{balanced}
 use Rattle.request.specs.Request.{word, lineIntervals, intervals}
@@ -14,7 +15,8 @@ use Rattle.steps.specs.declared.Row.{Row}
 use Rattle.ledger.specs.declared.Answer.the-variants.{Accepted, Refused}
 use Rattle.ledger.specs.Table.{form, names, rowOf}
 use Rattle.ledger.specs.Ledger.{formula}
-use Rattle.ledger.specs.Checks.{_if_, anyOf, maxSize, maxFormulas, missing, oversize, sameRow, sameLine, checks}
+use Rattle.ledger.specs.Checks.{Check, _if_, anyOf, maxSize, maxFormulas, missing, oversize, sameRow, sameLine}
+use Rattle.ledger.specs.Checks.{checks}
 use Rattle.ledger.specs.Calls.{withLine, accept}
 use Rattle.ledger.specs.Statements.{from-start, _▸_}
 use Rattle.store.specs.Store.{lineOf, ledgerOf, Good, Canonical, StandsFor, Wordable}
@@ -36,22 +38,35 @@ named-formable {l} {x} n = record {
   there = none-missing (ledgerOf l) (names (lineOf x)) (n .there);
 }
 
--- 3, by its verdict
-reversals-told : (x : Row) {v : Verdict} → Tells 3 v (anyOf reversed (lineIntervals (lineOf x)))
-    → Tells 3 v (anyOf reversed (intervals (word (lineOf x))))
+-- 3 and 43, by their verdicts
+intervals-told : {n : ℕ} (p : Interval → Bool) (x : Row) {v : Verdict} → Tells n v (anyOf p (lineIntervals (lineOf x)))
+    → Tells n v (anyOf p (intervals (word (lineOf x))))
 unfolding intervals
-reversals-told x h = h
+intervals-told p x h = h
 
-pub word-reversed : {l : List ℕ} (x : Row) {v : Verdict} → Good l
-    → Tells 3 v (anyOf reversed (lineIntervals (lineOf x)))
-    → v ≡ Failed → Handled l (word (lineOf x)) (Refused 3 0) l
-word-reversed x g h e = refused g from-start (shown (reversals-told x h) e)
+-- the checks after 3
+abbrev pub after-3 : List ℕ → Row → List Check
+after-3 l x = (43 if anyOf broken (intervals (word (lineOf x)))) ∷ checks (ledgerOf l) (word (lineOf x))
+
+pub past-3 : (l : List ℕ) (x : Row) {v : Verdict} → Tells 3 v (anyOf reversed (lineIntervals (lineOf x))) → v ≡ Passed
+    → Past l x (after-3 l x)
+past-3 l x h e = from-start ▸ shown (intervals-told reversed x h) e
 
 module _ (l : List ℕ) (x : Row) where
-  pub past-intervals : {v : Verdict} → Tells 3 v (anyOf reversed (lineIntervals (lineOf x))) → v ≡ Passed
+  pub past-43 : {v : Verdict} → Past l x (after-3 l x) → Tells 43 v (anyOf broken (lineIntervals (lineOf x)))
+      → v ≡ Passed
       → Past l x ((10 if anyOf (missing (ledgerOf l)) (names (lineOf x))) ∷ fitChecks (ledgerOf l) (lineOf x))
   unfolding checks
-  past-intervals h e = from-start ▸ shown (reversals-told x h) e
+  past-43 s h e = s ▸ shown (intervals-told broken x h) e
+
+  pub word-reversed : {v : Verdict} → Good l → Tells 3 v (anyOf reversed (lineIntervals (lineOf x))) → v ≡ Failed
+      → Handled l (word (lineOf x)) (Refused 3 0) l
+  word-reversed g h e = refused g from-start (shown (intervals-told reversed x h) e)
+
+  pub word-broken : {v : Verdict} → Good l → Past l x (after-3 l x)
+      → Tells 43 v (anyOf broken (lineIntervals (lineOf x))) → v ≡ Failed
+      → Handled l (word (lineOf x)) (Refused 43 0) l
+  word-broken g s h e = refused g s (shown (intervals-told broken x h) e)
 
   -- 12, 13 and 14 as the code tests them
   pub sized : {z : ℕ} {v : Verdict} → z ≡ size (form (formula (ledgerOf l)) (lineOf x)) → Tells 12 v (ltb maxSize z)

@@ -42,7 +42,7 @@ fn word_named(store: &mut Store, row: Row) -> Answer
     add(store, row, size)
 }
 
-// Word: 3, 10, then as above.
+// Word: 3, 43, 10, then as above.
 pub fn word(store: &mut Store, row: Row) -> Answer
     requires { ⌜ Good (now store) × Canonical row ⌝ }
     ensures { λ r. ⌜ Handled (now (store .entry)) (wordRequest (lineOf row)) r (now (store .exit)) ⌝ }
@@ -50,6 +50,10 @@ pub fn word(store: &mut Store, row: Row) -> Answer
     let ordered = call_checks::check_line_ordered(row);
     let Verdict::Passed = ordered else {
         return Answer::Refused(3, 0);
+    };
+    let unbroken = call_checks::check_line_unbroken(row);
+    let Verdict::Passed = unbroken else {
+        return Answer::Refused(43, 0);
     };
     let present = call_checks::check_names_present(store, row);
     let Verdict::Passed = present else {

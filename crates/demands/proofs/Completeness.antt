@@ -9,22 +9,24 @@ use native.Mathlib.Omega.{arith}
 use lib.ListN.{length, length-map}
 use borrow.Author.Tests.{leb-false}
 use Rattle.logic.specs.declared.Interval.{Interval}
-use Rattle.logic.specs.Interval.{Ordered, has, reversed}
+use Rattle.logic.specs.Interval.{WellFormed}
 use Rattle.logic.specs.Multiset.{Every}
 use Rattle.logic.specs.Derives.{uses, taken}
-use Rattle.logic.proofs.Tests.{no-truth, and-decides, le-decides}
-use Rattle.logic.proofs.Intervals.{ordered-decides}
+use Rattle.logic.proofs.Tests.{no-truth}
+use Rattle.logic.proofs.Intervals.{has-decides}
 use Rattle.logic.proofs.Multisets.{every-out, every-map}
 use Rattle.request.specs.Range.{serial, steps as stepCount}
 use Rattle.request.specs.Request.{Step, Booking, book, stepIntervals, stepsIntervals, intervals}
 use Rattle.request.specs.Write.{write}
 use Rattle.request.specs.InRange.{_inRange_, BookingInRange, StepInRange}
+use Rattle.request.proofs.Digits.{every-append}
 use Rattle.request.proofs.Requests.{write-read, write-short}
 use Rattle.steps.specs.declared.Sequent.{Sequent}
 use Rattle.steps.specs.declared.Goal.the-variants.{Holds}
 use Rattle.steps.specs.Check.{maxLabels, done, premiseOf, finished, checkOf}
 use Rattle.steps.specs.StepLetters.{letterOf}
 use Rattle.steps.specs.Limits.{Writable}
+use Rattle.steps.proofs.Complete.{interval-in}
 use Rattle.steps.proofs.LabelTables.{label-table}
 use Rattle.steps.proofs.Steps.{passing}
 use Rattle.ledger.specs.declared.Credential.{Credential}
@@ -39,6 +41,7 @@ use Rattle.ledger.proofs.Answers.{some-inj, first-passes, heard}
 use Rattle.ledger.proofs.Credentials.{take-out, any-none, Alive, held-length}
 use Rattle.ledger.specs.Bounds.{Rises, Bounded}
 use Rattle.ledger.proofs.Firsts.{first-fails, if-false, if-true, stopped-at, none-stops, not-true, past-form}
+use Rattle.ledger.proofs.Firsts.{past-intervals}
 use Rattle.demands.specs.Demands.{hyp, startLabels, booking, StepsComplete, May, PastSteps, Completeness}
 use Rattle.demands.proofs.Demand1.{demand-1, call-accepts}
 use Rattle.demands.proofs.Start.{unrolls, start}
@@ -90,7 +93,7 @@ live-in-range t b n a = go (find (t .live) n) refl a
 -- A booking that passes every check up to 42
 
 record Passing (t : Ledger) (b : Booking) : Type 0 where
-  straight : anyOf reversed (intervals (book b)) ≡ false
+  formed : Every WellFormed (intervals (book b))
   may : May t (b .now) (b .formula) (b .interval) (b .holds)
   closes : steps t (held (t .live) (b .holds)) (b .formula) (b .interval) (b .steps) ≡ none
 
@@ -106,8 +109,7 @@ module _ (t : Ledger) (b : Booking) (r : BookingInRange b) (p : Passing t b) whe
   unfolding bytes checks full
   so-far =
       let m = p .may in
-      past-form t bytes (write-short (book b) r) (write-read (book b) r)
-      ▸ if-false 3 _ (p .straight)
+      past-intervals t (book b) (p .formed) (past-form t bytes (write-short (book b) r) (write-read (book b) r))
       ▸ if-false 10 _ (m .there)
       ▸ if-false 20 _ (not-true _ (m .plain))
       ▸ if-false 30 _ (not-true _ (m .inside))
@@ -134,37 +136,16 @@ module _ (t : Ledger) (b : Booking) (r : BookingInRange b) (p : Passing t b) whe
 
 -- The booking that it makes, down to bytes
 
-any-append : (xs ys : List Interval) → anyOf reversed xs ≡ false → anyOf reversed ys ≡ false
-    → anyOf reversed (xs ++ ys) ≡ false
-unfolding anyOf
-any-append [] ys x y = y
-any-append (i ∷ xs) ys x y = go (reversed i) x (λ e. any-append xs ys e y)
-  where
-    go : (b : Bool) → (b || anyOf reversed xs) ≡ false
-        → (anyOf reversed xs ≡ false → anyOf reversed (xs ++ ys) ≡ false) → (b || anyOf reversed (xs ++ ys)) ≡ false
-    go true e ih = absurd (no-truth (sym e))
-    go false e ih = ih e
+steps-formed : (ss : List Step) → Every Writable ss → Every WellFormed (stepsIntervals ss)
+unfolding stepsIntervals
+steps-formed [] w = tt
+steps-formed (s ∷ ss) w =
+    every-append WellFormed (stepIntervals s) (stepsIntervals ss) (w .0 .1) (steps-formed ss (w .1))
 
-ordered-straight : (is : List Interval) → Every Ordered is → anyOf reversed is ≡ false
-unfolding anyOf
-ordered-straight [] o = refl
-ordered-straight (i ∷ is) o = rw (ordered-decides i .1 (o .0)) (ordered-straight is (o .1))
-
-steps-straight : (ss : List Step) → Every Writable ss → anyOf reversed (stepsIntervals ss) ≡ false
-unfolding stepsIntervals anyOf
-steps-straight [] w = refl
-steps-straight (s ∷ ss) w =
-    any-append (stepIntervals s) (stepsIntervals ss) (ordered-straight (stepIntervals s) (w .0 .1))
-    (steps-straight ss (w .1))
-
-booking-straight : (b : Booking) → Ordered (b .interval) → Every Writable (b .steps)
-    → anyOf reversed (intervals (book b)) ≡ false
-unfolding intervals anyOf
-booking-straight b o w = rw (ordered-decides (b .interval) .1 o) (steps-straight (b .steps) w)
-
-has-most : (i : Interval) (m : ℕ) → has i m ≡ true → m ≤ i .to
-unfolding has
-has-most i m e = and-decides (le-decides (i .from) m) (le-decides m (i .to)) .0 e .1
+booking-formed : (b : Booking) → WellFormed (b .interval) → Every Writable (b .steps)
+    → Every WellFormed (intervals (book b))
+unfolding intervals
+booking-formed b f w = (f, steps-formed (b .steps) w)
 
 writable-in-range : (ss : List Step) → Every Writable ss → Every StepInRange ss
 writable-in-range ss = every-map (λ s w. w .0) ss
@@ -172,15 +153,15 @@ writable-in-range ss = every-map (λ s w. w .0) ss
 in-range : (t : Ledger) → Bounded t → (b : Booking) → May t (b .now) (b .formula) (b .interval) (b .holds)
     → length (b .steps) inRange stepCount → Every Writable (b .steps) → BookingInRange b
 in-range t bd b m count w = record {
-  now = record { least = omega arith; most = omega (arith, has-most (b .interval) (b .now) (m .inside), m .ranged) };
+  now = record {
+    least = omega arith;
+    most = omega (arith, has-decides (b .interval) (b .now) .0 (m .inside) .to, m .ranged);
+  };
   formula = record {
     least = omega arith;
     most = omega (arith, leb-false (length (t .lines)) (b .formula) (m .there), bd .lines);
   };
-  interval = record {
-    from = record { least = omega arith; most = omega (arith, m .ordered, m .ranged) };
-    to = record { least = omega arith; most = m .ranged };
-  };
+  interval = interval-in (b .interval) (m .formed) (m .ranged);
   holdCount = record { least = omega arith; most = m .few };
   stepCount = count;
   holds = every-map (λ n a. live-in-range t bd n a) (b .holds) (any-none (dead t) (b .holds) (m .live));
@@ -195,7 +176,7 @@ completeness t reached now n i hs m x lim =
       s .lines,
       s .letters,
       past t b (in-range t (reached-bounded t reached) b m (s .count) (s .writable)) (record {
-        straight = booking-straight b (m .ordered) (s .writable);
+        formed = booking-formed b (m .formed) (s .writable);
         may = m;
         closes = s .pass now;
       }),

@@ -8,9 +8,8 @@ use Prim.Native.Nat.{ℕ, _+_, _≤_}
 use native.Mathlib.Omega.{arith}
 use lib.ListN.{length, length-map}
 use Rattle.logic.specs.declared.Interval.{Interval}
-use Rattle.logic.specs.Interval.{Ordered, reversed}
+use Rattle.logic.specs.Interval.{WellFormed}
 use Rattle.logic.specs.Multiset.{Every}
-use Rattle.logic.proofs.Intervals.{ordered-decides}
 use Rattle.logic.proofs.Multisets.{every-left, every-right, every-map}
 use Rattle.logic.specs.Derives.{holds, letters, taken}
 use Rattle.request.specs.Request.{Step, Booking, book, stepIntervals, stepsIntervals, intervals}
@@ -105,24 +104,21 @@ module _ (t : Ledger) (tb : Tabled t) (cs : List Credential) (few : length cs �
       (start-few t cs few) (Holds n i) ss w (closes e) in
       (s .0, s .1, omega (arith, s .2, length-map cs (hyp t)), s .3)
 
--- What an accepted booking's bytes give: few holds, and steps in range with no interval reversed.
+-- What an accepted booking's bytes give: few holds, and steps in range with well-formed intervals.
 
 pub few-held : (t : Ledger) (ns : List ℕ) → length ns ≤ heldRange .last → length (held (t .live) ns) ≤ maxLabels
 unfolding maxLabels
 few-held t ns le = omega (arith, held-length (t .live) ns)
 
-every-step : (ss : List Step) → Every StepInRange ss → Every Ordered (stepsIntervals ss) → Every Writable ss
+every-step : (ss : List Step) → Every StepInRange ss → Every WellFormed (stepsIntervals ss) → Every Writable ss
 unfolding stepsIntervals
 every-step [] r o = tt
 every-step (s ∷ ss) r o = (
-  (r .0, every-left Ordered (stepIntervals s) (stepsIntervals ss) o),
-  every-step ss (r .1) (every-right Ordered (stepIntervals s) (stepsIntervals ss) o),
+  (r .0, every-left WellFormed (stepIntervals s) (stepsIntervals ss) o),
+  every-step ss (r .1) (every-right WellFormed (stepIntervals s) (stepsIntervals ss) o),
 )
 
-none-reversed : (is : List Interval) → anyOf reversed is ≡ false → Every Ordered is
-none-reversed is e = every-map (λ i. ordered-decides i .0) is (any-none reversed is e)
-
-pub writable-steps : (b : Booking) → BookingInRange b → anyOf reversed (intervals (book b)) ≡ false
+pub writable-steps : (b : Booking) → BookingInRange b → Every WellFormed (intervals (book b))
     → Every Writable (b .steps)
 unfolding intervals
-writable-steps b r e = every-step (b .steps) (r .steps) (none-reversed (intervals (book b)) e .1)
+writable-steps b r w = every-step (b .steps) (r .steps) (w .1)

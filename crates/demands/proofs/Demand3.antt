@@ -126,7 +126,7 @@ accept-keeps t h b (withdraw n) e p a =
     let q = passed-withdraw t n (p .rest) in withdraw-keeps t h n (q .credential) (q .found) a
 accept-keeps t h b (book x) e p a =
     let r = read-in-range b (book x) e in
-    book-keeps t h x a (passed-book t x (p .rest)) (r .holdCount .most) (writable-steps x r (p .straight))
+    book-keeps t h x a (passed-book t x (p .rest)) (r .holdCount .most) (writable-steps x r (p .formed))
 accept-keeps t h b (tally s m) e p a = tally-keeps t h s m _ _ _ a
 
 empty-agrees : Agrees empty []

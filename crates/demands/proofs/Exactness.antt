@@ -38,7 +38,7 @@ soundness t reached bytes b e a =
     let r = read-in-range bytes (book b) e in
     let s = steps-derive t (reached-bounded t reached .tabled) (held (t .live) (b .holds))
     (few-held t (b .holds) (r .holdCount .most)) (b .formula) (b .interval) (b .steps)
-    (writable-steps b r (p .straight)) (q .closes) in
+    (writable-steps b r (p .formed)) (q .closes) in
     record {
       derivation = s .0;
       lines = s .1;

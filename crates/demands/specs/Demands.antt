@@ -8,7 +8,7 @@ use mathlib.Core.Bool.{true, false}
 use Prim.Native.Nat.{ℕ, _+_, _≤_}
 use lib.ListN.{length}
 use Rattle.logic.specs.declared.Interval.{Interval}
-use Rattle.logic.specs.Interval.{Ordered, has}
+use Rattle.logic.specs.Interval.{WellFormed, has}
 use Rattle.logic.specs.Formula.{plain}
 use Rattle.logic.specs.Multiset.{Every}
 use Rattle.logic.specs.Derives.{Hyp, _⟦_⟧, Judgment, holds, Derives, Letter, letters, uses, taken}
@@ -93,7 +93,7 @@ booking now n i hs ss = record { now = now; formula = n; interval = i; holds = h
 abbrev pub stepsOf : Ledger → Booking → Check
 stepsOf t b = steps t (held (t .live) (b .holds)) (b .formula) (b .interval) (b .steps)
 
--- step lines by these rules that pass: 2 and 3, so far as they speak of step lines, and 40 to 42
+-- step lines by these rules that pass: 2, 3 and 43, so far as they speak of step lines, and 40 to 42
 pub record StepsFor (t : Ledger) (n : ℕ) (i : Interval) (hs : List ℕ) (rules : List Letter) : Type 0 where
   pub lines : List Step
   pub letters : lettersOf lines ≡ rules
@@ -108,14 +108,14 @@ StepsComplete = (t : Ledger) → Reached t → (n : ℕ) (i : Interval) (hs : Li
     → (x : Derivation t (held (t .live) hs) n i) → WithinLimits (length hs) x → StepsFor t n i hs (letters x)
 
 -- Down to bytes, for what a booking may name by the checks before its steps: its credentials live and no two alike, its
--- goal a plain formula of the ledger, its interval in range and not reversed, with the minute in it.
+-- goal a plain formula of the ledger, its interval in range and well formed, with the minute in it.
 pub record May (t : Ledger) (now n : ℕ) (i : Interval) (hs : List ℕ) : Type 0 where
   pub few : length hs ≤ holdCount .last
   pub live : anyOf (dead t) hs ≡ false
   pub apart : twice hs ≡ false
   pub there : missing t n ≡ false
   pub plain : plain (formula t n) ≡ true
-  pub ordered : Ordered i
+  pub formed : WellFormed i
   pub ranged : i .to ≤ minute .last
   pub inside : has i now ≡ true
 

@@ -1,5 +1,5 @@
-// The entry for C (include/oysterbrim.h): the till is a block of 8,148 numbers that the caller keeps, a sheet is bytes
-// with a length, and the caller lends 1,536 numbers to work on and four for the answer.
+// The entry for C (include/oysterbrim.h): the till is a block of 10,996 numbers that the caller keeps, a sheet is bytes
+// with a length, and the caller lends 2,048 numbers to work on and four for the answer.
 use ledger::Answer;
 use step_rows::StepRows;
 use store::Store;

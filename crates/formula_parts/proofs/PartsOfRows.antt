@@ -1,10 +1,11 @@
 -- A row's parts are the numbers that its line names; size and plain of the line's formula come from those of its parts,
 -- the formulas T of these numbers.
 use mathlib.Core.Path.{_≡_, refl, sym, ap, _∙_}
-use mathlib.Core.Bool.{Bool, _&&_, _||_, and-true, or-false}
+use mathlib.Core.Bool.{Bool, false, _&&_, _||_, and-true, or-false}
 use Prim.Native.Nat.{ℕ, _+_}
 use native.Mathlib.Omega.{arith}
-use Rattle.logic.specs.Interval.{reversed}
+use Rattle.logic.specs.declared.Interval.{Interval}
+use Rattle.logic.specs.Interval.{noInterval}
 use Rattle.logic.specs.Formula.{Formula, size, plain}
 use Rattle.logic.specs.Counts.{allOf}
 use Rattle.logic.specs.Multiset.{sum}
@@ -28,25 +29,25 @@ parts-row (Line.at i w) = refl
 parts-row (Line.says k i) = refl
 parts-row (Line.superset v w) = refl
 
--- a line's intervals are those of its row; one that it has not is not reversed
-line-reversed : (l : Line)
-    → (reversed (rowOf l .first) || reversed (rowOf l .second)) ≡ anyOf reversed (lineIntervals l)
-unfolding anyOf reversed
-line-reversed (Line.atom p s) = refl
-line-reversed Line.one = refl
-line-reversed (Line.tensor i j) = refl
-line-reversed (Line.with i j) = refl
-line-reversed (Line.plus i j) = refl
-line-reversed (Line.lolli i j) = refl
-line-reversed (Line.implies i j) = refl
-line-reversed (Line.bang i) = refl
-line-reversed (Line.at i w) = refl
-line-reversed (Line.says k i) = refl
-line-reversed (Line.superset v w) = ap (λ b. reversed v || b) (sym (or-false (reversed w)))
+-- a line's intervals are those of its row; one that it has not fails no test that `noInterval` passes
+module _ (test : Interval → Bool) (none-passes : test noInterval ≡ false) where
+  line-tested : (l : Line) → (test (rowOf l .first) || test (rowOf l .second)) ≡ anyOf test (lineIntervals l)
+  unfolding anyOf
+  line-tested (Line.atom p s) = rw none-passes
+  line-tested Line.one = rw none-passes
+  line-tested (Line.tensor i j) = rw none-passes
+  line-tested (Line.with i j) = rw none-passes
+  line-tested (Line.plus i j) = rw none-passes
+  line-tested (Line.lolli i j) = rw none-passes
+  line-tested (Line.implies i j) = rw none-passes
+  line-tested (Line.bang i) = rw none-passes
+  line-tested (Line.at i w) = rw none-passes
+  line-tested (Line.says k i) = rw none-passes
+  line-tested (Line.superset v w) = ap (λ b. test v || b) (sym (or-false (test w)))
 
-pub row-reversed : (x : Row) {r : Bool} → r ≡ (reversed (x .first) || reversed (x .second))
-    → (l : Line) → rowOf l ≡ x → r ≡ anyOf reversed (lineIntervals l)
-row-reversed x e l q = e ∙ rw (← q) (line-reversed l)
+  pub row-tested : (x : Row) {r : Bool} → r ≡ (test (x .first) || test (x .second))
+      → (l : Line) → rowOf l ≡ x → r ≡ anyOf test (lineIntervals l)
+  row-tested x e l q = e ∙ rw (← q) (line-tested l)
 
 -- f gives the parts' values
 unfoldable pub sizeRow : (ℕ → ℕ) → Row → ℕ

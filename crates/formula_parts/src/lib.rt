@@ -1,9 +1,9 @@
-// What a row tells of its formula line: the numbers that it names, whether an interval is reversed, whether its letter
-// is that of a plain formula.
+// What a row tells of its formula line: the numbers that it names, whether an interval is reversed or broken, whether
+// its letter is that of a plain formula.
 use steps::Row;
 use steps::letters;
 ghost use mathlib.Core.Path.{_≡_};
-ghost use Rattle.logic.specs.Interval.{reversed};
+ghost use Rattle.logic.specs.Interval.{reversed, broken};
 ghost use Rattle.request.specs.Request.{Line, lineIntervals};
 ghost use Rattle.ledger.specs.Table.{rowOf};
 ghost use Rattle.ledger.specs.Checks.{anyOf};
@@ -55,4 +55,11 @@ pub fn reversed_row(x: Row) -> bool
     ensures { λ r. ⌜ ((l : Line) → rowOf l ≡ x → r ≡ anyOf reversed (lineIntervals l)) ⌝ }
 {
     intervals::reversed(x.first) | intervals::reversed(x.second)
+}
+
+// The same of a break that is neither 0,0 nor strictly inside (refusal 43).
+pub fn broken_row(x: Row) -> bool
+    ensures { λ r. ⌜ ((l : Line) → rowOf l ≡ x → r ≡ anyOf broken (lineIntervals l)) ⌝ }
+{
+    intervals::broken(x.first) | intervals::broken(x.second)
 }

@@ -6,13 +6,16 @@ use mathlib.Core.Bool.{Bool, true, false, not}
 use Prim.Native.Nat.{ℕ, _≤_, _<_}
 use lib.ListN.{length}
 use borrow.Author.Tests.{le-ltb, lt-ltb}
+use Rattle.logic.specs.declared.Interval.{Interval}
+use Rattle.logic.specs.Interval.{reversed, broken, WellFormed}
+use Rattle.logic.specs.Multiset.{Every}
 use Rattle.logic.proofs.Tests.{no-truth}
+use Rattle.logic.proofs.Intervals.{formed-decides}
 use Rattle.request.specs.Range.{maxBytes}
 use Rattle.request.specs.Request.{Request, intervals}
 use Rattle.request.specs.Read.{requestOf}
 use Rattle.ledger.specs.declared.Answer.the-variants.{Refused}
 use Rattle.ledger.specs.Ledger.{Ledger, isNone}
-use Rattle.logic.specs.Interval.{reversed}
 use Rattle.ledger.specs.Checks.{Refusal, Check, _if_, anyOf, first, checks, readChecks, checksOf}
 use Rattle.ledger.specs.Calls.{reply, accept, decide, handle, call}
 use Rattle.ledger.specs.Statements.{Pass, FirstFails, here, later, SoFar, from-start, _▸_}
@@ -76,10 +79,23 @@ pub handle-passes : (t : Ledger) (r : Request) → first (readChecks t (some r))
 unfolding decide
 handle-passes t r h = ap (λ (o : Option Refusal). decide t o (some r)) h
 
--- a request that has no interval passes the checks of intervals
-pub no-intervals : (t : Ledger) (r : Request) → intervals r ≡ [] → SoFar (readChecks t (some r)) (checks t r)
+-- a request whose intervals are well formed passes the checks of intervals
+none-fails : (test : Interval → Bool) → ((i : Interval) → WellFormed i → test i ≡ false)
+    → (is : List Interval) → Every WellFormed is → anyOf test is ≡ false
 unfolding anyOf
-no-intervals t r e = from-start ▸ if-false 3 _ (ap (anyOf reversed) e)
+none-fails test f [] w = refl
+none-fails test f (i ∷ is) w = rw (f i (w .0)) (none-fails test f is (w .1))
+
+pub past-intervals : (t : Ledger) (r : Request) {all : List Check} → Every WellFormed (intervals r)
+    → SoFar all (readChecks t (some r)) → SoFar all (checks t r)
+past-intervals t r w s =
+    s
+    ▸ if-false 3 _ (none-fails reversed (λ i f. formed-decides i .1 f .0) (intervals r) w)
+    ▸ if-false 43 _ (none-fails broken (λ i f. formed-decides i .1 f .1) (intervals r) w)
+
+-- so does one that has none
+pub no-intervals : (t : Ledger) (r : Request) → intervals r ≡ [] → SoFar (readChecks t (some r)) (checks t r)
+no-intervals t r e = past-intervals t r (subst (Every WellFormed) (sym e) tt) from-start
 
 -- bytes, by their length and what they read as
 

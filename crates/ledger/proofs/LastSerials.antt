@@ -7,7 +7,7 @@ use mathlib.Core.Bool.{false}
 use Prim.Native.Nat.{ℕ, zero, suc, _+_, _≤_}
 use native.Mathlib.Omega.{arith}
 use borrow.Author.Tests.{le-ltb, eq-eqb}
-use Rattle.logic.specs.Interval.{span, reversed}
+use Rattle.logic.specs.Interval.{noInterval, reversed, broken}
 use Rattle.logic.specs.Formula.{plain}
 use Rattle.request.specs.declared.Kind.the-variants.{Linear}
 use Rattle.request.specs.Range.{serial}
@@ -32,7 +32,7 @@ call-written : (t : Ledger) (r : Request) → InRange r → first (readChecks t 
 call-written t r h p = call-read t (write r) r (write-short r h) (write-read r h) ∙ handle-passes t r p
 
 abbrev issued : Request
-issued = issue Linear 0 (span 0 0)
+issued = issue Linear 0 noInterval
 
 -- issue and withdraw, k times, from serial n on
 abbrev rounds : ℕ → ℕ → List (List ℕ)
@@ -41,7 +41,7 @@ rounds (suc k) n = write issued ∷ write (withdraw n) ∷ rounds k (n + 1)
 
 -- the credential that it gives
 abbrev only : ℕ → Credential
-only n = record { serial = n; kind = Linear; formula = 0; interval = span 0 0 }
+only n = record { serial = n; kind = Linear; formula = 0; interval = noInterval }
 
 -- a credential that is the only one is live, and none is left without it
 only-there : (c : Credential) → isNone (find (c ∷ []) (c .serial)) ≡ false
@@ -54,7 +54,7 @@ only-gone c = rw (eq-eqb (c .serial) (c .serial) refl, withoutSerial)
 
 round : (n : ℕ) → 1 ≤ n → n ≤ serial .last
     → call (call (idle n) (write issued) .ledger) (write (withdraw n)) .ledger ≡ idle (n + 1)
-unfolding accept checks first anyOf _if_ plain intervals reversed build formulas
+unfolding accept checks first anyOf _if_ plain intervals reversed broken build formulas
 round n h l =
     let t = accept (idle n) issued .ledger in
     ap (λ (d : Reply). call (d .ledger) (write (withdraw n)) .ledger)
@@ -64,6 +64,8 @@ round n h l =
       interval = record {
         from = record { least = omega arith; most = omega arith };
         to = record { least = omega arith; most = omega arith };
+        first = record { least = omega arith; most = omega arith };
+        last = record { least = omega arith; most = omega arith };
       };
     })
     (rw (le-ltb (serial .last) n l, _if_)))

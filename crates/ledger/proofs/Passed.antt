@@ -1,15 +1,18 @@
 -- What an accepted request has passed, check by check. Only here are the lists of a request's checks taken apart.
 use mathlib.Core.Path.{_≡_, refl, sym}
+use mathlib.Core.List.{List, [], _∷_}
 use mathlib.Core.Option.{Option, none, some}
 use mathlib.Core.Bool.{true, false}
 use Prim.Native.Nat.{ℕ, _-_, _≤_, _<_}
 use lib.ListN.{length}
 use borrow.Author.Tests.{leb-false, ltb-false, not-false}
 use Rattle.logic.specs.declared.Interval.{Interval}
-use Rattle.logic.specs.Interval.{has, reversed}
+use Rattle.logic.specs.Interval.{has, reversed, broken, WellFormed}
 use Rattle.logic.specs.Formula.{Formula, size, plain}
 use Rattle.logic.specs.Weight.{Balanced}
 use Rattle.logic.proofs.Tests.{no-truth}
+use Rattle.logic.specs.Multiset.{Every}
+use Rattle.logic.proofs.Intervals.{formed-decides}
 use Rattle.logic.proofs.Multisets.{every-map}
 use Rattle.logic.proofs.Balance.{balanced-test}
 use Rattle.request.specs.declared.Kind.{Kind}
@@ -28,11 +31,20 @@ use Rattle.ledger.specs.Bounds.{There}
 
 -- the checks of a request that is read
 pub record PassedRead (t : Ledger) (r : Request) : Type 0 where
-  pub straight : anyOf reversed (intervals r) ≡ false
+  pub formed : Every WellFormed (intervals r)
   pub rest : Pass (checks t r)
 
 pub passed-read : (t : Ledger) (r : Request) → Pass (readChecks t (some r)) → PassedRead t r
-passed-read t r (straight, rest) = record { straight = if-none 3 _ straight; rest = rest }
+passed-read t r (straight, (unbroken, rest)) = record {
+  formed = go (intervals r) (any-none reversed (intervals r) (if-none 3 _ straight))
+      (any-none broken (intervals r) (if-none 43 _ unbroken));
+  rest = rest;
+}
+  where
+    go : (is : List Interval) → Every (λ i. reversed i ≡ false) is → Every (λ i. broken i ≡ false) is
+        → Every WellFormed is
+    go [] a b = tt
+    go (i ∷ is) a b = (formed-decides i .0 (a .0, b .0), go is (a .1) (b .1))
 
 -- linear credentials are plain, unrestricted ones balanced
 abbrev pub FitsKind : Kind → Formula → Type 0

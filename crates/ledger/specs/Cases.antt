@@ -66,17 +66,17 @@ form =
 -- 2, then 3 over the whole sheet, then 10; 13 for a line that is there.
 abbrev pub order : List Turn
 order =
-    ("issue,s,1000,9,0\n" ⇒ refused 2) ∷
-    ("issue,s,999,9,0\n" ⇒ refused 3) ∷
-    ("issue,s,999,0,9\n" ⇒ refused 10) ∷
-    ("word,h,0,5,4\n" ⇒ refused 3) ∷
-    ("word,g,0,1,5,4\n" ⇒ refused 3) ∷
-    ("word,h,0,4,5\n" ⇒ refused 10) ∷
+    ("issue,s,1000,9,0,0,0\n" ⇒ refused 2) ∷
+    ("issue,s,999,9,0,0,0\n" ⇒ refused 3) ∷
+    ("issue,s,999,0,9,0,0\n" ⇒ refused 10) ∷
+    ("word,h,0,5,4,0,0\n" ⇒ refused 3) ∷
+    ("word,g,0,1,0,0,5,4,0,0\n" ⇒ refused 3) ∷
+    ("word,h,0,4,5,0,0\n" ⇒ refused 10) ∷
     ("word,o\n" ⇒ accepted 0) ∷
     ("word,t,0,1\n" ⇒ refused 10) ∷
     ("word,o\n" ⇒ refused 13) ∷
-    ("issue,s,0,0,9\n" ⇒ refused 20) ∷
-    ("issue,r,0,0,9\n" ⇒ accepted 1) ∷ []
+    ("issue,s,0,0,9,0,0\n" ⇒ refused 20) ∷
+    ("issue,r,0,0,9,0,0\n" ⇒ accepted 1) ∷ []
 
 -- A seat (0), a free atom (1), two principals' (2, 3); serial 1 is a seat, 2 is 1's free atom, 3 an unrestricted atom.
 abbrev pub start : List Turn
@@ -85,28 +85,28 @@ start =
     ("word,a,9,7\n" ⇒ accepted 1) ∷
     ("word,s,1,1\n" ⇒ accepted 2) ∷
     ("word,s,2,1\n" ⇒ accepted 3) ∷
-    ("issue,s,0,0,9\n" ⇒ accepted 1) ∷
-    ("issue,s,2,0,9\n" ⇒ accepted 2) ∷
-    ("issue,r,1,0,9\n" ⇒ accepted 3) ∷ []
+    ("issue,s,0,0,9,0,0\n" ⇒ accepted 1) ∷
+    ("issue,s,2,0,9,0,0\n" ⇒ accepted 2) ∷
+    ("issue,r,1,0,9,0,0\n" ⇒ accepted 3) ∷ []
 
 -- "All holds pass 24 before 31 is tried"; 31 of both kinds; 30 before both; a step's window is 3; a label out of range
 -- is 2, one never taken 40; more lines than announced are 2; of lines that follow the close the first is 42.
 abbrev pub bookings : List Turn
 bookings =
     start ++
-    (("book,5,0,0,9,3,1" ∷ "hold,1" ∷ "hold,1" ∷ "hold,9" ∷ "ax,0" ∷ []) ⇛ refused 24) ∷
-    (("book,5,0,0,9,2,1" ∷ "hold,1" ∷ "hold,1" ∷ "ax,0" ∷ []) ⇛ refused 31) ∷
-    (("book,5,1,0,9,2,2" ∷ "hold,3" ∷ "hold,3" ∷ "cp,0" ∷ "ax,2" ∷ []) ⇛ refused 31) ∷
-    (("book,10,0,0,9,2,1" ∷ "hold,1" ∷ "hold,9" ∷ "ax,0" ∷ []) ⇛ refused 30) ∷
-    (("book,5,0,0,9,1,2" ∷ "hold,1" ∷ "ax,0" ∷ "ul,0,9,0" ∷ []) ⇛ refused 3) ∷
-    (("book,5,0,0,9,1,1" ∷ "hold,1" ∷ "ax,64" ∷ []) ⇛ refused 2) ∷
-    (("book,5,0,0,9,1,1" ∷ "hold,1" ∷ "ax,63" ∷ []) ⇛ Told.no 40 1) ∷
-    (("book,5,0,0,9,1,1" ∷ "hold,1" ∷ "ax,0" ∷ "ax,0" ∷ []) ⇛ refused 2) ∷
-    (("book,5,0,0,9,1,3" ∷ "hold,1" ∷ "ax,0" ∷ "ax,9" ∷ "ax,0" ∷ []) ⇛ Told.no 42 2) ∷
-    (("book,5,2,0,9,1,2" ∷ "hold,2" ∷ "sr" ∷ "sl,0" ∷ []) ⇛ Told.no 42 3) ∷
-    (("book,5,0,0,9,2,1" ∷ "hold,1" ∷ "hold,2" ∷ "ax,0" ∷ []) ⇛ Told.no 40 1) ∷
-    (("book,5,3,0,9,1,4" ∷ "hold,2" ∷ "sr" ∷ "sl,0" ∷ "af" ∷ "ax,1" ∷ []) ⇛ Told.no 40 2) ∷
-    (("book,5,2,0,9,1,4" ∷ "hold,2" ∷ "sr" ∷ "sl,0" ∷ "af" ∷ "ax,1" ∷ []) ⇛ accepted 4) ∷ []
+    (("book,5,0,0,9,0,0,3,1" ∷ "hold,1" ∷ "hold,1" ∷ "hold,9" ∷ "ax,0" ∷ []) ⇛ refused 24) ∷
+    (("book,5,0,0,9,0,0,2,1" ∷ "hold,1" ∷ "hold,1" ∷ "ax,0" ∷ []) ⇛ refused 31) ∷
+    (("book,5,1,0,9,0,0,2,2" ∷ "hold,3" ∷ "hold,3" ∷ "cp,0" ∷ "ax,2" ∷ []) ⇛ refused 31) ∷
+    (("book,10,0,0,9,0,0,2,1" ∷ "hold,1" ∷ "hold,9" ∷ "ax,0" ∷ []) ⇛ refused 30) ∷
+    (("book,5,0,0,9,0,0,1,2" ∷ "hold,1" ∷ "ax,0" ∷ "ul,0,9,0,0,0" ∷ []) ⇛ refused 3) ∷
+    (("book,5,0,0,9,0,0,1,1" ∷ "hold,1" ∷ "ax,64" ∷ []) ⇛ refused 2) ∷
+    (("book,5,0,0,9,0,0,1,1" ∷ "hold,1" ∷ "ax,63" ∷ []) ⇛ Told.no 40 1) ∷
+    (("book,5,0,0,9,0,0,1,1" ∷ "hold,1" ∷ "ax,0" ∷ "ax,0" ∷ []) ⇛ refused 2) ∷
+    (("book,5,0,0,9,0,0,1,3" ∷ "hold,1" ∷ "ax,0" ∷ "ax,9" ∷ "ax,0" ∷ []) ⇛ Told.no 42 2) ∷
+    (("book,5,2,0,9,0,0,1,2" ∷ "hold,2" ∷ "sr" ∷ "sl,0" ∷ []) ⇛ Told.no 42 3) ∷
+    (("book,5,0,0,9,0,0,2,1" ∷ "hold,1" ∷ "hold,2" ∷ "ax,0" ∷ []) ⇛ Told.no 40 1) ∷
+    (("book,5,3,0,9,0,0,1,4" ∷ "hold,2" ∷ "sr" ∷ "sl,0" ∷ "af" ∷ "ax,1" ∷ []) ⇛ Told.no 40 2) ∷
+    (("book,5,2,0,9,0,0,1,4" ∷ "hold,2" ∷ "sr" ∷ "sl,0" ∷ "af" ∷ "ax,1" ∷ []) ⇛ accepted 4) ∷ []
 
 -- "open = seats of the session in coupons whose window has the minute": both ends are in; an unrestricted credential
 -- counts nothing; a part counts as often as it stands there. A booking makes the seat a place, and the credential that
@@ -117,9 +117,9 @@ tallies =
     ("word,a,2,7\n" ⇒ accepted 1) ∷
     ("word,t,0,0\n" ⇒ accepted 2) ∷
     ("word,l,0,1\n" ⇒ accepted 3) ∷
-    ("issue,r,3,0,9\n" ⇒ accepted 1) ∷
-    ("issue,s,2,5,9\n" ⇒ accepted 2) ∷
-    ("issue,s,1,5,9\n" ⇒ accepted 3) ∷
+    ("issue,r,3,0,9,0,0\n" ⇒ accepted 1) ∷
+    ("issue,s,2,5,9,0,0\n" ⇒ accepted 2) ∷
+    ("issue,s,1,5,9,0,0\n" ⇒ accepted 3) ∷
     ("tally,7,4\n" ⇒ ok (0 ∷ 2 ∷ 1 ∷ [])) ∷
     ("tally,7,5\n" ⇒ ok (2 ∷ 0 ∷ 1 ∷ [])) ∷
     ("tally,7,9\n" ⇒ ok (2 ∷ 0 ∷ 1 ∷ [])) ∷
@@ -129,10 +129,10 @@ tallies =
     ("withdraw,2\n" ⇒ accepted 2) ∷
     ("withdraw,2\n" ⇒ refused 24) ∷
     ("tally,7,5\n" ⇒ ok (0 ∷ 0 ∷ 1 ∷ [])) ∷
-    ("issue,r,3,0,9\n" ⇒ accepted 4) ∷
-    ("issue,s,0,0,9\n" ⇒ accepted 5) ∷
+    ("issue,r,3,0,9,0,0\n" ⇒ accepted 4) ∷
+    ("issue,s,0,0,9,0,0\n" ⇒ accepted 5) ∷
     ("tally,7,5\n" ⇒ ok (1 ∷ 0 ∷ 1 ∷ [])) ∷
-    (("book,5,1,0,9,2,4" ∷ "hold,4" ∷ "hold,5" ∷ "cp,0" ∷ "ll,2,0000000000000002,0,9" ∷ "ax,1" ∷ "ax,3"
+    (("book,5,1,0,9,0,0,2,4" ∷ "hold,4" ∷ "hold,5" ∷ "cp,0" ∷ "ll,2,0000000000000002,0,9,0,0" ∷ "ax,1" ∷ "ax,3"
     ∷ []) ⇛ accepted 6) ∷
     ("tally,7,5\n" ⇒ ok (0 ∷ 0 ∷ 2 ∷ [])) ∷
     ("withdraw,6\n" ⇒ accepted 6) ∷
@@ -149,25 +149,75 @@ sessions =
     ("word,a,2,65535\n" ⇒ accepted 2) ∷
     ("word,l,1,2\n" ⇒ accepted 3) ∷
     ("word,l,0,2\n" ⇒ accepted 4) ∷
-    ("issue,r,3,0,9\n" ⇒ refused 21) ∷
-    ("issue,r,4,0,9\n" ⇒ accepted 1) ∷
-    ("issue,s,0,0,9\n" ⇒ accepted 2) ∷
+    ("issue,r,3,0,9,0,0\n" ⇒ refused 21) ∷
+    ("issue,r,4,0,9,0,0\n" ⇒ accepted 1) ∷
+    ("issue,s,0,0,9,0,0\n" ⇒ accepted 2) ∷
     ("tally,65535,5\n" ⇒ ok (1 ∷ 0 ∷ 0 ∷ [])) ∷
     ("tally,255,5\n" ⇒ ok (0 ∷ 0 ∷ 0 ∷ [])) ∷
-    ("issue,s,1,0,9\n" ⇒ accepted 3) ∷
+    ("issue,s,1,0,9,0,0\n" ⇒ accepted 3) ∷
     ("tally,65535,5\n" ⇒ ok (1 ∷ 0 ∷ 0 ∷ [])) ∷
     ("tally,255,5\n" ⇒ ok (1 ∷ 0 ∷ 0 ∷ [])) ∷
     ("tally,65279,5\n" ⇒ ok (0 ∷ 0 ∷ 0 ∷ [])) ∷
-    (("book,5,0,0,9,1,1" ∷ "hold,3" ∷ "ax,0" ∷ []) ⇛ Told.no 40 1) ∷
-    (("book,5,1,0,9,1,1" ∷ "hold,2" ∷ "ax,0" ∷ []) ⇛ Told.no 40 1) ∷
-    (("book,5,2,0,9,2,4" ∷ "hold,1" ∷ "hold,2" ∷ "cp,0" ∷ "ll,2,0000000000000002,0,9" ∷ "ax,1" ∷ "ax,3"
+    (("book,5,0,0,9,0,0,1,1" ∷ "hold,3" ∷ "ax,0" ∷ []) ⇛ Told.no 40 1) ∷
+    (("book,5,1,0,9,0,0,1,1" ∷ "hold,2" ∷ "ax,0" ∷ []) ⇛ Told.no 40 1) ∷
+    (("book,5,2,0,9,0,0,2,4" ∷ "hold,1" ∷ "hold,2" ∷ "cp,0" ∷ "ll,2,0000000000000002,0,9,0,0" ∷ "ax,1" ∷ "ax,3"
     ∷ []) ⇛ accepted 4) ∷
     ("tally,65535,5\n" ⇒ ok (0 ∷ 0 ∷ 1 ∷ [])) ∷
     ("withdraw,3\n" ⇒ accepted 3) ∷
     ("tally,255,5\n" ⇒ ok (0 ∷ 0 ∷ 0 ∷ [])) ∷ []
 
+-- Document 02, ask 2: "Lines of the old length break the form" (2); 3 over the whole sheet, then 43 over the whole
+-- sheet, then 10; "0,0 is no break; otherwise from < first ≤ last < to". The break's fields are minutes.
+abbrev pub breakOrder : List Turn
+breakOrder =
+    ("issue,s,0,0,9\n" ⇒ refused 2) ∷
+    ("issue,s,0,0,9,00,0\n" ⇒ refused 2) ∷
+    ("issue,s,0,9,0,0,10000000\n" ⇒ refused 2) ∷
+    ("issue,s,0,9,0,1,2\n" ⇒ refused 3) ∷
+    ("issue,s,0,0,9,0,5\n" ⇒ refused 43) ∷
+    ("issue,s,0,0,9,5,0\n" ⇒ refused 43) ∷
+    ("issue,s,0,0,9,5,9\n" ⇒ refused 43) ∷
+    ("issue,s,0,1,9,1,5\n" ⇒ refused 43) ∷
+    ("issue,s,0,0,9,5,4\n" ⇒ refused 43) ∷
+    ("issue,s,0,0,9,1,8\n" ⇒ refused 10) ∷
+    ("issue,s,0,9999997,9999999,9999998,9999998\n" ⇒ refused 10) ∷
+    ("word,a,1,7\n" ⇒ accepted 0) ∷
+    ("word,h,0,0,9,0,9\n" ⇒ refused 43) ∷
+    ("word,g,0,9,9,9,0,9,0,0\n" ⇒ refused 43) ∷
+    ("word,g,0,9,0,0,0,9,9,9\n" ⇒ refused 43) ∷
+    ("word,g,0,9,9,9,5,4,0,0\n" ⇒ refused 3) ∷
+    ("word,g,0,9,0,0,0,9\n" ⇒ refused 2) ∷
+    ("word,h,0,0,9,0,0\n" ⇒ accepted 1) ∷
+    ("word,h,0,0,9,4,5\n" ⇒ accepted 2) ∷
+    ("word,h,0,0,9,4,5\n" ⇒ refused 13) ∷
+    ("issue,s,0,0,9,0,0\n" ⇒ accepted 1) ∷
+    (("book,5,0,0,9,9,9,1,2" ∷ "hold,1" ∷ "ax,0" ∷ "ul,0,9,0,0,0" ∷ []) ⇛ refused 3) ∷
+    (("book,5,0,0,9,0,0,1,2" ∷ "hold,1" ∷ "ax,0" ∷ "ul,0,0,9,9,9" ∷ []) ⇛ refused 43) ∷
+    (("book,5,0,0,9,0,0,1,2" ∷ "hold,1" ∷ "ax,0" ∷ "ll,0,0000000000000000,0,9,0,9" ∷ []) ⇛ refused 43) ∷
+    (("book,5,9,0,9,9,9,1,1" ∷ "hold,1" ∷ "ax,0" ∷ []) ⇛ refused 43) ∷ []
+
+-- "A window is then the set of its minutes without the break": tally at both ends of the break and beside them; now in
+-- the break is outside (30). The goal may have a larger break or lie on one side, and not over the credential's break.
+abbrev pub breaks : List Turn
+breaks =
+    ("word,a,1,7\n" ⇒ accepted 0) ∷
+    ("issue,s,0,0,99,40,59\n" ⇒ accepted 1) ∷
+    ("tally,7,39\n" ⇒ ok (1 ∷ 0 ∷ 0 ∷ [])) ∷
+    ("tally,7,40\n" ⇒ ok (0 ∷ 1 ∷ 0 ∷ [])) ∷
+    ("tally,7,59\n" ⇒ ok (0 ∷ 1 ∷ 0 ∷ [])) ∷
+    ("tally,7,60\n" ⇒ ok (1 ∷ 0 ∷ 0 ∷ [])) ∷
+    (("book,50,0,0,99,40,59,1,1" ∷ "hold,1" ∷ "ax,0" ∷ []) ⇛ refused 30) ∷
+    (("book,5,0,0,99,0,0,1,1" ∷ "hold,1" ∷ "ax,0" ∷ []) ⇛ Told.no 40 1) ∷
+    (("book,5,0,0,99,41,60,1,1" ∷ "hold,1" ∷ "ax,0" ∷ []) ⇛ Told.no 40 1) ∷
+    (("book,5,0,0,99,39,58,1,1" ∷ "hold,1" ∷ "ax,0" ∷ []) ⇛ Told.no 40 1) ∷
+    (("book,5,0,0,40,0,0,1,1" ∷ "hold,1" ∷ "ax,0" ∷ []) ⇛ Told.no 40 1) ∷
+    (("book,60,0,59,99,0,0,1,1" ∷ "hold,1" ∷ "ax,0" ∷ []) ⇛ Told.no 40 1) ∷
+    (("book,5,0,0,99,30,70,1,1" ∷ "hold,1" ∷ "ax,0" ∷ []) ⇛ accepted 2) ∷
+    ("tally,7,30\n" ⇒ ok (0 ∷ 1 ∷ 0 ∷ [])) ∷
+    (("book,5,0,0,29,0,0,1,1" ∷ "hold,2" ∷ "ax,0" ∷ []) ⇛ accepted 3) ∷ []
+
 abbrev pub cases : List (List Turn)
-cases = form ∷ order ∷ bookings ∷ tallies ∷ sessions ∷ []
+cases = form ∷ order ∷ bookings ∷ tallies ∷ sessions ∷ breakOrder ∷ breaks ∷ []
 
 abbrev pub CasesPlay : Type 0
 CasesPlay = AllAnswered cases

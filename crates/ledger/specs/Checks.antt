@@ -1,13 +1,13 @@
 -- Document 01's section "Where a sheet is stopped": the checks of a request, in the table's order, for each kind.
 -- `n if test` is a row of the table: refusal n is given exactly if the test is true.
-use mathlib.Core.List.{List, [], _∷_, map}
+use mathlib.Core.List.{List, [], _∷_, _++_, map}
 use mathlib.Core.Option.{Option, none, some}
 use mathlib.Core.Bool.{Bool, true, false, _&&_, _||_, not}
 use Prim.Native.Nat.{ℕ, suc, _-_}
 use lib.Dec.{eqb, leb, ltb}
 use lib.ListN.{length}
 use Rattle.logic.specs.declared.Interval.{Interval}
-use Rattle.logic.specs.Interval.{noInterval, has, sameInterval, reversed}
+use Rattle.logic.specs.Interval.{noInterval, has, sameInterval, reversed, broken}
 use Rattle.logic.specs.Formula.{size, plain}
 use Rattle.logic.specs.Counts.{balanced}
 use Rattle.request.specs.declared.Kind.{Kind}
@@ -159,10 +159,16 @@ checks t (book b) =
     (23 if usedUp t) ∷ []
 checks t (tally s m) = []
 
--- "any window field": from > to, in the head, or any step or formula
+-- "any window field": from > to, in the head, or any step or formula; "A break that is neither 0,0 nor strictly inside
+-- its window is refused by 43, straight after 3", in any of them too
+abbrev pub intervalChecks : List Interval → List Check
+intervalChecks is =
+    (3 if anyOf reversed is) ∷
+    (43 if anyOf broken is) ∷ []
+
 abbrev pub readChecks : Ledger → Option Request → List Check
 readChecks t none = []
-readChecks t (some r) = (3 if anyOf reversed (intervals r)) ∷ checks t r
+readChecks t (some r) = intervalChecks (intervals r) ++ checks t r
 
 -- all checks of the bytes of a request
 unfoldable pub checksOf : Ledger → List ℕ → List Check

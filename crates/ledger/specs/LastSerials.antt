@@ -21,12 +21,12 @@ IdleGiven = (n : ℕ) → n ≤ serial .last → (calls : List (List ℕ)) × (a
 -- Serial 999,999 is given, and none after it, also when it is no longer live.
 abbrev pub last : List Turn
 last =
-    ("issue,s,0,0,9\n" ⇒ accepted 999999) ∷
-    ("issue,s,0,0,9\n" ⇒ refused 23) ∷
-    ("issue,r,0,0,9\n" ⇒ refused 23) ∷
-    (("book,5,0,0,9,1,1" ∷ "hold,999999" ∷ "ax,0" ∷ []) ⇛ refused 23) ∷
+    ("issue,s,0,0,9,0,0\n" ⇒ accepted 999999) ∷
+    ("issue,s,0,0,9,0,0\n" ⇒ refused 23) ∷
+    ("issue,r,0,0,9,0,0\n" ⇒ refused 23) ∷
+    (("book,5,0,0,9,0,0,1,1" ∷ "hold,999999" ∷ "ax,0" ∷ []) ⇛ refused 23) ∷
     ("withdraw,999999\n" ⇒ accepted 999999) ∷
-    ("issue,s,0,0,9\n" ⇒ refused 23) ∷ []
+    ("issue,s,0,0,9,0,0\n" ⇒ refused 23) ∷ []
 
 -- a text n times, each time answered with the next serial
 unfoldable pub given : String → ℕ → ℕ → List Turn
@@ -36,13 +36,13 @@ given text (suc n) k = (text ⇒ accepted k) ∷ given text n (suc k)
 -- 512 are live and no serial is left: 40 before 22, "live, less singles held", 22 before 23.
 abbrev pub full : List Turn
 full =
-    ("issue,r,0,0,9\n" ⇒ accepted 999488) ∷ given "issue,s,0,0,9\n" 511 999489 ++
-    ("issue,s,0,0,9\n" ⇒ refused 22) ∷
-    (("book,5,0,0,9,1,1" ∷ "hold,999488" ∷ "ax,0" ∷ []) ⇛ Told.no 40 1) ∷
-    (("book,5,0,0,9,1,2" ∷ "hold,999488" ∷ "cp,0" ∷ "ax,1" ∷ []) ⇛ refused 22) ∷
-    (("book,5,0,0,9,1,1" ∷ "hold,999489" ∷ "ax,0" ∷ []) ⇛ refused 23) ∷
+    ("issue,r,0,0,9,0,0\n" ⇒ accepted 999488) ∷ given "issue,s,0,0,9,0,0\n" 511 999489 ++
+    ("issue,s,0,0,9,0,0\n" ⇒ refused 22) ∷
+    (("book,5,0,0,9,0,0,1,1" ∷ "hold,999488" ∷ "ax,0" ∷ []) ⇛ Told.no 40 1) ∷
+    (("book,5,0,0,9,0,0,1,2" ∷ "hold,999488" ∷ "cp,0" ∷ "ax,1" ∷ []) ⇛ refused 22) ∷
+    (("book,5,0,0,9,0,0,1,1" ∷ "hold,999489" ∷ "ax,0" ∷ []) ⇛ refused 23) ∷
     ("withdraw,999489\n" ⇒ accepted 999489) ∷
-    ("issue,s,0,0,9\n" ⇒ refused 23) ∷ []
+    ("issue,s,0,0,9,0,0\n" ⇒ refused 23) ∷ []
 
 abbrev pub LastSerialsPlay : Type 0
 LastSerialsPlay = AnsweredFrom (idle 999999) last × AnsweredFrom (idle 999488) full

@@ -1,4 +1,5 @@
--- Document 01's sessions M1 to M10: inputs, as the bytes of the requests, with their answers.
+-- Document 01's sessions M1 to M10: inputs, as the bytes of the requests, with their answers. Its lines are quoted as
+-- they stand there; "M1 to M10 get 0,0 in each window" (document 02, ask 2).
 use mathlib.Core.Path.{_≡_}
 use mathlib.Core.List.{List, [], _∷_, _++_, map}
 use Prim.Native.Nat.{ℕ, zero, suc}
@@ -41,13 +42,13 @@ words = each ("word,a,1,7" ∷ "word,a,2,7" ∷ "word,a,9,7" ∷ "word,s,1,0" �
 -- M1's booking: its first line, third hold and third step
 abbrev pub booking : String → String → String → List String
 booking head hold third =
-    head ∷ "hold,1" ∷ "hold,2" ∷ hold ∷ "cp,0" ∷ "ll,3,0000000000000006,540,600" ∷ third ∷ "sr" ∷ "sl,1" ∷ "af" ∷ "ax,4"
-    ∷ "sr" ∷ "sl,2" ∷ "af" ∷ "ax,5" ∷ "sr" ∷ "sl,6" ∷ "af" ∷ "ax,7" ∷ []
+    head ∷ "hold,1" ∷ "hold,2" ∷ hold ∷ "cp,0" ∷ "ll,3,0000000000000006,540,600,0,0" ∷ third ∷ "sr" ∷ "sl,1" ∷ "af"
+    ∷ "ax,4" ∷ "sr" ∷ "sl,2" ∷ "af" ∷ "ax,5" ∷ "sr" ∷ "sl,6" ∷ "af" ∷ "ax,7" ∷ []
 
 -- M1, with the issue of serial 2 and a booking
 abbrev pub m1With : String → List String → List (List String)
 m1With second b =
-    words ++ each ("issue,r,7,0,9999" ∷ second ∷ "issue,s,4,0,600" ∷ "tally,7,540" ∷ [])
+    words ++ each ("issue,r,7,0,9999,0,0" ∷ second ∷ "issue,s,4,0,600,0,0" ∷ "tally,7,540" ∷ [])
     ++ (b ∷ each ("tally,7,540" ∷ []))
 
 -- what M1 answers before its booking
@@ -55,10 +56,10 @@ abbrev pub m1Begins : List Told
 m1Begins = oks (0 ∷ 1 ∷ 2 ∷ 3 ∷ 4 ∷ 5 ∷ 6 ∷ 7 ∷ 1 ∷ 2 ∷ 3 ∷ []) ++ (ok (1 ∷ 0 ∷ 0 ∷ []) ∷ [])
 
 abbrev pub second : String
-second = "issue,s,3,0,600"
+second = "issue,s,3,0,600,0,0"
 
 abbrev pub head : String
-head = "book,540,5,540,600,3,15"
+head = "book,540,5,540,600,0,0,3,15"
 
 abbrev pub m1Booking : List String
 m1Booking = booking head "hold,3" "tr,0000000000000002"
@@ -81,7 +82,7 @@ M1 = record {
 -- "M1, serial 2's window to 599: the booking gives no,40,5."
 abbrev pub M2 : Session
 M2 = record {
-  requests = m1With "issue,s,3,0,599" m1Booking;
+  requests = m1With "issue,s,3,0,599,0,0" m1Booking;
   replies = m1Begins ++ (Told.no 40 5 ∷ stays);
 }
 
@@ -95,14 +96,14 @@ M3 = record {
 -- "Now 539: no,30,0."
 abbrev pub M4 : Session
 M4 = record {
-  requests = m1With second (booking "book,539,5,540,600,3,15" "hold,3" "tr,0000000000000002");
+  requests = m1With second (booking "book,539,5,540,600,0,0,3,15" "hold,3" "tr,0000000000000002");
   replies = m1Begins ++ (Told.no 30 0 ∷ stays);
 }
 
 -- "Goal 540..540: ok,4."
 abbrev pub M5 : Session
 M5 = record {
-  requests = m1With second (booking "book,540,5,540,540,3,15" "hold,3" "tr,0000000000000002");
+  requests = m1With second (booking "book,540,5,540,540,0,0,3,15" "hold,3" "tr,0000000000000002");
   replies = m1Begins ++ booked;
 }
 
@@ -123,7 +124,7 @@ M7 = record {
 -- "After M1's words `t,5,5` `l,3,8`: ok,8 ok,9; `issue,r,9,0,9`: no,21,0."
 abbrev pub M8 : Session
 M8 = record {
-  requests = words ++ each ("word,t,5,5" ∷ "word,l,3,8" ∷ "issue,r,9,0,9" ∷ []);
+  requests = words ++ each ("word,t,5,5" ∷ "word,l,3,8" ∷ "issue,r,9,0,9,0,0" ∷ []);
   replies = oks (0 ∷ 1 ∷ 2 ∷ 3 ∷ 4 ∷ 5 ∷ 6 ∷ 7 ∷ 8 ∷ 9 ∷ []) ++ (Told.no 21 0 ∷ []);
 }
 
@@ -152,8 +153,9 @@ counting (suc n) k = k ∷ counting n (suc k)
 abbrev pub M10 : Session
 M10 = record {
   requests =
-      words ++ each ("issue,r,2,0,9" ∷ times 511 "issue,s,2,0,9")
-      ++ (("book,0,2,0,9,1,1" ∷ "hold,2" ∷ "ax,0" ∷ []) ∷ ("book,0,2,0,9,1,2" ∷ "hold,1" ∷ "cp,0" ∷ "ax,1" ∷ []) ∷ []);
+      words ++ each ("issue,r,2,0,9,0,0" ∷ times 511 "issue,s,2,0,9,0,0")
+      ++ (("book,0,2,0,9,0,0,1,1" ∷ "hold,2" ∷ "ax,0" ∷ []) ∷
+      ("book,0,2,0,9,0,0,1,2" ∷ "hold,1" ∷ "cp,0" ∷ "ax,1" ∷ []) ∷ []);
   replies =
       oks (0 ∷ 1 ∷ 2 ∷ 3 ∷ 4 ∷ 5 ∷ 6 ∷ 7 ∷ counting 513 1) ++ (Told.no 22 0 ∷ []);
 }

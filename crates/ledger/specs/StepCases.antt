@@ -13,21 +13,21 @@ offers line =
     ("word,a,9,7\n" ⇒ accepted 0) ∷
     ("word,a,8,7\n" ⇒ accepted 1) ∷
     (line ⇒ accepted 2) ∷
-    ("issue,r,2,0,9\n" ⇒ accepted 1) ∷
-    ("issue,s,0,0,9\n" ⇒ accepted 2) ∷
-    ("issue,s,1,0,9\n" ⇒ accepted 3) ∷ []
+    ("issue,r,2,0,9,0,0\n" ⇒ accepted 1) ∷
+    ("issue,s,0,0,9,0,0\n" ⇒ accepted 2) ∷
+    ("issue,s,1,0,9,0,0\n" ⇒ accepted 3) ∷ []
 
 -- "L in R; a new single label of the same wording and window": a linear label is not copied, and an unrestricted one is
 -- not used itself. An unrestricted credential stays.
 abbrev pub copies : List Turn
 copies =
     ("word,a,9,7\n" ⇒ accepted 0) ∷
-    ("issue,r,0,3,4\n" ⇒ accepted 1) ∷
-    ("issue,s,0,0,9\n" ⇒ accepted 2) ∷
-    (("book,5,0,0,9,1,2" ∷ "hold,1" ∷ "cp,0" ∷ "ax,1" ∷ []) ⇛ Told.no 40 2) ∷
-    (("book,5,0,0,9,1,2" ∷ "hold,2" ∷ "cp,0" ∷ "ax,1" ∷ []) ⇛ Told.no 40 1) ∷
-    (("book,3,0,3,4,1,1" ∷ "hold,1" ∷ "ax,0" ∷ []) ⇛ Told.no 40 1) ∷
-    (("book,3,0,3,4,1,2" ∷ "hold,1" ∷ "cp,0" ∷ "ax,1" ∷ []) ⇛ accepted 3) ∷
+    ("issue,r,0,3,4,0,0\n" ⇒ accepted 1) ∷
+    ("issue,s,0,0,9,0,0\n" ⇒ accepted 2) ∷
+    (("book,5,0,0,9,0,0,1,2" ∷ "hold,1" ∷ "cp,0" ∷ "ax,1" ∷ []) ⇛ Told.no 40 2) ∷
+    (("book,5,0,0,9,0,0,1,2" ∷ "hold,2" ∷ "cp,0" ∷ "ax,1" ∷ []) ⇛ Told.no 40 1) ∷
+    (("book,3,0,3,4,0,0,1,1" ∷ "hold,1" ∷ "ax,0" ∷ []) ⇛ Told.no 40 1) ∷
+    (("book,3,0,3,4,0,0,1,2" ∷ "hold,1" ∷ "cp,0" ∷ "ax,1" ∷ []) ⇛ accepted 3) ∷
     ("withdraw,1\n" ⇒ accepted 1) ∷ []
 
 -- "left from the share, right from the rest of D"; "`tl` takes the left part's first"; "L is in D save at `cp`".
@@ -35,12 +35,14 @@ abbrev pub tensors : List Turn
 tensors =
     offers "word,t,0,1\n" ++
     ("word,t,1,0\n" ⇒ accepted 3) ∷
-    (("book,5,2,0,9,1,4" ∷ "hold,1" ∷ "tl,0" ∷ "tr,0000000000000002" ∷ "ax,1" ∷ "ax,2" ∷ []) ⇛ Told.no 40 1) ∷
-    (("book,5,3,0,9,1,5" ∷ "hold,1" ∷ "cp,0" ∷ "tl,1" ∷ "tr,0000000000000004" ∷ "ax,2" ∷ "ax,3" ∷ []) ⇛ Told.no 40 4) ∷
-    (("book,5,3,0,9,1,5" ∷ "hold,1" ∷ "cp,0" ∷ "tl,1" ∷ "tr,0000000000000008" ∷ "ax,3" ∷ "ax,2" ∷ []) ⇛ accepted 4) ∷
-    (("book,5,2,0,9,2,3" ∷ "hold,2" ∷ "hold,3" ∷ "tr,0000000000000004" ∷ "ax,0" ∷ "ax,1" ∷ []) ⇛ Told.no 40 1) ∷
-    (("book,5,2,0,9,2,3" ∷ "hold,2" ∷ "hold,3" ∷ "tr,0000000000000002" ∷ "ax,0" ∷ "ax,1" ∷ []) ⇛ Told.no 40 2) ∷
-    (("book,5,2,0,9,2,3" ∷ "hold,2" ∷ "hold,3" ∷ "tr,0000000000000001" ∷ "ax,0" ∷ "ax,1" ∷ []) ⇛ accepted 5) ∷ []
+    (("book,5,2,0,9,0,0,1,4" ∷ "hold,1" ∷ "tl,0" ∷ "tr,0000000000000002" ∷ "ax,1" ∷ "ax,2" ∷ []) ⇛ Told.no 40 1) ∷
+    (("book,5,3,0,9,0,0,1,5" ∷ "hold,1" ∷ "cp,0" ∷ "tl,1" ∷ "tr,0000000000000004" ∷ "ax,2" ∷ "ax,3"
+    ∷ []) ⇛ Told.no 40 4) ∷
+    (("book,5,3,0,9,0,0,1,5" ∷ "hold,1" ∷ "cp,0" ∷ "tl,1" ∷ "tr,0000000000000008" ∷ "ax,3" ∷ "ax,2"
+    ∷ []) ⇛ accepted 4) ∷
+    (("book,5,2,0,9,0,0,2,3" ∷ "hold,2" ∷ "hold,3" ∷ "tr,0000000000000004" ∷ "ax,0" ∷ "ax,1" ∷ []) ⇛ Told.no 40 1) ∷
+    (("book,5,2,0,9,0,0,2,3" ∷ "hold,2" ∷ "hold,3" ∷ "tr,0000000000000002" ∷ "ax,0" ∷ "ax,1" ∷ []) ⇛ Told.no 40 2) ∷
+    (("book,5,2,0,9,0,0,2,3" ∷ "hold,2" ∷ "hold,3" ∷ "tr,0000000000000001" ∷ "ax,0" ∷ "ax,1" ∷ []) ⇛ accepted 5) ∷ []
 
 -- `or`: "1, D empty; closes." `ol`: "drops L, a 1."
 abbrev pub ones : List Turn
@@ -48,13 +50,13 @@ ones =
     offers "word,o\n" ++
     ("word,u,2,0\n" ⇒ accepted 3) ∷
     ("word,l,2,1\n" ⇒ accepted 4) ∷
-    ("issue,r,3,0,9\n" ⇒ accepted 4) ∷
-    ("issue,r,4,0,9\n" ⇒ accepted 5) ∷
-    (("book,5,0,0,9,2,2" ∷ "hold,1" ∷ "hold,2" ∷ "cp,0" ∷ "ax,1" ∷ []) ⇛ Told.no 40 2) ∷
-    (("book,5,0,0,9,2,2" ∷ "hold,2" ∷ "hold,3" ∷ "ol,0" ∷ "ax,1" ∷ []) ⇛ Told.no 40 1) ∷
-    (("book,5,0,0,9,2,3" ∷ "hold,1" ∷ "hold,2" ∷ "cp,0" ∷ "ol,2" ∷ "ax,1" ∷ []) ⇛ accepted 6) ∷
-    (("book,5,0,0,9,1,4" ∷ "hold,4" ∷ "cp,0" ∷ "ul,1,0,9" ∷ "or" ∷ "ax,2" ∷ []) ⇛ accepted 7) ∷
-    (("book,5,1,0,9,2,4" ∷ "hold,5" ∷ "hold,3" ∷ "cp,0" ∷ "ll,2,0000000000000002,0,9" ∷ "or" ∷ "ax,3"
+    ("issue,r,3,0,9,0,0\n" ⇒ accepted 4) ∷
+    ("issue,r,4,0,9,0,0\n" ⇒ accepted 5) ∷
+    (("book,5,0,0,9,0,0,2,2" ∷ "hold,1" ∷ "hold,2" ∷ "cp,0" ∷ "ax,1" ∷ []) ⇛ Told.no 40 2) ∷
+    (("book,5,0,0,9,0,0,2,2" ∷ "hold,2" ∷ "hold,3" ∷ "ol,0" ∷ "ax,1" ∷ []) ⇛ Told.no 40 1) ∷
+    (("book,5,0,0,9,0,0,2,3" ∷ "hold,1" ∷ "hold,2" ∷ "cp,0" ∷ "ol,2" ∷ "ax,1" ∷ []) ⇛ accepted 6) ∷
+    (("book,5,0,0,9,0,0,1,4" ∷ "hold,4" ∷ "cp,0" ∷ "ul,1,0,9,0,0" ∷ "or" ∷ "ax,2" ∷ []) ⇛ accepted 7) ∷
+    (("book,5,1,0,9,0,0,2,4" ∷ "hold,5" ∷ "hold,3" ∷ "cp,0" ∷ "ll,2,0000000000000002,0,9,0,0" ∷ "or" ∷ "ax,3"
     ∷ []) ⇛ Told.no 40 3) ∷ []
 
 -- `wr`: "both arms, each from all of D." `w1`, `w2`: "that arm."
@@ -62,12 +64,12 @@ abbrev pub withs : List Turn
 withs =
     offers "word,w,0,1\n" ++
     ("word,l,2,0\n" ⇒ accepted 3) ∷
-    ("issue,r,3,0,9\n" ⇒ accepted 4) ∷
-    (("book,5,0,0,9,1,3" ∷ "hold,1" ∷ "cp,0" ∷ "w2,1" ∷ "ax,2" ∷ []) ⇛ Told.no 40 3) ∷
-    (("book,5,0,0,9,1,3" ∷ "hold,1" ∷ "cp,0" ∷ "w1,1" ∷ "ax,2" ∷ []) ⇛ accepted 5) ∷
-    (("book,5,1,0,9,1,3" ∷ "hold,1" ∷ "cp,0" ∷ "w1,1" ∷ "ax,2" ∷ []) ⇛ Told.no 40 3) ∷
-    (("book,5,1,0,9,1,3" ∷ "hold,1" ∷ "cp,0" ∷ "w2,1" ∷ "ax,2" ∷ []) ⇛ accepted 6) ∷
-    (("book,5,0,0,9,2,9" ∷ "hold,1" ∷ "hold,4" ∷ "cp,0" ∷ "cp,1" ∷ "ll,3,0000000000000004,0,9" ∷ "wr" ∷ "w1,2"
+    ("issue,r,3,0,9,0,0\n" ⇒ accepted 4) ∷
+    (("book,5,0,0,9,0,0,1,3" ∷ "hold,1" ∷ "cp,0" ∷ "w2,1" ∷ "ax,2" ∷ []) ⇛ Told.no 40 3) ∷
+    (("book,5,0,0,9,0,0,1,3" ∷ "hold,1" ∷ "cp,0" ∷ "w1,1" ∷ "ax,2" ∷ []) ⇛ accepted 5) ∷
+    (("book,5,1,0,9,0,0,1,3" ∷ "hold,1" ∷ "cp,0" ∷ "w1,1" ∷ "ax,2" ∷ []) ⇛ Told.no 40 3) ∷
+    (("book,5,1,0,9,0,0,1,3" ∷ "hold,1" ∷ "cp,0" ∷ "w2,1" ∷ "ax,2" ∷ []) ⇛ accepted 6) ∷
+    (("book,5,0,0,9,0,0,2,9" ∷ "hold,1" ∷ "hold,4" ∷ "cp,0" ∷ "cp,1" ∷ "ll,3,0000000000000004,0,9,0,0" ∷ "wr" ∷ "w1,2"
     ∷ "ax,4" ∷ "w2,2" ∷ "ax,5" ∷ "ax,6" ∷ []) ⇛ accepted 7) ∷ []
 
 -- "both arms, each from all of D"; "which must not have L".
@@ -76,11 +78,11 @@ arms =
     ("word,a,9,7\n" ⇒ accepted 0) ∷
     ("word,w,0,0\n" ⇒ accepted 1) ∷
     ("word,l,1,0\n" ⇒ accepted 2) ∷
-    ("issue,r,2,0,9\n" ⇒ accepted 1) ∷
-    ("issue,s,0,0,9\n" ⇒ accepted 2) ∷
-    (("book,5,0,0,9,2,6" ∷ "hold,1" ∷ "hold,2" ∷ "cp,0" ∷ "ll,2,0000000000000006,0,9" ∷ "wr" ∷ "ax,1" ∷ "ax,1"
+    ("issue,r,2,0,9,0,0\n" ⇒ accepted 1) ∷
+    ("issue,s,0,0,9,0,0\n" ⇒ accepted 2) ∷
+    (("book,5,0,0,9,0,0,2,6" ∷ "hold,1" ∷ "hold,2" ∷ "cp,0" ∷ "ll,2,0000000000000006,0,9,0,0" ∷ "wr" ∷ "ax,1" ∷ "ax,1"
     ∷ "ax,3" ∷ []) ⇛ Told.no 40 2) ∷
-    (("book,5,0,0,9,2,6" ∷ "hold,1" ∷ "hold,2" ∷ "cp,0" ∷ "ll,2,0000000000000002,0,9" ∷ "wr" ∷ "ax,1" ∷ "ax,1"
+    (("book,5,0,0,9,0,0,2,6" ∷ "hold,1" ∷ "hold,2" ∷ "cp,0" ∷ "ll,2,0000000000000002,0,9,0,0" ∷ "wr" ∷ "ax,1" ∷ "ax,1"
     ∷ "ax,3" ∷ []) ⇛ accepted 3) ∷ []
 
 -- `p1`, `p2`: "that arm." `pl`: "a premise for each arm", the left one first.
@@ -89,17 +91,17 @@ pluses =
     offers "word,p,0,1\n" ++
     ("word,l,1,0\n" ⇒ accepted 3) ∷
     ("word,l,2,1\n" ⇒ accepted 4) ∷
-    ("issue,r,3,0,9\n" ⇒ accepted 4) ∷
-    ("issue,r,4,0,9\n" ⇒ accepted 5) ∷
-    (("book,5,0,0,9,2,7" ∷ "hold,1" ∷ "hold,4" ∷ "cp,0" ∷ "pl,2" ∷ "ax,3" ∷ "cp,1" ∷ "ll,5,0000000000000010,0,9"
+    ("issue,r,3,0,9,0,0\n" ⇒ accepted 4) ∷
+    ("issue,r,4,0,9,0,0\n" ⇒ accepted 5) ∷
+    (("book,5,0,0,9,0,0,2,7" ∷ "hold,1" ∷ "hold,4" ∷ "cp,0" ∷ "pl,2" ∷ "ax,3" ∷ "cp,1" ∷ "ll,5,0000000000000010,0,9,0,0"
     ∷ "ax,4" ∷ "ax,6" ∷ []) ⇛ accepted 6) ∷
-    (("book,5,1,0,9,2,5" ∷ "hold,5" ∷ "hold,2" ∷ "cp,0" ∷ "ll,2,0000000000000002,0,9" ∷ "p2" ∷ "ax,1" ∷ "ax,3"
+    (("book,5,1,0,9,0,0,2,5" ∷ "hold,5" ∷ "hold,2" ∷ "cp,0" ∷ "ll,2,0000000000000002,0,9,0,0" ∷ "p2" ∷ "ax,1" ∷ "ax,3"
     ∷ []) ⇛ Told.no 40 4) ∷
-    (("book,5,1,0,9,2,5" ∷ "hold,5" ∷ "hold,2" ∷ "cp,0" ∷ "ll,2,0000000000000002,0,9" ∷ "p1" ∷ "ax,1" ∷ "ax,3"
+    (("book,5,1,0,9,0,0,2,5" ∷ "hold,5" ∷ "hold,2" ∷ "cp,0" ∷ "ll,2,0000000000000002,0,9,0,0" ∷ "p1" ∷ "ax,1" ∷ "ax,3"
     ∷ []) ⇛ accepted 7) ∷
-    (("book,5,1,0,9,2,5" ∷ "hold,5" ∷ "hold,3" ∷ "cp,0" ∷ "ll,2,0000000000000002,0,9" ∷ "p1" ∷ "ax,1" ∷ "ax,3"
+    (("book,5,1,0,9,0,0,2,5" ∷ "hold,5" ∷ "hold,3" ∷ "cp,0" ∷ "ll,2,0000000000000002,0,9,0,0" ∷ "p1" ∷ "ax,1" ∷ "ax,3"
     ∷ []) ⇛ Told.no 40 4) ∷
-    (("book,5,1,0,9,2,5" ∷ "hold,5" ∷ "hold,3" ∷ "cp,0" ∷ "ll,2,0000000000000002,0,9" ∷ "p2" ∷ "ax,1" ∷ "ax,3"
+    (("book,5,1,0,9,0,0,2,5" ∷ "hold,5" ∷ "hold,3" ∷ "cp,0" ∷ "ll,2,0000000000000002,0,9,0,0" ∷ "p2" ∷ "ax,1" ∷ "ax,3"
     ∷ []) ⇛ accepted 8) ∷ []
 
 -- "L's window ⊇ J = from..to; A at J from the share .. then the goal from the rest with B at J for L": neither is at
@@ -107,14 +109,14 @@ pluses =
 abbrev pub lollies : List Turn
 lollies =
     offers "word,l,0,1\n" ++
-    ("issue,s,0,3,4\n" ⇒ accepted 4) ∷
-    (("book,5,1,0,9,2,4" ∷ "hold,1" ∷ "hold,2" ∷ "cp,0" ∷ "ll,2,0000000000000002,5,10" ∷ "ax,1" ∷ "ax,3"
+    ("issue,s,0,3,4,0,0\n" ⇒ accepted 4) ∷
+    (("book,5,1,0,9,0,0,2,4" ∷ "hold,1" ∷ "hold,2" ∷ "cp,0" ∷ "ll,2,0000000000000002,5,10,0,0" ∷ "ax,1" ∷ "ax,3"
     ∷ []) ⇛ Told.no 40 2) ∷
-    (("book,5,1,0,9,2,4" ∷ "hold,1" ∷ "hold,2" ∷ "cp,0" ∷ "ll,2,0000000000000002,3,4" ∷ "ax,1" ∷ "ax,3"
+    (("book,5,1,0,9,0,0,2,4" ∷ "hold,1" ∷ "hold,2" ∷ "cp,0" ∷ "ll,2,0000000000000002,3,4,0,0" ∷ "ax,1" ∷ "ax,3"
     ∷ []) ⇛ Told.no 40 4) ∷
-    (("book,3,1,3,4,2,4" ∷ "hold,1" ∷ "hold,4" ∷ "cp,0" ∷ "ll,2,0000000000000002,0,9" ∷ "ax,1" ∷ "ax,3"
+    (("book,3,1,3,4,0,0,2,4" ∷ "hold,1" ∷ "hold,4" ∷ "cp,0" ∷ "ll,2,0000000000000002,0,9,0,0" ∷ "ax,1" ∷ "ax,3"
     ∷ []) ⇛ Told.no 40 3) ∷
-    (("book,3,1,3,4,2,4" ∷ "hold,1" ∷ "hold,4" ∷ "cp,0" ∷ "ll,2,0000000000000002,3,4" ∷ "ax,1" ∷ "ax,3"
+    (("book,3,1,3,4,0,0,2,4" ∷ "hold,1" ∷ "hold,4" ∷ "cp,0" ∷ "ll,2,0000000000000002,3,4,0,0" ∷ "ax,1" ∷ "ax,3"
     ∷ []) ⇛ accepted 5) ∷ []
 
 -- "A ⊃ B; the same, but A from an empty D": the linear atom cannot prove the left of ⊃, an unrestricted one can. A
@@ -122,14 +124,17 @@ lollies =
 abbrev pub arrows : List Turn
 arrows =
     offers "word,u,0,1\n" ++
-    ("issue,r,0,0,9\n" ⇒ accepted 4) ∷
-    ("issue,r,0,3,4\n" ⇒ accepted 5) ∷
-    (("book,5,1,0,9,2,4" ∷ "hold,1" ∷ "hold,2" ∷ "cp,0" ∷ "ul,2,0,9" ∷ "ax,1" ∷ "ax,3" ∷ []) ⇛ Told.no 40 3) ∷
-    (("book,5,1,0,9,2,5" ∷ "hold,1" ∷ "hold,4" ∷ "cp,0" ∷ "ul,2,5,10" ∷ "cp,1" ∷ "ax,3" ∷ "ax,4" ∷ []) ⇛ Told.no 40 2) ∷
-    (("book,5,1,0,9,2,5" ∷ "hold,1" ∷ "hold,4" ∷ "cp,0" ∷ "ul,2,3,4" ∷ "cp,1" ∷ "ax,3" ∷ "ax,4" ∷ []) ⇛ Told.no 40 5) ∷
-    (("book,5,1,0,9,2,5" ∷ "hold,1" ∷ "hold,4" ∷ "cp,0" ∷ "ul,2,0,9" ∷ "cp,1" ∷ "ax,3" ∷ "ax,4" ∷ []) ⇛ accepted 6) ∷
-    (("book,3,1,3,4,2,5" ∷ "hold,1" ∷ "hold,5" ∷ "cp,0" ∷ "ul,2,3,4" ∷ "cp,1" ∷ "ax,3" ∷ "ax,4" ∷ []) ⇛ accepted 7)
-    ∷ []
+    ("issue,r,0,0,9,0,0\n" ⇒ accepted 4) ∷
+    ("issue,r,0,3,4,0,0\n" ⇒ accepted 5) ∷
+    (("book,5,1,0,9,0,0,2,4" ∷ "hold,1" ∷ "hold,2" ∷ "cp,0" ∷ "ul,2,0,9,0,0" ∷ "ax,1" ∷ "ax,3" ∷ []) ⇛ Told.no 40 3) ∷
+    (("book,5,1,0,9,0,0,2,5" ∷ "hold,1" ∷ "hold,4" ∷ "cp,0" ∷ "ul,2,5,10,0,0" ∷ "cp,1" ∷ "ax,3" ∷ "ax,4"
+    ∷ []) ⇛ Told.no 40 2) ∷
+    (("book,5,1,0,9,0,0,2,5" ∷ "hold,1" ∷ "hold,4" ∷ "cp,0" ∷ "ul,2,3,4,0,0" ∷ "cp,1" ∷ "ax,3" ∷ "ax,4"
+    ∷ []) ⇛ Told.no 40 5) ∷
+    (("book,5,1,0,9,0,0,2,5" ∷ "hold,1" ∷ "hold,4" ∷ "cp,0" ∷ "ul,2,0,9,0,0" ∷ "cp,1" ∷ "ax,3" ∷ "ax,4"
+    ∷ []) ⇛ accepted 6) ∷
+    (("book,3,1,3,4,0,0,2,5" ∷ "hold,1" ∷ "hold,5" ∷ "cp,0" ∷ "ul,2,3,4,0,0" ∷ "cp,1" ∷ "ax,3" ∷ "ax,4"
+    ∷ []) ⇛ accepted 7) ∷ []
 
 -- `br`: "!, D empty, then the part." `bl`: "the part joins R", for its own premise: the second premise of a step before
 -- it has R as it was.
@@ -138,15 +143,15 @@ bangs =
     offers "word,b,1\n" ++
     ("word,t,1,1\n" ⇒ accepted 3) ∷
     ("word,l,2,0\n" ⇒ accepted 4) ∷
-    ("issue,r,4,0,9\n" ⇒ accepted 4) ∷
-    ("issue,r,1,0,9\n" ⇒ accepted 5) ∷
-    (("book,5,3,0,9,1,7" ∷ "hold,1" ∷ "cp,0" ∷ "tr,0000000000000002" ∷ "bl,1" ∷ "cp,2" ∷ "ax,3" ∷ "cp,2" ∷ "ax,4"
+    ("issue,r,4,0,9,0,0\n" ⇒ accepted 4) ∷
+    ("issue,r,1,0,9,0,0\n" ⇒ accepted 5) ∷
+    (("book,5,3,0,9,0,0,1,7" ∷ "hold,1" ∷ "cp,0" ∷ "tr,0000000000000002" ∷ "bl,1" ∷ "cp,2" ∷ "ax,3" ∷ "cp,2" ∷ "ax,4"
     ∷ []) ⇛ Told.no 40 6) ∷
-    (("book,5,3,0,9,1,7" ∷ "hold,1" ∷ "cp,0" ∷ "bl,1" ∷ "tr,0000000000000000" ∷ "cp,2" ∷ "ax,3" ∷ "cp,2" ∷ "ax,4"
+    (("book,5,3,0,9,0,0,1,7" ∷ "hold,1" ∷ "cp,0" ∷ "bl,1" ∷ "tr,0000000000000000" ∷ "cp,2" ∷ "ax,3" ∷ "cp,2" ∷ "ax,4"
     ∷ []) ⇛ accepted 6) ∷
-    (("book,5,0,0,9,2,5" ∷ "hold,4" ∷ "hold,3" ∷ "cp,0" ∷ "ll,2,0000000000000002,0,9" ∷ "br" ∷ "ax,1" ∷ "ax,3"
+    (("book,5,0,0,9,0,0,2,5" ∷ "hold,4" ∷ "hold,3" ∷ "cp,0" ∷ "ll,2,0000000000000002,0,9,0,0" ∷ "br" ∷ "ax,1" ∷ "ax,3"
     ∷ []) ⇛ Told.no 40 3) ∷
-    (("book,5,0,0,9,2,6" ∷ "hold,4" ∷ "hold,5" ∷ "cp,0" ∷ "ll,2,0000000000000000,0,9" ∷ "br" ∷ "cp,1" ∷ "ax,3"
+    (("book,5,0,0,9,0,0,2,6" ∷ "hold,4" ∷ "hold,5" ∷ "cp,0" ∷ "ll,2,0000000000000000,0,9,0,0" ∷ "br" ∷ "cp,1" ∷ "ax,3"
     ∷ "ax,4" ∷ []) ⇛ accepted 7) ∷ []
 
 -- `hr`: "A@J becomes A at J", not at I. `hl`: "likewise for L."
@@ -154,14 +159,14 @@ abbrev pub moments : List Turn
 moments =
     ("word,a,9,7\n" ⇒ accepted 0) ∷
     ("word,a,8,7\n" ⇒ accepted 1) ∷
-    ("word,h,1,0,9\n" ⇒ accepted 2) ∷
-    ("word,h,0,3,4\n" ⇒ accepted 3) ∷
+    ("word,h,1,0,9,0,0\n" ⇒ accepted 2) ∷
+    ("word,h,0,3,4,0,0\n" ⇒ accepted 3) ∷
     ("word,l,3,1\n" ⇒ accepted 4) ∷
-    ("issue,r,2,3,4\n" ⇒ accepted 1) ∷
-    ("issue,r,4,0,9\n" ⇒ accepted 2) ∷
-    ("issue,s,0,3,4\n" ⇒ accepted 3) ∷
-    (("book,5,1,0,9,1,3" ∷ "hold,1" ∷ "cp,0" ∷ "hl,1" ∷ "ax,2" ∷ []) ⇛ accepted 4) ∷
-    (("book,5,1,0,9,2,5" ∷ "hold,2" ∷ "hold,3" ∷ "cp,0" ∷ "ll,2,0000000000000002,0,9" ∷ "hr" ∷ "ax,1" ∷ "ax,3"
+    ("issue,r,2,3,4,0,0\n" ⇒ accepted 1) ∷
+    ("issue,r,4,0,9,0,0\n" ⇒ accepted 2) ∷
+    ("issue,s,0,3,4,0,0\n" ⇒ accepted 3) ∷
+    (("book,5,1,0,9,0,0,1,3" ∷ "hold,1" ∷ "cp,0" ∷ "hl,1" ∷ "ax,2" ∷ []) ⇛ accepted 4) ∷
+    (("book,5,1,0,9,0,0,2,5" ∷ "hold,2" ∷ "hold,3" ∷ "cp,0" ∷ "ll,2,0000000000000002,0,9,0,0" ∷ "hr" ∷ "ax,1" ∷ "ax,3"
     ∷ []) ⇛ accepted 5) ∷ []
 
 -- "K, I and windows stay unless named": the part that `sl` leaves is at L's window, not at the goal's. "The right steps
@@ -170,40 +175,40 @@ abbrev pub affirmations : List Turn
 affirmations =
     ("word,a,9,7\n" ⇒ accepted 0) ∷
     ("word,s,1,0\n" ⇒ accepted 1) ∷
-    ("word,h,0,0,9\n" ⇒ accepted 2) ∷
+    ("word,h,0,0,9,0,0\n" ⇒ accepted 2) ∷
     ("word,s,1,2\n" ⇒ accepted 3) ∷
     ("word,a,8,7\n" ⇒ accepted 4) ∷
     ("word,l,3,4\n" ⇒ accepted 5) ∷
-    ("issue,r,5,0,9\n" ⇒ accepted 1) ∷
-    ("issue,s,1,0,9\n" ⇒ accepted 2) ∷
-    ("issue,s,0,0,9\n" ⇒ accepted 3) ∷
-    (("book,3,4,3,4,2,8" ∷ "hold,1" ∷ "hold,2" ∷ "cp,0" ∷ "ll,2,0000000000000002,3,4" ∷ "sr" ∷ "sl,1" ∷ "af" ∷ "hr"
-    ∷ "ax,3" ∷ "ax,4" ∷ []) ⇛ accepted 4) ∷
-    (("book,5,0,0,9,1,2" ∷ "hold,3" ∷ "af" ∷ "ax,0" ∷ []) ⇛ Told.no 40 1) ∷
-    (("book,5,1,0,9,1,2" ∷ "hold,3" ∷ "sr" ∷ "ax,0" ∷ []) ⇛ Told.no 40 2) ∷
-    (("book,5,1,0,9,1,3" ∷ "hold,3" ∷ "sr" ∷ "af" ∷ "ax,0" ∷ []) ⇛ accepted 5) ∷
-    (("book,5,0,0,9,1,2" ∷ "hold,5" ∷ "sl,0" ∷ "ax,1" ∷ []) ⇛ Told.no 40 1) ∷ []
+    ("issue,r,5,0,9,0,0\n" ⇒ accepted 1) ∷
+    ("issue,s,1,0,9,0,0\n" ⇒ accepted 2) ∷
+    ("issue,s,0,0,9,0,0\n" ⇒ accepted 3) ∷
+    (("book,3,4,3,4,0,0,2,8" ∷ "hold,1" ∷ "hold,2" ∷ "cp,0" ∷ "ll,2,0000000000000002,3,4,0,0" ∷ "sr" ∷ "sl,1" ∷ "af"
+    ∷ "hr" ∷ "ax,3" ∷ "ax,4" ∷ []) ⇛ accepted 4) ∷
+    (("book,5,0,0,9,0,0,1,2" ∷ "hold,3" ∷ "af" ∷ "ax,0" ∷ []) ⇛ Told.no 40 1) ∷
+    (("book,5,1,0,9,0,0,1,2" ∷ "hold,3" ∷ "sr" ∷ "ax,0" ∷ []) ⇛ Told.no 40 2) ∷
+    (("book,5,1,0,9,0,0,1,3" ∷ "hold,3" ∷ "sr" ∷ "af" ∷ "ax,0" ∷ []) ⇛ accepted 5) ∷
+    (("book,5,0,0,9,0,0,1,2" ∷ "hold,5" ∷ "sl,0" ∷ "ax,1" ∷ []) ⇛ Told.no 40 1) ∷ []
 
 -- `gr`: "⊇ that holds, D empty; closes": the first window is the wider, and to overlap is not enough.
 abbrev pub supersets : List Turn
 supersets =
     ("word,a,9,7\n" ⇒ accepted 0) ∷
-    ("word,g,0,9,3,4\n" ⇒ accepted 1) ∷
-    ("word,g,3,4,0,9\n" ⇒ accepted 2) ∷
-    ("word,g,0,5,3,9\n" ⇒ accepted 3) ∷
+    ("word,g,0,9,0,0,3,4,0,0\n" ⇒ accepted 1) ∷
+    ("word,g,3,4,0,0,0,9,0,0\n" ⇒ accepted 2) ∷
+    ("word,g,0,5,0,0,3,9,0,0\n" ⇒ accepted 3) ∷
     ("word,u,1,0\n" ⇒ accepted 4) ∷
     ("word,u,2,0\n" ⇒ accepted 5) ∷
     ("word,u,3,0\n" ⇒ accepted 6) ∷
     ("word,l,1,0\n" ⇒ accepted 7) ∷
-    ("issue,r,4,0,9\n" ⇒ accepted 1) ∷
-    ("issue,r,5,0,9\n" ⇒ accepted 2) ∷
-    ("issue,r,6,0,9\n" ⇒ accepted 3) ∷
-    ("issue,r,7,0,9\n" ⇒ accepted 4) ∷
-    ("issue,s,0,0,9\n" ⇒ accepted 5) ∷
-    (("book,5,0,0,9,1,4" ∷ "hold,1" ∷ "cp,0" ∷ "ul,1,0,9" ∷ "gr" ∷ "ax,2" ∷ []) ⇛ accepted 6) ∷
-    (("book,5,0,0,9,1,4" ∷ "hold,2" ∷ "cp,0" ∷ "ul,1,0,9" ∷ "gr" ∷ "ax,2" ∷ []) ⇛ Told.no 40 3) ∷
-    (("book,5,0,0,9,1,4" ∷ "hold,3" ∷ "cp,0" ∷ "ul,1,0,9" ∷ "gr" ∷ "ax,2" ∷ []) ⇛ Told.no 40 3) ∷
-    (("book,5,0,0,9,2,4" ∷ "hold,4" ∷ "hold,5" ∷ "cp,0" ∷ "ll,2,0000000000000002,0,9" ∷ "gr" ∷ "ax,3"
+    ("issue,r,4,0,9,0,0\n" ⇒ accepted 1) ∷
+    ("issue,r,5,0,9,0,0\n" ⇒ accepted 2) ∷
+    ("issue,r,6,0,9,0,0\n" ⇒ accepted 3) ∷
+    ("issue,r,7,0,9,0,0\n" ⇒ accepted 4) ∷
+    ("issue,s,0,0,9,0,0\n" ⇒ accepted 5) ∷
+    (("book,5,0,0,9,0,0,1,4" ∷ "hold,1" ∷ "cp,0" ∷ "ul,1,0,9,0,0" ∷ "gr" ∷ "ax,2" ∷ []) ⇛ accepted 6) ∷
+    (("book,5,0,0,9,0,0,1,4" ∷ "hold,2" ∷ "cp,0" ∷ "ul,1,0,9,0,0" ∷ "gr" ∷ "ax,2" ∷ []) ⇛ Told.no 40 3) ∷
+    (("book,5,0,0,9,0,0,1,4" ∷ "hold,3" ∷ "cp,0" ∷ "ul,1,0,9,0,0" ∷ "gr" ∷ "ax,2" ∷ []) ⇛ Told.no 40 3) ∷
+    (("book,5,0,0,9,0,0,2,4" ∷ "hold,4" ∷ "hold,5" ∷ "cp,0" ∷ "ll,2,0000000000000002,0,9,0,0" ∷ "gr" ∷ "ax,3"
     ∷ []) ⇛ Told.no 40 3) ∷ []
 
 -- Labels end at 63: one hold and 63 copies fit, the 64th copy is 41 with its own step. `pl` takes a label for each arm
@@ -216,19 +221,22 @@ labels =
     ("word,l,0,1\n" ⇒ accepted 2) ∷
     ("word,o\n" ⇒ accepted 3) ∷
     ("word,l,3,0\n" ⇒ accepted 4) ∷
-    ("issue,r,0,0,9\n" ⇒ accepted 1) ∷
-    ("issue,r,2,0,9\n" ⇒ accepted 2) ∷
-    ("issue,r,4,0,9\n" ⇒ accepted 3) ∷
-    ("issue,s,0,0,9\n" ⇒ accepted 4) ∷
-    (("book,5,0,0,9,1,64" ∷ "hold,1" ∷ times 64 "cp,0") ⇛ Told.no 41 64) ∷
-    (("book,5,0,0,9,1,63" ∷ "hold,1" ∷ times 63 "cp,0") ⇛ Told.no 42 64) ∷
-    (("book,5,0,0,9,1,65" ∷ "hold,3" ∷ times 63 "cp,0" ++ ("ll,1,0000000000000000,0,9" ∷ "or" ∷ [])) ⇛ Told.no 41 64) ∷
-    (("book,5,0,0,9,1,65" ∷ "hold,3" ∷ times 63 "cp,0" ++ ("ll,1,0000000000000000,0,9" ∷ "wr" ∷ [])) ⇛ Told.no 40 65) ∷
-    (("book,5,0,0,9,1,64" ∷ "hold,3" ∷ times 62 "cp,0" ++ ("ll,1,0000000000000000,0,9" ∷ "or" ∷ [])) ⇛ Told.no 42 65) ∷
-    (("book,5,0,0,9,3,5" ∷ "hold,1" ∷ "hold,2" ∷ "hold,4" ∷ "cp,1" ∷ "ll,3,0000000000000004,0,9" ∷ "ax,2" ∷ "pl,4"
-    ∷ "ax,5" ∷ []) ⇛ Told.no 42 6) ∷
-    (("book,5,0,0,9,3,6" ∷ "hold,1" ∷ "hold,2" ∷ "hold,4" ∷ "cp,1" ∷ "ll,3,0000000000000004,0,9" ∷ "ax,2" ∷ "pl,4"
-    ∷ "ax,5" ∷ "ax,6" ∷ []) ⇛ accepted 5) ∷ []
+    ("issue,r,0,0,9,0,0\n" ⇒ accepted 1) ∷
+    ("issue,r,2,0,9,0,0\n" ⇒ accepted 2) ∷
+    ("issue,r,4,0,9,0,0\n" ⇒ accepted 3) ∷
+    ("issue,s,0,0,9,0,0\n" ⇒ accepted 4) ∷
+    (("book,5,0,0,9,0,0,1,64" ∷ "hold,1" ∷ times 64 "cp,0") ⇛ Told.no 41 64) ∷
+    (("book,5,0,0,9,0,0,1,63" ∷ "hold,1" ∷ times 63 "cp,0") ⇛ Told.no 42 64) ∷
+    (("book,5,0,0,9,0,0,1,65" ∷ "hold,3" ∷ times 63 "cp,0" ++ ("ll,1,0000000000000000,0,9,0,0" ∷ "or"
+    ∷ [])) ⇛ Told.no 41 64) ∷
+    (("book,5,0,0,9,0,0,1,65" ∷ "hold,3" ∷ times 63 "cp,0" ++ ("ll,1,0000000000000000,0,9,0,0" ∷ "wr"
+    ∷ [])) ⇛ Told.no 40 65) ∷
+    (("book,5,0,0,9,0,0,1,64" ∷ "hold,3" ∷ times 62 "cp,0" ++ ("ll,1,0000000000000000,0,9,0,0" ∷ "or"
+    ∷ [])) ⇛ Told.no 42 65) ∷
+    (("book,5,0,0,9,0,0,3,5" ∷ "hold,1" ∷ "hold,2" ∷ "hold,4" ∷ "cp,1" ∷ "ll,3,0000000000000004,0,9,0,0" ∷ "ax,2"
+    ∷ "pl,4" ∷ "ax,5" ∷ []) ⇛ Told.no 42 6) ∷
+    (("book,5,0,0,9,0,0,3,6" ∷ "hold,1" ∷ "hold,2" ∷ "hold,4" ∷ "cp,1" ∷ "ll,3,0000000000000004,0,9,0,0" ∷ "ax,2"
+    ∷ "pl,4" ∷ "ax,5" ∷ "ax,6" ∷ []) ⇛ accepted 5) ∷ []
 
 abbrev pub stepCases : List (List Turn)
 stepCases =

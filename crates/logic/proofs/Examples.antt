@@ -1,13 +1,14 @@
 -- The examples, by computation.
 use mathlib.Core.Path.{refl}
-use Rattle.logic.specs.Interval.{contains, has, reversed}
+use Rattle.logic.specs.Interval.{inBreak, has, covers, contains, reversed, broken}
 use Rattle.logic.specs.Formula.{size, count, plain}
 use Rattle.logic.specs.Weight.{weight}
 use Rattle.logic.specs.Counts.{up, even, sessionsOf, allOf, balanced}
 use Rattle.logic.specs.Examples.{twofold, Examples}
 
 pub examples : Examples
-unfolding size twofold weight count balanced allOf sessionsOf even up plain contains has reversed
+unfolding size twofold weight count balanced allOf sessionsOf even up plain inBreak has covers contains reversed
+    broken
 examples = record {
   size-of-twofold = refl;
   size-of-offer = refl;
@@ -29,4 +30,23 @@ examples = record {
   last-minute = refl;
   past-it = refl;
   one-minute = refl;
+  minute-zero = refl;
+  no-break = refl;
+  before-break = refl;
+  break-first = refl;
+  break-last = refl;
+  after-break = refl;
+  before-it = refl;
+  after-it = refl;
+  larger-break = refl;
+  over-break = refl;
+  later-break = refl;
+  earlier-break = refl;
+  strictly-inside = refl;
+  minute-break = refl;
+  touches-first = refl;
+  touches-last = refl;
+  last-before-first = refl;
+  zero-first = refl;
+  zero-last = refl;
 }

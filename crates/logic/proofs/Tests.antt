@@ -1,11 +1,11 @@
 -- A test and what it decides.
-use mathlib.Core.Path.{_≡_, refl, ap}
-use mathlib.Core.Bool.{Bool, true, false, _&&_}
-use Prim.Native.Nat.{ℕ, _≤_}
-use mathlib.Core.Logic.{_↔_}
+use mathlib.Core.Path.{_≡_, refl, ap, sym}
+use mathlib.Core.Bool.{Bool, true, false, _&&_, _||_, not}
+use Prim.Native.Nat.{ℕ, _≤_, _<_}
+use mathlib.Core.Logic.{_↔_, _⊎_, inl, inr}
 use native.Mathlib.Omega.{arith}
-use lib.Dec.{eqb, leb}
-use borrow.Author.Tests.{eqb-true, eq-eqb, leb-true, le-leb}
+use lib.Dec.{eqb, leb, ltb}
+use borrow.Author.Tests.{eqb-true, eq-eqb, leb-true, le-leb, ltb-true, lt-ltb}
 use Rattle.logic.specs.Formula.{bit}
 
 pub no-truth : false ≡ true → ⊥
@@ -28,6 +28,36 @@ and₃-decides p q r =
     let d = and-decides p (and-decides q r) in
     (λ e. let w = d .0 e in (w .0, w .1 .0, w .1 .1), λ h. d .1 (h .0, (h .1, h .2)))
 
+pub or-decides : {x y : Bool} {P Q : Type 0} → Decides x P → Decides y Q → Decides (x || y) (P ⊎ Q)
+or-decides {x = true} p q = (λ e. inl (p .0 refl), λ h. refl)
+or-decides {x = false} {y = y} {P = P} {Q = Q} p q = (λ e. inr (q .0 e), λ h. go h)
+  where
+    go : P ⊎ Q → y ≡ true
+    go (inl a) = absurd (no-truth (p .1 a))
+    go (inr b) = q .1 b
+
+pub not-decides : {x : Bool} {P : Type 0} → Decides x P → Decides (not x) (P → ⊥)
+not-decides {x = true} p = (λ e. absurd (no-truth e), λ h. absurd (h (p .0 refl)))
+not-decides {x = false} p = (λ e. λ a. no-truth (p .1 a), λ h. refl)
+
+pub not-false : {x : Bool} {P : Type 0} → Decides x P → (not x ≡ false) ↔ P
+not-false {x = true} p = (λ e. p .0 refl, λ h. refl)
+not-false {x = false} p = (λ e. absurd (no-truth (sym e)), λ h. absurd (no-truth (p .1 h)))
+
+-- what has a test and cannot fail holds
+pub not-not : {x : Bool} {P : Type 0} → Decides x P → ((P → ⊥) → ⊥) → P
+not-not {x = true} p n = p .0 refl
+not-not {x = false} p n = absurd (n (λ h. no-truth (p .1 h)))
+
+pub decides-so : {x : Bool} {P Q : Type 0} → Decides x P → P ↔ Q → Decides x Q
+decides-so p q = (λ e. q .0 (p .0 e), λ h. p .1 (q .1 h))
+
+-- tests of the same
+pub same-test : {x y : Bool} {P : Type 0} → Decides x P → Decides y P → x ≡ y
+same-test {x = true} p q = sym (q .1 (p .0 refl))
+same-test {x = false} {y = true} p q = p .1 (q .0 refl)
+same-test {x = false} {y = false} p q = refl
+
 pub yea : Decides true (Unit {0})
 yea = (λ e. tt, λ u. refl)
 
@@ -39,3 +69,6 @@ eq-decides m n = (eqb-true m n, eq-eqb m n)
 
 pub le-decides : (m n : ℕ) → Decides (leb m n) (m ≤ n)
 le-decides m n = (leb-true m n, le-leb m n)
+
+pub lt-decides : (m n : ℕ) → Decides (ltb m n) (m < n)
+lt-decides m n = (ltb-true m n, lt-ltb m n)

@@ -4,7 +4,7 @@ use mathlib.Core.List.{List, [], _∷_, _++_, List·Memᴰ}
 use Prim.Native.Nat.{ℕ, _+_}
 use lib.ListN.{length}
 use Rattle.logic.specs.declared.Interval.{Interval}
-use Rattle.logic.specs.Interval.{_⊇_, Ordered}
+use Rattle.logic.specs.Interval.{_⊇_, WellFormed}
 use Rattle.logic.specs.Formula.{Formula, atom, one, tensor, with, plus, lolli, implies, bang, at, says}
 use Rattle.logic.specs.Formula.{superset}
 use Rattle.logic.specs.Multiset.{Perm}
@@ -25,7 +25,8 @@ pub data Judgment : Type 0 where
 
 -- Derives R D g: g from the unrestricted hypotheses R (document 01: standing), used as often as wanted, and the linear
 -- hypotheses D (single-use), each used just once. `same` leaves the order of hypotheses free and is no use of a rule.
--- The interval J that `ll` and `ul` choose is one: "A window from..to needs from ≤ to."
+-- The interval J that `ll` and `ul` choose is one: "A window from..to needs from ≤ to", and its break is 0,0 or
+-- strictly inside.
 pub data Derives : List Hyp → List Hyp → Judgment → Type 0 where
   same : {R S D E : List Hyp} {g : Judgment} → Perm R S → Perm D E → Derives R D g → Derives S E g
   ax : {R : List Hyp} {p s : ℕ} {i j : Interval} → i ⊇ j → Derives R (atom p s ⟦ i ⟧ ∷ []) (holds (atom p s) j)
@@ -47,10 +48,10 @@ pub data Derives : List Hyp → List Hyp → Judgment → Type 0 where
   pl : {R D : List Hyp} {a b : Formula} {i : Interval} {g : Judgment}
       → Derives R (a ⟦ i ⟧ ∷ D) g → Derives R (b ⟦ i ⟧ ∷ D) g → Derives R (plus a b ⟦ i ⟧ ∷ D) g
   ll : {R D E : List Hyp} {a b : Formula} {i j : Interval} {g : Judgment}
-      → Ordered j → i ⊇ j → Derives R D (holds a j) → Derives R (b ⟦ j ⟧ ∷ E) g
+      → WellFormed j → i ⊇ j → Derives R D (holds a j) → Derives R (b ⟦ j ⟧ ∷ E) g
       → Derives R (lolli a b ⟦ i ⟧ ∷ (D ++ E)) g
   ul : {R D : List Hyp} {a b : Formula} {i j : Interval} {g : Judgment}
-      → Ordered j → i ⊇ j → Derives R [] (holds a j) → Derives R (b ⟦ j ⟧ ∷ D) g
+      → WellFormed j → i ⊇ j → Derives R [] (holds a j) → Derives R (b ⟦ j ⟧ ∷ D) g
       → Derives R (implies a b ⟦ i ⟧ ∷ D) g
   br : {R : List Hyp} {a : Formula} {i : Interval} → Derives R [] (holds a i) → Derives R [] (holds (bang a) i)
   bl : {R D : List Hyp} {a : Formula} {i : Interval} {g : Judgment}

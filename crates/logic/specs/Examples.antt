@@ -1,9 +1,9 @@
--- Document 01's sessions, as far as they speak of formulas and intervals.
+-- Document 01's sessions, as far as they speak of formulas and intervals, and what document 02 says of breaks.
 use mathlib.Core.Path.{_≡_}
 use mathlib.Core.Bool.{true, false}
 use Prim.Native.Nat.{ℕ, zero, suc}
 use lib.IntN.{pos, negsuc}
-use Rattle.logic.specs.Interval.{span, contains, has, reversed}
+use Rattle.logic.specs.Interval.{span, contains, has, reversed, broken}
 use Rattle.logic.specs.Formula.{Formula, atom, one, tensor, with, plus, lolli, implies, bang, at, says, size}
 use Rattle.logic.specs.Formula.{seats, places, plain}
 use Rattle.logic.specs.Weight.{weight}
@@ -44,12 +44,35 @@ pub record Examples : Type 0 where
   pub arms-differ : balanced (lolli (with (atom 1 7) one) (atom 1 7)) ≡ false
   pub under-bang : balanced (lolli (bang (atom 1 7)) (atom 1 7)) ≡ false
   pub left-of-implies : balanced (implies (atom 1 7) one) ≡ false
-  pub arms-alike : balanced (lolli (plus seat7 place7) (at place7 (span 0 9))) ≡ true
+  pub arms-alike : balanced (lolli (plus seat7 place7) (at place7 (span 0 9 0 0))) ≡ true
   pub plain-seat : plain (tensor seat7 free7) ≡ true
   pub offer-not-plain : plain offer ≡ false
   -- ⊇ is containment, overlap is not; both ends are in an interval
-  pub overlap : contains (span 0 599) (span 540 600) ≡ false
-  pub same-interval : contains (span 540 600) (span 540 600) ≡ true
-  pub last-minute : has (span 540 600) 600 ≡ true
-  pub past-it : has (span 540 600) 601 ≡ false
-  pub one-minute : reversed (span 540 540) ≡ false
+  pub overlap : contains (span 0 599 0 0) (span 540 600 0 0) ≡ false
+  pub same-interval : contains (span 540 600 0 0) (span 540 600 0 0) ≡ true
+  pub last-minute : has (span 540 600 0 0) 600 ≡ true
+  pub past-it : has (span 540 600 0 0) 601 ≡ false
+  pub one-minute : reversed (span 540 540 0 0) ≡ false
+  -- 0,0 is no break: minute 0 is in
+  pub minute-zero : has (span 0 9 0 0) 0 ≡ true
+  pub no-break : broken (span 0 9 0 0) ≡ false
+  -- 0..99 with the break 40..59: neither end of the break is in it, the minutes beside it are
+  pub before-break : has (span 0 99 40 59) 39 ≡ true
+  pub break-first : has (span 0 99 40 59) 40 ≡ false
+  pub break-last : has (span 0 99 40 59) 59 ≡ false
+  pub after-break : has (span 0 99 40 59) 60 ≡ true
+  -- it has all of an interval on one side of its break, or with a larger break, and not one that goes over it
+  pub before-it : contains (span 0 99 40 59) (span 0 39 0 0) ≡ true
+  pub after-it : contains (span 0 99 40 59) (span 60 99 0 0) ≡ true
+  pub larger-break : contains (span 0 99 40 59) (span 0 99 30 70) ≡ true
+  pub over-break : contains (span 0 99 40 59) (span 0 99 0 0) ≡ false
+  pub later-break : contains (span 0 99 40 59) (span 0 99 41 60) ≡ false
+  pub earlier-break : contains (span 0 99 40 59) (span 0 99 39 58) ≡ false
+  -- a break is strictly inside, and may be one minute; 0 and a number is none
+  pub strictly-inside : broken (span 0 9 1 8) ≡ false
+  pub minute-break : broken (span 0 2 1 1) ≡ false
+  pub touches-first : broken (span 1 9 1 8) ≡ true
+  pub touches-last : broken (span 0 9 1 9) ≡ true
+  pub last-before-first : broken (span 0 9 5 4) ≡ true
+  pub zero-first : broken (span 0 9 0 5) ≡ true
+  pub zero-last : broken (span 0 9 5 0) ≡ true

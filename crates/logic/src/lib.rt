@@ -1,16 +1,20 @@
 // The logic: the ground part of η-logic that document 01 names. This file has the type that definitions and code share;
 // specs/ has the definitions and what is proved of them, proofs/ the proofs.
 
-// The minutes from `from` to `to`, both included (document 01: a window).
+// The minutes from `from` to `to`, both included (document 01: a window), without those from `first` to `last`
+// (document 02, ask 2: the break); 0, 0 is no break.
 pub struct Interval {
     pub from: u32,
     pub to: u32,
+    pub first: u32,
+    pub last: u32,
 }
 
 // What is proved of the logic. Each function does nothing: its `ensures` is the statement, of specs/Statements.antt and
 // specs/Examples.antt.
 
 ghost use Rattle.logic.specs.Statements.{Conservation, PlainWeighed, BalancedTest, WeightParts};
+ghost use Rattle.logic.specs.Statements.{ContainsTest, FormedTest, SameSet, AsBefore};
 ghost use Rattle.logic.specs.Examples.{Examples};
 
 // A derivation keeps the weight of its linear hypotheses, for every session.
@@ -33,7 +37,23 @@ pub fn weight_in_parts()
     ensures { λ _. ⌜ WeightParts ⌝ }
 {}
 
-// What document 01's sessions say of formulas and intervals.
+// The test for ⊇ decides it, and those of 3 and 43 whether an interval is one.
+pub fn intervals_are_decided()
+    ensures contained { λ _. ⌜ ContainsTest ⌝ }
+    ensures formed { λ _. ⌜ FormedTest ⌝ }
+{}
+
+// Each set of minutes has one spelling.
+pub fn sets_have_one_spelling()
+    ensures { λ _. ⌜ SameSet ⌝ }
+{}
+
+// Without breaks, ⊇ and "has the minute" mean what they meant.
+pub fn without_breaks_as_before()
+    ensures { λ _. ⌜ AsBefore ⌝ }
+{}
+
+// What document 01's sessions say of formulas and intervals, and document 02 of breaks.
 pub fn examples_compute()
     ensures { λ _. ⌜ Examples ⌝ }
 {}

@@ -101,19 +101,36 @@ module _ {A B : Type 0} {r : Reader A} {s : Reader B} {p : ℕ → List ℕ → 
   both-more k h b =
       d .more _ (λ a. rw (e .some-field, andThen)) b ∙ then-same (p 44 b) (λ x. e .more (k (x .0)) (h (x .0)) (x .1))
 
--- an interval's two fields, in a longer line
+-- an interval's four fields, in a longer line
 grouped : {A : Type 0} (k : Interval → Reader A) (ts : List (List ℕ))
-    → (interval >>= k) ts ≡ (number minute >>= (λ i. number minute >>= (λ j. k (span i j)))) ts
+    → (interval >>= k) ts ≡ (number minute >>= (λ i. number minute >>= (λ j.
+    number minute >>= (λ p. number minute >>= (λ q. k (span i j p q)))))) ts
 unfolding interval _>>=_ return
-grouped k ts = then-pair (number minute ts) _ _ _
+grouped k ts =
+    then-then (number minute ts) _ _ ∙ then-same (number minute ts) (λ x.
+    then-then (number minute (x .1)) _ _ ∙ then-same (number minute (x .1)) (λ y.
+    then-pair (number minute (y .1)) _ _ _))
 
 interval-then : {A : Type 0} (stop : ℕ) (b : List ℕ) (k : Interval × List ℕ → Option A)
     → andThen (intervalTo stop b) k ≡ andThen (fieldTo 44 (numberIn minute) b) (λ x.
-    andThen (fieldTo stop (numberIn minute) (x .1)) (λ y. k (span (x .0) (y .0), y .1)))
+    andThen (fieldTo 44 (numberIn minute) (x .1)) (λ y.
+    andThen (fieldTo 44 (numberIn minute) (y .1)) (λ u.
+    andThen (fieldTo stop (numberIn minute) (u .1)) (λ v. k (span (x .0) (y .0) (u .0) (v .0), v .1)))))
 unfolding intervalTo
 interval-then stop b k =
-    then-pair (fieldTo 44 (numberIn minute) b) (λ x. fieldTo stop (numberIn minute) (x .1))
-    (λ x y. (span (x .0) (y .0), y .1)) k
+    then-then (fieldTo 44 (numberIn minute) b) _ _ ∙ then-same (fieldTo 44 (numberIn minute) b) (λ x.
+    then-then (fieldTo 44 (numberIn minute) (x .1)) _ _ ∙ then-same (fieldTo 44 (numberIn minute) (x .1)) (λ y.
+    then-pair (fieldTo 44 (numberIn minute) (y .1)) (λ u. fieldTo stop (numberIn minute) (u .1))
+    (λ u v. (span (x .0) (y .0) (u .0) (v .0), v .1)) k))
+
+-- the first two of the four, whatever the line goes on with
+begins : {A : Type 0} (k : ℕ → ℕ → ℕ → Reader A) (b : List ℕ)
+    → readLine (number minute >>= (λ i. number minute >>= (λ j. number minute >>= (λ p. k i j p)))) b
+    ≡ andThen (fieldTo 44 (numberIn minute) b) (λ x. andThen (fieldTo 44 (numberIn minute) (x .1)) (λ y.
+    readLine (number minute >>= (λ p. k (x .0) (y .0) p)) (y .1)))
+unfolding number next _>>=_ andThen
+begins k b =
+    both-more (number-shape minute) (number-shape minute) (λ i j. number minute >>= (λ p. k i j p)) (λ i j. refl) b
 
 pub interval-shape : Shape interval intervalTo
 unfolding interval number next _>>=_ andThen
@@ -121,10 +138,14 @@ interval-shape = record {
   some-field = refl;
   more = λ k h b.
       line-same (grouped k) b
-      ∙ both-more (number-shape minute) (number-shape minute) (λ i j. k (span i j)) (λ i j. h (span i j)) b
+      ∙ begins (λ i j p. number minute >>= (λ q. k (span i j p q))) b
+      ∙ then-same (fieldTo 44 (numberIn minute) b) (λ x. then-same (fieldTo 44 (numberIn minute) (x .1)) (λ y.
+      both-more (number-shape minute) (number-shape minute) (λ p q. k (span (x .0) (y .0) p q)) (λ p q. h _) (y .1)))
       ∙ sym (interval-then 44 b _);
   last = λ f b.
       line-same (grouped (λ i. return (f i))) b
-      ∙ both-last (number-shape minute) (number-shape minute) (λ i j. f (span i j)) b
+      ∙ begins (λ i j p. number minute >>= (λ q. return (f (span i j p q)))) b
+      ∙ then-same (fieldTo 44 (numberIn minute) b) (λ x. then-same (fieldTo 44 (numberIn minute) (x .1)) (λ y.
+      both-last (number-shape minute) (number-shape minute) (λ p q. f (span (x .0) (y .0) p q)) (y .1)))
       ∙ sym (interval-then 10 b _);
 }

@@ -35,11 +35,13 @@ unfoldable pub lookup : {A : Type 0} → List (String × A) → A → List ℕ �
 lookup [] d t = d
 lookup (e ∷ es) d t = pick (sameBytes t (bytes (e .0))) (e .1) (lookup es d t)
 
--- `from,to`, which the byte `stop` ends
+-- `from,to,first,last`, which the byte `stop` ends
 unfoldable pub intervalTo : ℕ → List ℕ → Option (Interval × List ℕ)
 intervalTo stop b =
     andThen (fieldTo 44 (numberIn minute) b) (λ p.
-    andThen (fieldTo stop (numberIn minute) (p .1)) (λ q. some (span (p .0) (q .0), q .1)))
+    andThen (fieldTo 44 (numberIn minute) (p .1)) (λ q.
+    andThen (fieldTo 44 (numberIn minute) (q .1)) (λ u.
+    andThen (fieldTo stop (numberIn minute) (u .1)) (λ v. some (span (p .0) (q .0) (u .0) (v .0), v .1)))))
 
 -- A formula line's fields as a row, after the letter and its comma
 

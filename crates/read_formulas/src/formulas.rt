@@ -18,7 +18,7 @@ ghost use Rattle.read_formulas.specs.Line.{readLine, intervalTo, oneFiel
 ghost use Rattle.read_formulas.specs.Line.{rowed};
 ghost use Rattle.read_formulas.specs.Line.{spanOf, formulaOf, TwoAsked};
 
-// `from,to`, which the byte `stop` ends.
+// `from,to,first,last`, which the byte `stop` ends.
 pub fn interval(s: &[u8], at: u32, stop: u8) -> Span
     requires { ⌜ (length (now s) ≤ maxBytes) × Stop stop ⌝ }
     ensures { λ r. ⌜ spanOf (now (s .entry)) r ≡ intervalTo stop (drop at (now (s .entry))) ⌝ }
@@ -27,11 +27,27 @@ pub fn interval(s: &[u8], at: u32, stop: u8) -> Span
     let Decimal::Number(from, i) = f else {
         return Span::Broken;
     };
-    let g = number(s, i, 0, ranges::MINUTE_LAST, stop);
+    let g = number(s, i, 0, ranges::MINUTE_LAST, 44);
     let Decimal::Number(to, j) = g else {
         return Span::Broken;
     };
-    Span::Minutes(Interval { from, to }, j)
+    let h = number(s, j, 0, ranges::MINUTE_LAST, 44);
+    let Decimal::Number(first, k) = h else {
+        return Span::Broken;
+    };
+    let l = number(s, k, 0, ranges::MINUTE_LAST, stop);
+    let Decimal::Number(last, end) = l else {
+        return Span::Broken;
+    };
+    Span::Minutes(
+        Interval {
+            from,
+            to,
+            first,
+            last,
+        },
+        end,
+    )
 }
 
 // A letter and two numbers, without intervals.

@@ -174,8 +174,9 @@ pub interval-range : (stop : ℕ) (b : List ℕ) {w : Interval} {c : List ℕ} �
     → IntervalInRange w
 unfolding intervalTo
 interval-range stop b e = given {P = λ x. IntervalInRange (x .0)}
-    (gives-then (field-gives 44 minute b) (λ p h. gives-then (field-gives stop minute (p .1)) (λ q k.
-    just (record { from = h; to = k })))) e
+    (gives-then (field-gives 44 minute b) (λ i f. gives-then (field-gives 44 minute (i .1)) (λ j t.
+    gives-then (field-gives 44 minute (j .1)) (λ p g. gives-then (field-gives stop minute (p .1)) (λ q l.
+    just (record { from = f; to = t; first = g; last = l })))))) e
 
 -- The request by another name
 

@@ -6,7 +6,7 @@ use logic::Interval;
 use request::Kind;
 use steps::Row;
 
-// The head of a booking, `book,now,wording,from,to,holds,steps`, and the position of the line after it.
+// The head of a booking, `book,now,wording,from,to,first,last,holds,steps`, and the position of the line after it.
 pub struct Head {
     pub now: u32,
     pub formula: u32,

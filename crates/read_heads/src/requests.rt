@@ -53,7 +53,7 @@ fn issued(s: &[u8], at: u32, k: Kind) -> FirstRead
     FirstRead::Read(First::Issue(k, n, w))
 }
 
-// `issue,kind,wording,from,to`
+// `issue,kind,wording,from,to,first,last`
 fn issue(s: &[u8], at: u32) -> FirstRead
     requires { ⌜ length (now s) ≤ maxBytes ⌝ }
     ensures { λ r. ⌜ FirstAfter "issue" (now (s .entry)) at r ⌝ }
@@ -103,7 +103,7 @@ fn tally(s: &[u8], at: u32) -> FirstRead
     FirstRead::Read(First::Tally(a, m))
 }
 
-// `book,now,wording,from,to,holds,steps`
+// `book,now,wording,from,to,first,last,holds,steps`
 fn book(s: &[u8], at: u32) -> FirstRead
     requires { ⌜ length (now s) ≤ maxBytes ⌝ }
     ensures { λ r. ⌜ FirstAfter "book" (now (s .entry)) at r ⌝ }

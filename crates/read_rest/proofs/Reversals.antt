@@ -1,4 +1,4 @@
--- Which intervals of steps are reversed, by their rows.
+-- Which intervals of steps fail a test (reversed, broken), by their rows.
 use mathlib.Core.Path.{_≡_, refl, sym, ap, _∙_}
 use mathlib.Core.List.{List, [], _∷_, _++_, map, append-assoc, append-nil}
 use mathlib.Core.Bool.{Bool, _||_, or-false, or-true}
@@ -9,14 +9,14 @@ use lib.Dec.{eqb, ltb}
 use lib.ListN.{length, getD, take, List·getD-map, List·getD-eq-default}
 use lib.Seq.{getD-take}
 use borrow.Author.Tests.{eqb-true, eqb-false, lt-ltb, ltb-true, ltb-false}
-use Rattle.logic.specs.Interval.{reversed}
+use Rattle.logic.specs.declared.Interval.{Interval}
 use Rattle.request.specs.Request.{Step, stepIntervals, stepsIntervals}
 use Rattle.ledger.specs.Checks.{anyOf}
 use Rattle.step_rows.specs.declared.StepRow.{StepRow}
 use Rattle.step_rows.specs.StepRows.{makers, implies, stepOf}
 use Rattle.logic.specs.Choice.{pick}
 use Rattle.read_fields.proofs.Then.{by-test}
-use Rattle.read_rest.specs.LinesRead.{rowReversed}
+use Rattle.read_rest.specs.LinesRead.{rowFails}
 
 any-append : {A : Type 0} (f : A → Bool) (xs ys : List A) → anyOf f (xs ++ ys) ≡ (anyOf f xs || anyOf f ys)
 unfolding anyOf
@@ -54,17 +54,18 @@ its-interval op h r = by-test (eqb op 20) (λ e. rw (eqb-true op 20 e)) (λ e.
     by-test (eqb op 21) (λ f. rw (eqb-true op 21 f)) (λ f.
     rw (List·getD-eq-default makers implies {n = op} (omega (arith, eqb-false op 20 e, eqb-false op 21 f)))))
 
-step-reversed : (r : StepRow) → anyOf reversed (stepIntervals (stepOf r)) ≡ rowReversed r
-unfolding anyOf reversed rowReversed stepOf
-step-reversed r = by-test (ltb (r .op) 20)
-    (λ e. rw (no-intervals (r .op) (ltb-true (r .op) 20 e) r, e))
-    (λ e. rw (its-interval (r .op) (ltb-false (r .op) 20 e) r, e) (or-false (reversed (r .interval))))
+module _ (test : Interval → Bool) where
+  step-fails : (r : StepRow) → anyOf test (stepIntervals (stepOf r)) ≡ rowFails test r
+  unfolding anyOf rowFails stepOf
+  step-fails r = by-test (ltb (r .op) 20)
+      (λ e. rw (no-intervals (r .op) (ltb-true (r .op) 20 e) r, e))
+      (λ e. rw (its-interval (r .op) (ltb-false (r .op) 20 e) r, e) (or-false (test (r .interval))))
 
--- one step more, with the number of those before it whose interval is reversed
-pub reversals-next : (ss : List Step) (r : StepRow) (n : ℕ) → anyOf reversed (stepsIntervals ss) ≡ ltb 0 n
-    → anyOf reversed (stepsIntervals (ss ++ (stepOf r ∷ []))) ≡ ltb 0 (n + pick (rowReversed r) 1 0)
-unfolding stepsIntervals
-reversals-next ss r n e =
-    rw (steps-append ss (stepOf r ∷ []), any-append reversed (stepsIntervals ss) _, e, append-nil, step-reversed r)
-    (by-test (rowReversed r) (λ q. rw q (or-true (ltb 0 n) ∙ sym (lt-ltb 0 (n + 1) (omega arith))))
-    (λ q. rw q (or-false (ltb 0 n) ∙ ap (ltb 0) (sym (add-zero n)))))
+  -- one step more, with the number of those before it whose interval fails the test
+  pub fails-next : (ss : List Step) (r : StepRow) (n : ℕ) → anyOf test (stepsIntervals ss) ≡ ltb 0 n
+      → anyOf test (stepsIntervals (ss ++ (stepOf r ∷ []))) ≡ ltb 0 (n + pick (rowFails test r) 1 0)
+  unfolding stepsIntervals
+  fails-next ss r n e =
+      rw (steps-append ss (stepOf r ∷ []), any-append test (stepsIntervals ss) _, e, append-nil, step-fails r)
+      (by-test (rowFails test r) (λ q. rw q (or-true (ltb 0 n) ∙ sym (lt-ltb 0 (n + 1) (omega arith))))
+      (λ q. rw q (or-false (ltb 0 n) ∙ ap (ltb 0) (sym (add-zero n)))))

@@ -6,7 +6,8 @@ use mathlib.Core.Bool.{Bool, false}
 use Prim.Native.Nat.{ℕ, zero, suc, _≤_}
 use lib.Dec.{eqb, ltb}
 use lib.ListN.{length, take, drop}
-use Rattle.logic.specs.Interval.{reversed}
+use Rattle.logic.specs.declared.Interval.{Interval}
+use Rattle.logic.specs.Interval.{reversed, broken}
 use Rattle.request.specs.Range.{maxBytes}
 use Rattle.request.specs.Text.{andThen}
 use Rattle.request.specs.Reader.{Reader}
@@ -39,18 +40,25 @@ abbrev pub holdsOf : List ℕ → ℕ → List ℕ → HoldsRead → Option (Lis
 holdsOf s count serials (Read i) = some (take count serials, drop i s)
 holdsOf s count serials NoHolds = none
 
--- the interval of a step is reversed
-unfoldable pub rowReversed : StepRow → Bool
-rowReversed r = pick (ltb (r .op) 20) false (reversed (r .interval))
+-- the interval of a step fails a test: it is reversed, or broken
+unfoldable pub rowFails : (Interval → Bool) → StepRow → Bool
+rowFails test r = pick (ltb (r .op) 20) false (test (r .interval))
 
--- the steps are ss; `any reversed` of their intervals is b (refusal 3)
-pub record StepsAre (q : Option (List Step)) (ss : List Step) (b : Bool) : Type 0 where
+abbrev pub rowReversed : StepRow → Bool
+rowReversed = rowFails reversed
+
+abbrev pub rowBroken : StepRow → Bool
+rowBroken = rowFails broken
+
+-- the steps are ss; whether one of their intervals is reversed is b (refusal 3), whether one is broken is x (43)
+pub record StepsAre (q : Option (List Step)) (ss : List Step) (b x : Bool) : Type 0 where
   pub steps : q ≡ some ss
   pub reversals : anyOf reversed (stepsIntervals ss) ≡ b
+  pub breaks : anyOf broken (stepsIntervals ss) ≡ x
 
 -- the answer for bytes whose step lines are q, the first `count` rows
 abbrev pub StepsIs : Option (List Step) → ℕ → List ℕ → StepsRead → Type 0
-StepsIs q count rows (AllRead b) = StepsAre q (stepsFrom rows 0 count) b
+StepsIs q count rows (AllRead b x) = StepsAre q (stepsFrom rows 0 count) b x
 StepsIs q count rows NoSteps = q ≡ none
 
 -- the booking of a head, its holds and its steps

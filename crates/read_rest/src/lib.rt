@@ -14,8 +14,8 @@ ghost use Rattle.request.specs.Read.{holdLine, stepLine};
 ghost use Rattle.logic.specs.Choice.{pick};
 ghost use Rattle.step_rows.specs.LabelRows.{maxHolds};
 ghost use Rattle.step_rows.specs.StepRows.{maxSteps, stepCells};
-ghost use Rattle.read_rest.specs.LinesRead.{LinesAsked, readLines, holdsOf, rowReversed, allLines, StepsIs};
-ghost use Rattle.read_rest.specs.LinesRead.{BookingLines};
+ghost use Rattle.read_rest.specs.LinesRead.{LinesAsked, readLines, holdsOf, rowReversed, rowBroken, allLines};
+ghost use Rattle.read_rest.specs.LinesRead.{StepsIs, BookingLines};
 
 // The hold lines of a booking were read, and the position after them.
 pub enum HoldsRead {
@@ -23,9 +23,10 @@ pub enum HoldsRead {
     Broken,
 }
 
-// The step lines of a booking were read; whether an interval among them is reversed (refusal 3).
+// The step lines of a booking were read; whether an interval among them is reversed (refusal 3), and whether one is
+// broken (43).
 pub enum StepsRead {
-    Read(bool),
+    Read(bool, bool),
     Broken,
 }
 
@@ -74,6 +75,19 @@ fn turns(r: StepRow) -> u32
     0
 }
 
+// 1 for a step whose interval is broken, else 0.
+fn breaks(r: StepRow) -> u32
+    ensures { λ n. ⌜ (n ≡ pick (rowBroken r) 1 0) × (n ≤ 1) ⌝ }
+{
+    if r.op < 20 {
+        return 0;
+    }
+    if intervals::broken(r.interval) {
+        return 1;
+    }
+    0
+}
+
 // `count` step lines, to the end of the bytes, which are the part of a request from its first step line on; each in
 // its row.
 pub fn read_steps(s: &[u8], count: u32, rows: &mut StepRows) -> StepsRead
@@ -84,12 +98,14 @@ pub fn read_steps(s: &[u8], count: u32, rows: &mut StepRows) -> StepsRead
     let mut at: u32 = 0;
     let mut k: u32 = 0;
     let mut reversed: u32 = 0;
+    let mut broken: u32 = 0;
     while k < count {
         let line = read_step(s, at);
         let StepLine::Step(row, next) = line else {
             return StepsRead::Broken;
         };
         reversed = reversed + turns(row);
+        broken = broken + breaks(row);
         put_step(rows, k, row);
         at = next;
         k += 1;
@@ -97,7 +113,7 @@ pub fn read_steps(s: &[u8], count: u32, rows: &mut StepRows) -> StepsRead
     if (at as usize) < s.len() {
         return StepsRead::Broken;
     }
-    StepsRead::Read(0 < reversed)
+    StepsRead::Read(0 < reversed, 0 < broken)
 }
 
 // What the two readers say together: the request of a booking is the one of its head, its holds and its steps, or none.

@@ -15,8 +15,8 @@ use Rattle.request.specs.Write.{digits, hexDigits, minutes, kindField}
 use Rattle.request.specs.InRange.{_inRange_, LabelSet, IntervalInRange}
 use Rattle.request.proofs.Digits.{number-back, number-only, digits-plain, digits-length}
 use Rattle.request.proofs.Digits.{set-back, set-only, set-plain, set-length}
-use Rattle.request.proofs.Readers.{Reads, Exact, done, _also_, only-return, reads-return, reads-then}
-use Rattle.request.proofs.Readers.{reads-last, next-exact, choose-only, word-reads, two-only}
+use Rattle.request.proofs.Readers.{Reads, Exact, done, _also_, only-return, only-then, reads-return}
+use Rattle.request.proofs.Readers.{reads-then, reads-last, next-exact, choose-only, word-reads, two-only}
 
 abbrev pub NumberExact : Range → ℕ → Type 0
 NumberExact r n = Exact 48 (number r) (λ m. m inRange r) (λ m. digits m ∷ []) n
@@ -59,12 +59,15 @@ pub labelSet-exact : Exact 48 labelSet LabelSet (λ s. hexDigits s ∷ []) 17
 unfolding labelSet
 labelSet-exact = next-exact set-back set-plain (λ s h. omega (arith, set-length s h)) set-only
 
-pub interval-exact : Exact 48 interval IntervalInRange minutes 16
+pub interval-exact : Exact 48 interval IntervalInRange minutes 32
 unfolding interval minutes
 interval-exact = record {
   reads = λ i h.
-      reads-then _ (minute-exact .reads (i .from) (h .from)) (reads-last _ (minute-exact .reads (i .to) (h .to)));
-  only = two-only minute-exact minute-exact _ (λ i j h k. (record { from = h; to = k }, refl));
+      reads-then _ (minute-exact .reads (i .from) (h .from)) (reads-then _ (minute-exact .reads (i .to) (h .to))
+      (reads-then _ (minute-exact .reads (i .first) (h .first))
+      (reads-last _ (minute-exact .reads (i .last) (h .last)))));
+  only = only-then _ (minute-exact .only) (λ i h. only-then _ (minute-exact .only) (λ j k.
+      two-only minute-exact minute-exact _ (λ p q l m. (record { from = h; to = k; first = l; last = m }, refl))));
 }
 
 abbrev pub AnyKind : Kind → Type 0

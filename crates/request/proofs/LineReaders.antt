@@ -18,15 +18,15 @@ use Rattle.request.proofs.Readers.{one-reads, one-only, two-reads, two-
 use Rattle.request.proofs.Fields.{predicate-exact, principal-exact, label-exact, formula-exact, session-exact}
 use Rattle.request.proofs.Fields.{serial-exact, labelSet-exact, interval-exact}
 
--- Formula lines: at most 34 bytes
+-- Formula lines: at most 66 bytes
 
-parts-read : (t : String) (make : ℕ → ℕ → Line) (i j : ℕ) → Parts i j → fits t 8 34 ≡ true
+parts-read : (t : String) (make : ℕ → ℕ → Line) (i j : ℕ) → Parts i j → fits t 8 66 ≡ true
     → ((us : Texts) → formulaLine (bytes t ∷ us) ≡ parts make us)
-    → Reads 48 formulaLine (make i j) (bytes t ∷ digits i ∷ digits j ∷ []) 34
+    → Reads 48 formulaLine (make i j) (bytes t ∷ digits i ∷ digits j ∷ []) 66
 unfolding parts
 parts-read t make i j h e f = two-reads formula-exact formula-exact make t i j (h .left) (h .right) e f
 
-formula-line-reads : (l : Line) → LineInRange l → Reads 48 formulaLine l (lineFields l) 34
+formula-line-reads : (l : Line) → LineInRange l → Reads 48 formulaLine l (lineFields l) 66
 unfolding formulaLine lineFields part parts bytes sameBytes choose named allOf
 formula-line-reads (Line.atom p s) h =
     two-reads predicate-exact session-exact Line.atom "a" p s (h .predicate) (h .session) refl (λ us. refl)
@@ -50,7 +50,7 @@ parts-only : {before : Texts} (make : ℕ → ℕ → Line)
 unfolding parts
 parts-only make f = two-only formula-exact formula-exact make (λ i j h k. f i j (record { left = h; right = k }))
 
-pub formula-line-exact : Exact 48 formulaLine LineInRange lineFields 34
+pub formula-line-exact : Exact 48 formulaLine LineInRange lineFields 66
 unfolding formulaLine lineFields part parts minutes
 formula-line-exact = record {
   reads = formula-line-reads;
@@ -69,9 +69,9 @@ formula-line-exact = record {
       also done);
 }
 
--- Step lines: at most 39 bytes
+-- Step lines: at most 55 bytes
 
-step-line-reads : (s : Step) → StepInRange s → Reads 48 stepLine s (stepFields s) 39
+step-line-reads : (s : Step) → StepInRange s → Reads 48 stepLine s (stepFields s) 55
 unfolding stepLine stepFields labelled bytes sameBytes choose named allOf
 step-line-reads (Step.ax l) h = one-reads label-exact Step.ax "ax" l h refl (λ us. refl)
 step-line-reads (Step.cp l) h = one-reads label-exact Step.cp "cp" l h refl (λ us. refl)
@@ -99,7 +99,7 @@ step-line-reads Step.af h = word-reads "af" refl (λ us. refl) (reads-return 48 
 step-line-reads (Step.sl l) h = one-reads label-exact Step.sl "sl" l h refl (λ us. refl)
 step-line-reads Step.gr h = word-reads "gr" refl (λ us. refl) (reads-return 48 Step.gr)
 
-pub step-line-exact : Exact 48 stepLine StepInRange stepFields 39
+pub step-line-exact : Exact 48 stepLine StepInRange stepFields 55
 unfolding stepLine stepFields labelled minutes
 step-line-exact = record {
   reads = step-line-reads;

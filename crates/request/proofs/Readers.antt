@@ -92,17 +92,18 @@ reads-within h s = record { back = s .back; plain = s .plain; short = omega (ari
 
 -- The next text, and lines
 
+pub next-reads : {A : Type 0} (read : List ℕ → Option A) {a : A} {t : List ℕ} {lo n : ℕ}
+    → read t ≡ some a → Plain lo t → length t < n → Reads lo (next read) a (t ∷ []) n
+unfolding next andThen
+next-reads read back plain short = record { back = λ ts. rw (back, andThen); plain = (plain, tt); short = omega arith }
+
 module _ {A : Type 0} {read : List ℕ → Option A} {P : A → Type 0} {t : A → List ℕ} {lo n : ℕ} where
   pub next-exact : ((a : A) → P a → read (t a) ≡ some a) → ((a : A) → P a → Plain lo (t a))
       → ((a : A) → P a → length (t a) < n) → ((x : List ℕ) → Gives (λ a. P a × (t a ≡ x)) (read x))
       → Exact lo (next read) P (λ a. t a ∷ []) n
   unfolding next andThen
   next-exact back plain short only = record {
-    reads = λ a h. record {
-      back = λ ts. rw (back a h, andThen);
-      plain = (plain a h, tt);
-      short = omega (arith, short a h);
-    };
+    reads = λ a h. next-reads read (back a h) (plain a h) (short a h);
     only = record { from = go };
   }
     where
@@ -137,6 +138,10 @@ module _ {A : Type 0} {r : Reader A} (none-read : r [] ≡ none) where
   line-short : {a : A} {ws : Texts} {n : ℕ} → Reads 48 r a ws n → length (joined ws) < n
   line-short {ws = []} s = absurd (nothing-read s)
   line-short {ws = t ∷ ts} s = omega (arith, joined-size t ts, s .short)
+
+  pub line-reads : {a : A} {ws : Texts} {n : ℕ} → Reads 48 r a ws n → Reads 44 (line r) a (joined ws ∷ []) n
+  unfolding line
+  line-reads {ws} s = next-reads _ (line-back s) (joined-plain ws (s .plain)) (line-short s)
 
   pub line-exact : {P : A → Type 0} {w : A → Texts} {n : ℕ}
       → Exact 48 r P w n → Exact 44 (line r) P (λ a. joined (w a) ∷ []) n

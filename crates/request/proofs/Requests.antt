@@ -4,6 +4,7 @@ use mathlib.Core.List.{List, [], _∷_}
 use Prim.Native.Nat.{ℕ}
 use native.Mathlib.Omega.{arith}
 use lib.ListN.{length}
+use Rattle.logic.specs.declared.Interval.{Interval}
 use Rattle.logic.specs.Counts.{allOf}
 use Rattle.request.specs.Range.{serial, minute, formulaNumber, holds, steps}
 use Rattle.request.specs.Text.{bytes, sameBytes, andThen, lines}
@@ -19,13 +20,13 @@ use Rattle.request.proofs.Gives.{Gives, given, gives-then, gives-so}
 use Rattle.request.proofs.Texts.{lines-ended, ended-lines, ended-size}
 use Rattle.request.proofs.Readers.{Texts, Reads, Only, Exact, done, _also_, only-return, only-then}
 use Rattle.request.proofs.Readers.{reads-return, reads-then, reads-last, reads-within, choose-only, word-reads}
-use Rattle.request.proofs.Readers.{line-exact, many-read, many-only, whole-back, whole-only}
+use Rattle.request.proofs.Readers.{line-reads, line-exact, many-read, many-only, whole-back, whole-only}
 use Rattle.request.proofs.Readers.{one-reads, one-only, two-reads, two-only}
 use Rattle.request.proofs.Fields.{formula-exact, session-exact, holds-exact, steps-exact, serial-exact}
 use Rattle.request.proofs.Fields.{minute-exact, interval-exact, kind-exact}
 use Rattle.request.proofs.LineReaders.{formula-line-exact, step-line-exact, hold-line-exact}
 
--- The first line: at most 40 bytes
+-- The first line: at most 71 bytes, a booking's at most 56
 
 abbrev HeadInRange : Head → Type 0
 HeadInRange (alone (word l)) = InRange (word l)
@@ -45,8 +46,16 @@ headTexts : Head → Texts
 headTexts (alone r) = headFields r
 headTexts (booking now n i h k) = bookFields now n i h k
 
-head-reads : (h : Head) → HeadInRange h → Reads 48 firstLine h (headTexts h) 40
-unfolding firstLine headTexts headFields bookFields bookLine bytes sameBytes choose named allOf
+book-reads : (now n : ℕ) (i : Interval) (h k : ℕ) → HeadInRange (booking now n i h k)
+    → Reads 48 firstLine (booking now n i h k) (bookFields now n i h k) 56
+unfolding firstLine bookFields bookLine bytes sameBytes choose named allOf
+book-reads now n i h k r =
+    word-reads "book" refl (λ us. refl) (reads-then _ (minute-exact .reads now (r .now))
+    (reads-then _ (formula-exact .reads n (r .formula)) (reads-then _ (interval-exact .reads i (r .interval))
+    (reads-then _ (holds-exact .reads h (r .holdCount)) (reads-last _ (steps-exact .reads k (r .stepCount)))))))
+
+head-reads : (h : Head) → HeadInRange h → Reads 48 firstLine h (headTexts h) 71
+unfolding firstLine headTexts headFields bytes sameBytes choose named allOf
 head-reads (alone (word l)) h = one-reads formula-line-exact _ "word" l h refl (λ us. refl)
 head-reads (alone (issue k n i)) h =
     word-reads "issue" refl (λ us. refl) (reads-then _ (kind-exact .reads k tt)
@@ -55,12 +64,9 @@ head-reads (alone (withdraw n)) h = one-reads serial-exact _ "withdraw" n h refl
 head-reads (alone (book b)) h = absurd h
 head-reads (alone (tally s m)) h =
     two-reads session-exact minute-exact _ "tally" s m (h .session) (h .minute) refl (λ us. refl)
-head-reads (booking now n i h k) r =
-    word-reads "book" refl (λ us. refl) (reads-then _ (minute-exact .reads now (r .now))
-    (reads-then _ (formula-exact .reads n (r .formula)) (reads-then _ (interval-exact .reads i (r .interval))
-    (reads-then _ (holds-exact .reads h (r .holdCount)) (reads-last _ (steps-exact .reads k (r .stepCount)))))))
+head-reads (booking now n i h k) r = reads-within (omega arith) (book-reads now n i h k r)
 
-head-exact : Exact 48 firstLine HeadInRange headTexts 40
+head-exact : Exact 48 firstLine HeadInRange headTexts 71
 unfolding firstLine headTexts headFields bookFields bookLine minutes
 head-exact = record {
   reads = head-reads;
@@ -78,7 +84,7 @@ head-exact = record {
 
 -- All lines
 
-head-line : Exact 44 (line firstLine) HeadInRange (λ h. joined (headTexts h) ∷ []) 40
+head-line : Exact 44 (line firstLine) HeadInRange (λ h. joined (headTexts h) ∷ []) 71
 unfolding firstLine choose
 head-line = line-exact refl head-exact
 
@@ -86,7 +92,7 @@ hold-line : Exact 44 (line holdLine) (λ n. n inRange serial) (λ n. joined (hol
 unfolding holdLine choose
 hold-line = line-exact refl hold-line-exact
 
-step-line : Exact 44 (line stepLine) StepInRange (λ s. joined (stepFields s) ∷ []) 39
+step-line : Exact 44 (line stepLine) StepInRange (λ s. joined (stepFields s) ∷ []) 55
 unfolding stepLine choose
 step-line = line-exact refl step-line-exact
 
@@ -97,17 +103,17 @@ unfolding requestLines requestTexts headTexts rest
 single-reads r h e =
     rw e (reads-within (omega arith) (reads-then _ (head-line .reads (alone r) h) (reads-return 44 r)))
 
-abbrev bookHead : Booking → Head
-bookHead b = booking (b .now) (b .formula) (b .interval) (length (b .holds)) (length (b .steps))
-
-book-head : (b : Booking) → BookingInRange b → HeadInRange (bookHead b)
-book-head b h = record {
+book-head : (b : Booking) → BookingInRange b → Reads 44 (line firstLine)
+    (booking (b .now) (b .formula) (b .interval) (length (b .holds)) (length (b .steps)))
+    (joined (headFields (book b)) ∷ []) 56
+unfolding firstLine choose headFields
+book-head b h = line-reads refl (book-reads _ _ _ _ _ (record {
   now = h .now;
   formula = h .formula;
   interval = h .interval;
   holdCount = h .holdCount;
   stepCount = h .stepCount;
-}
+}))
 
 request-reads : (r : Request) → InRange r → Reads 44 requestLines r (requestTexts r) longest
 unfolding requestLines requestTexts moreLines headFields headTexts rest
@@ -116,7 +122,7 @@ request-reads (issue k n i) h = single-reads (issue k n i) h refl
 request-reads (withdraw n) h = single-reads (withdraw n) h refl
 request-reads (book b) h =
     reads-within (omega (arith, h .holdCount .most, h .stepCount .most))
-    (reads-then _ (head-line .reads (bookHead b) (book-head b h))
+    (reads-then _ (book-head b h)
     (reads-then _ (many-read hold-line (b .holds) (h .holds))
     (reads-last _ (many-read step-line (b .steps) (h .steps)))))
 request-reads (tally s m) h = single-reads (tally s m) h refl

@@ -1,4 +1,5 @@
--- The ranges that the fields of a request keep. Intervals may be reversed: that is a check of its own (refusal 3).
+-- The ranges that the fields of a request keep. Intervals may be reversed and breaks anywhere: those are
+-- checks of their own (refusals 3 and 43).
 use Prim.Native.Nat.{ℕ, _^_, _≤_, _<_}
 use lib.ListN.{length}
 use Rattle.logic.specs.declared.Interval.{Interval}
@@ -20,6 +21,8 @@ LabelSet s = s < 2 ^ 64
 pub record IntervalInRange (i : Interval) : Type 0 where
   pub from : i .from inRange minute
   pub to : i .to inRange minute
+  pub first : i .first inRange minute
+  pub last : i .last inRange minute
 
 -- the numbers of two earlier formulas
 pub record Parts (i j : ℕ) : Type 0 where

@@ -20,12 +20,15 @@ number r = next (numberIn r)
 unfoldable pub labelSet : Reader ℕ
 labelSet = next labelSetIn
 
--- `from,to`
+-- `from,to` and the break's `first,last`: "two more fields .. after from and to. .. Lines of the old length break the
+-- form."
 unfoldable pub interval : Reader Interval
 interval = do
   i ← number minute
   j ← number minute
-  return (span i j)
+  p ← number minute
+  q ← number minute
+  return (span i j p q)
 
 -- "kind s is single-use, r standing"
 unfoldable pub kind : Reader Kind
@@ -46,7 +49,7 @@ parts make = do
   return (make i j)
 
 -- "`a,predicate,session` atom; `o` is 1; `t,i,j` ⊗; `w,i,j` &; `p,i,j` ⊕; `l,i,j` ⊸; `u,i,j` ⊃; `b,i` !;
--- `h,i,from,to` @; `s,principal,i` ⟨K⟩; `g,from,to,from,to` first window ⊇ second."
+-- `h,i,from,to` @; `s,principal,i` ⟨K⟩; `g,from,to,from,to` first window ⊇ second", each window with its break.
 unfoldable pub formulaLine : Reader Line
 formulaLine = choose (
     ("a", do p ← number predicate; s ← number session; return (Line.atom p s)) ∷
@@ -104,7 +107,7 @@ pub data Head : Type 0 where
   alone : Request → Head
   booking : ℕ → ℕ → Interval → ℕ → ℕ → Head
 
--- `book,now,wording,from,to,holds,steps`
+-- `book,now,wording,from,to,first,last,holds,steps`
 unfoldable pub bookLine : Reader Head
 bookLine = do
   now ← number minute

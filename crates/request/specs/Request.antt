@@ -35,7 +35,7 @@ pub data Step : Type 0 where
   sl : ℕ → Step
   gr : Step
 
--- `book,now,wording,from,to,holds,steps`, the serials held, the step lines
+-- `book,now,wording,from,to,first,last,holds,steps`, the serials held, the step lines
 pub record Booking : Type 0 where
   pub now : ℕ
   pub formula : ℕ

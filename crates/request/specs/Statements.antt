@@ -29,9 +29,9 @@ Wider =
     (r s : Range) → s .first ≤ r .first → r .last ≤ s .last → (t : List ℕ) (n : ℕ) → numberIn r t ≡ some n
     → numberIn s t ≡ some n
 
--- the bytes of a booking with all its fields at their longest: 40 + 32 * 12 + 256 * 39
+-- the bytes of a booking with all its fields at their longest: 56 + 32 * 12 + 256 * 55
 abbrev pub longest : ℕ
-longest = 10408
+longest = 14520
 
 -- No request is longer.
 abbrev pub Longest : Type 0

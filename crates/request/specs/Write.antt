@@ -47,9 +47,9 @@ endedLines (l ∷ ls) = l ++ (10 ∷ endedLines ls)
 
 -- Fields
 
--- `from,to`
+-- `from,to,first,last`
 unfoldable pub minutes : Interval → List (List ℕ)
-minutes i = digits (i .from) ∷ digits (i .to) ∷ []
+minutes i = digits (i .from) ∷ digits (i .to) ∷ digits (i .first) ∷ digits (i .last) ∷ []
 
 unfoldable pub kindField : Kind → List ℕ
 kindField Linear = bytes "s"
@@ -98,7 +98,7 @@ stepFields Step.gr = bytes "gr" ∷ []
 unfoldable pub holdFields : ℕ → List (List ℕ)
 holdFields n = bytes "hold" ∷ digits n ∷ []
 
--- `book,now,wording,from,to,holds,steps`
+-- `book,now,wording,from,to,first,last,holds,steps`
 unfoldable pub bookFields : ℕ → ℕ → Interval → ℕ → ℕ → List (List ℕ)
 bookFields now n i h k = bytes "book" ∷ digits now ∷ digits n ∷ minutes i ++ (digits h ∷ digits k ∷ [])
 

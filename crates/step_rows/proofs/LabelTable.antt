@@ -14,7 +14,7 @@ use Rattle.step_rows.specs.LabelRows.{labelWidth, labelCells, labelPlace
 use Rattle.logic.proofs.Stores.{sets-outside, sets-in}
 
 abbrev cells : Hypothesis → List ℕ
-cells h = h .formula ∷ h .interval .from ∷ h .interval .to ∷ []
+cells h = let i = h .interval in h .formula ∷ i .from ∷ i .to ∷ i .first ∷ i .last ∷ []
 
 stays : (t : List ℕ) (n : ℕ) (h : Hypothesis) → length t ≡ labelCells → length (putLabel t n h) ≡ labelCells
 unfolding putLabel
@@ -29,7 +29,12 @@ reads t n h g l =
     let first : labelPlace n ≡ labelPlace n + 0 = omega arith in
     λ i. record {
       formula = (ap (λ (k : ℕ). getD (sets t (labelPlace n) (cells h)) k 0) first ∙ at 0 (omega arith)) i;
-      interval = record { from = at 1 (omega arith) i; to = at 2 (omega arith) i };
+      interval = record {
+        from = at 1 (omega arith) i;
+        to = at 2 (omega arith) i;
+        first = at 3 (omega arith) i;
+        last = at 4 (omega arith) i;
+      };
     }
 
 keeps : (t : List ℕ) (n k : ℕ) (h : Hypothesis) → (k ≡ n → ⊥) → labelAt (putLabel t n h) k ≡ labelAt t k
@@ -41,7 +46,12 @@ keeps t n k h d =
     let first : labelPlace k + 0 ≡ labelPlace k = omega arith in
     λ i. record {
       formula = (rw first at (kept 0 (omega arith))) i;
-      interval = record { from = kept 1 (omega arith) i; to = kept 2 (omega arith) i };
+      interval = record {
+        from = kept 1 (omega arith) i;
+        to = kept 2 (omega arith) i;
+        first = kept 3 (omega arith) i;
+        last = kept 4 (omega arith) i;
+      };
     }
   where
     apart : (f : ℕ) → f < labelWidth → Dec (k < n)

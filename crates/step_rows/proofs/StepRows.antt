@@ -14,7 +14,7 @@ use Rattle.step_rows.specs.StepRows.{stepWidth, stepPlace, stepRowAt, pu
 use Rattle.logic.proofs.Stores.{sets-outside, sets-in}
 
 abbrev cells : StepRow → List ℕ
-cells r = r .op ∷ r .label ∷ r .high ∷ r .low ∷ r .interval .from ∷ r .interval .to ∷ []
+cells r = let i = r .interval in r .op ∷ r .label ∷ r .high ∷ r .low ∷ i .from ∷ i .to ∷ i .first ∷ i .last ∷ []
 
 pub length-put : (l : List ℕ) (k : ℕ) (r : StepRow) → length (putStepRow l k r) ≡ length l
 unfolding putStepRow
@@ -31,7 +31,12 @@ row-put l k r h =
       label = at 1 (omega arith) i;
       high = at 2 (omega arith) i;
       low = at 3 (omega arith) i;
-      interval = record { from = at 4 (omega arith) i; to = at 5 (omega arith) i };
+      interval = record {
+        from = at 4 (omega arith) i;
+        to = at 5 (omega arith) i;
+        first = at 6 (omega arith) i;
+        last = at 7 (omega arith) i;
+      };
     }
 
 row-kept : (l : List ℕ) (k j : ℕ) (r : StepRow) → (j ≡ k → ⊥) → stepRowAt (putStepRow l k r) j ≡ stepRowAt l j
@@ -46,7 +51,12 @@ row-kept l k j r d =
       label = kept 1 (omega arith) i;
       high = kept 2 (omega arith) i;
       low = kept 3 (omega arith) i;
-      interval = record { from = kept 4 (omega arith) i; to = kept 5 (omega arith) i };
+      interval = record {
+        from = kept 4 (omega arith) i;
+        to = kept 5 (omega arith) i;
+        first = kept 6 (omega arith) i;
+        last = kept 7 (omega arith) i;
+      };
     }
   where
     apart : (f : ℕ) → f < stepWidth → Dec (j < k)

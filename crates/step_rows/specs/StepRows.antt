@@ -1,4 +1,5 @@
--- Step lines as rows: step k's number, label, the high and low 32 bits of its share, from and to.
+-- Step lines as rows: step k's number, label, the high and low 32 bits of its share, and its interval's from, to, first
+-- and last.
 use mathlib.Core.List.{List, [], _∷_}
 use Prim.Native.Nat.{ℕ, zero, suc, _+_, _*_}
 use lib.ListN.{getD}
@@ -11,7 +12,7 @@ use Rattle.step_rows.specs.declared.StepRow.{StepRow}
 
 -- how wide a step's row is, how many rows there are, and how long the list
 abbrev pub stepWidth : ℕ
-stepWidth = 6
+stepWidth = 8
 
 abbrev pub maxSteps : ℕ
 maxSteps = steps .last
@@ -59,11 +60,13 @@ stepOf r = getD makers (r .op) implies r
 unfoldable pub stepRowAt : List ℕ → ℕ → StepRow
 stepRowAt l k =
     stepRow (getD l (stepPlace k) 0) (getD l (stepPlace k + 1) 0) (getD l (stepPlace k + 2) 0)
-    (getD l (stepPlace k + 3) 0) (span (getD l (stepPlace k + 4) 0) (getD l (stepPlace k + 5) 0))
+    (getD l (stepPlace k + 3) 0) (span (getD l (stepPlace k + 4) 0) (getD l (stepPlace k + 5) 0)
+    (getD l (stepPlace k + 6) 0) (getD l (stepPlace k + 7) 0))
 
 unfoldable pub putStepRow : List ℕ → ℕ → StepRow → List ℕ
 putStepRow l k r =
-    sets l (stepPlace k) (r .op ∷ r .label ∷ r .high ∷ r .low ∷ r .interval .from ∷ r .interval .to ∷ [])
+    let i = r .interval in
+    sets l (stepPlace k) (r .op ∷ r .label ∷ r .high ∷ r .low ∷ i .from ∷ i .to ∷ i .first ∷ i .last ∷ [])
 
 abbrev pub stepAt : List ℕ → ℕ → Step
 stepAt l k = stepOf (stepRowAt l k)

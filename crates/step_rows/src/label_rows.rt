@@ -18,6 +18,8 @@ pub fn label_at(table: &LabelRows, k: u32) -> Hypothesis
         interval: Interval {
             from: table[at + 1],
             to: table[at + 2],
+            first: table[at + 3],
+            last: table[at + 4],
         },
     }
 }
@@ -31,4 +33,6 @@ pub fn put_label(table: &mut LabelRows, k: u32, h: Hypothesis)
     table[at] = h.formula;
     table[at + 1] = i.from;
     table[at + 2] = i.to;
+    table[at + 3] = i.first;
+    table[at + 4] = i.last;
 }

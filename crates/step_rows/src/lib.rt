@@ -5,15 +5,15 @@ pub mod lines;
 
 use request::ranges;
 
-// What each label stands for, three numbers a label.
-pub const LABEL_WIDTH: usize = 3;
+// What each label stands for, five numbers a label.
+pub const LABEL_WIDTH: usize = 5;
 
 pub const LABEL_CELLS: usize = ranges::LABELS as usize * LABEL_WIDTH;
 
 pub type LabelRows = [u32; LABEL_CELLS];
 
-// The step lines of a booking, six numbers a step.
-pub const STEP_WIDTH: usize = 6;
+// The step lines of a booking, eight numbers a step.
+pub const STEP_WIDTH: usize = 8;
 
 pub const STEP_CELLS: usize = ranges::STEPS_LAST as usize * STEP_WIDTH;
 
@@ -25,7 +25,7 @@ pub const SERIALS: usize = ranges::HOLDS_LAST as usize;
 pub type Serials = [u32; SERIALS];
 
 // A step line as a row: its number, label, the high and low 32 bits of its set of labels (document 01: share), its
-// interval; 0, and 0 to 0, where a step has no such field.
+// interval; 0, and no interval, where a step has no such field.
 pub struct StepRow {
     pub op: u32,
     pub label: u32,

@@ -31,6 +31,8 @@ pub fn step_at(steps: &StepRows, k: u32) -> StepRow
         interval: Interval {
             from: steps[at + 4],
             to: steps[at + 5],
+            first: steps[at + 6],
+            last: steps[at + 7],
         },
     }
 }
@@ -47,4 +49,6 @@ pub fn put_step(steps: &mut StepRows, k: u32, r: StepRow)
     steps[at + 3] = r.low;
     steps[at + 4] = i.from;
     steps[at + 5] = i.to;
+    steps[at + 6] = i.first;
+    steps[at + 7] = i.last;
 }

@@ -6,9 +6,10 @@ use native.Mathlib.Omega.{arith}
 use lib.ListN.{length}
 use lib.Pow.{pow-mono}
 use Rattle.logic.specs.declared.Interval.{Interval}
-use Rattle.logic.specs.Interval.{Ordered}
+use Rattle.logic.specs.Interval.{WellFormed}
 use Rattle.logic.specs.Derives.{Hyp, Judgment, Derives, Letter, letters, taken}
 use Rattle.logic.specs.Multiset.{here, Perm, more}
+use Rattle.logic.proofs.Intervals.{break-within}
 use Rattle.logic.proofs.Multisets.{perm-trans}
 use Rattle.request.specs.Request.{Step}
 use Rattle.labels.specs.Labels.{_∋_, _⊑_, remove}
@@ -78,11 +79,15 @@ set-in : (s : ℕ) → s < 2 ^ maxLabels → LabelSet s
 unfolding maxLabels
 set-in s l = l
 
-interval-in : (j : Interval) → Ordered j → j .to ≤ minute .last → IntervalInRange j
-interval-in j o l = record {
-  from = record { least = omega arith; most = omega arith };
-  to = record { least = omega arith; most = l };
-}
+pub interval-in : (j : Interval) → WellFormed j → j .to ≤ minute .last → IntervalInRange j
+interval-in j w l =
+    let b = break-within j w in
+    record {
+      from = record { least = omega arith; most = omega (arith, w .ordered) };
+      to = record { least = omega arith; most = l };
+      first = record { least = omega arith; most = omega (arith, b .0) };
+      last = record { least = omega arith; most = omega (arith, b .1) };
+    }
 
 pub spelled : {R D : List Hyp} {g : Judgment} (x : Derives R D g) → Minutes x → Spelled R D g (letters x) (taken x)
 unfolding letters taken

@@ -1,14 +1,15 @@
 -- Document 01's limits on derivations, as far as they speak of intervals and step lines.
 use mathlib.Core.List.{List}
 use Prim.Native.Nat.{_≤_}
-use Rattle.logic.specs.Interval.{Ordered}
+use Rattle.logic.specs.Interval.{WellFormed}
 use Rattle.logic.specs.Multiset.{Every}
 use Rattle.logic.specs.Derives.{Hyp, Judgment, Derives}
 use Rattle.request.specs.Range.{minute}
 use Rattle.request.specs.Request.{Step, stepIntervals}
 use Rattle.request.specs.InRange.{StepInRange}
 
--- "minutes in range": the intervals that a derivation chooses, at `ll` and `ul`, end by the last minute
+-- "minutes in range": the intervals that a derivation chooses, at `ll` and `ul`, end by the last minute, and so do
+-- their breaks
 abbrev pub Minutes : {R D : List Hyp} {g : Judgment} → Derives R D g → Type 0
 Minutes (Derives.same m n d) = Minutes d
 Minutes (Derives.ax c) = Unit {0}
@@ -34,6 +35,6 @@ Minutes (Derives.af d) = Minutes d
 Minutes (Derives.sl c d) = Minutes d
 Minutes (Derives.gr c) = Unit {0}
 
--- a step line of a request that passes 2 and 3: its fields in range, its interval not reversed
+-- a step line of a request that passes 2, 3 and 43: its fields in range, its interval well formed
 abbrev pub Writable : Step → Type 0
-Writable s = StepInRange s × Every Ordered (stepIntervals s)
+Writable s = StepInRange s × Every WellFormed (stepIntervals s)

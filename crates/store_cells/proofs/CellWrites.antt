@@ -30,8 +30,18 @@ row-ext g h e j = record {
   letter = e 0 (omega arith) j;
   a = e 1 (omega arith) j;
   b = e 2 (omega arith) j;
-  first = record { from = e 3 (omega arith) j; to = e 4 (omega arith) j };
-  second = record { from = e 5 (omega arith) j; to = e 6 (omega arith) j };
+  first = record {
+    from = e 3 (omega arith) j;
+    to = e 4 (omega arith) j;
+    first = e 5 (omega arith) j;
+    last = e 6 (omega arith) j;
+  };
+  second = record {
+    from = e 7 (omega arith) j;
+    to = e 8 (omega arith) j;
+    first = e 9 (omega arith) j;
+    last = e 10 (omega arith) j;
+  };
 }
 
 pub credential-ext : (g h : ℕ → ℕ) → ((f : ℕ) → f < credentialWidth → g f ≡ h f) → credentialFrom g ≡ credentialFrom h
@@ -39,7 +49,12 @@ credential-ext g h e j = record {
   serial = e 0 (omega arith) j;
   kind = kindFrom (e 1 (omega arith) j);
   formula = e 2 (omega arith) j;
-  interval = record { from = e 3 (omega arith) j; to = e 4 (omega arith) j };
+  interval = record {
+    from = e 3 (omega arith) j;
+    to = e 4 (omega arith) j;
+    first = e 5 (omega arith) j;
+    last = e 6 (omega arith) j;
+  };
 }
 
 -- the row of a number that names a formula

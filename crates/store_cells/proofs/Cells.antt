@@ -1,18 +1,28 @@
 -- Laws of a table in a flat list, for every base and width: what each cell is after a row is put, here or elsewhere.
-use mathlib.Core.Path.{_≡_}
-use mathlib.Core.List.{List}
+use mathlib.Core.Path.{_≡_, refl, ap, _∙_}
+use mathlib.Core.List.{List, [], _∷_}
 use Prim.Native.Nat.{ℕ, suc, _+_, _*_, _<_, _≤_}
 use native.Mathlib.Omega.{arith}
 use native.Mathlib.Nat.{add-suc, mul-le-mul-right, suc-mul}
+use native.Mathlib.Numerals.{add-one}
 use native.Mathlib.Decide.{decLt}
-use lib.ListN.{length, getD}
+use lib.ListN.{length, getD, set}
 use lib.Seq.{sets, length-sets}
 use Rattle.store_cells.specs.Layout.{cell, putRow}
 use Rattle.logic.proofs.Stores.{sets-below, sets-above, sets-in}
 
--- the tenth cell of a row, for proofs that count up to it
-pub add-nine : (n : ℕ) → n + 9 ≡ suc (n + 8)
-add-nine n = add-suc n 8
+-- numbers put one by one, each by its place in a row that starts at b, from the k-th on
+abbrev pub stores : List ℕ → ℕ → ℕ → List ℕ → List ℕ
+stores l b k [] = l
+stores l b k (v ∷ vs) = stores (set l (b + k) v) b (suc k) vs
+
+stores-sets : (l : List ℕ) (b k : ℕ) (vs : List ℕ) → stores l b k vs ≡ sets l (b + k) vs
+stores-sets l b k [] = refl
+stores-sets l b k (v ∷ vs) =
+    stores-sets (set l (b + k) v) b (suc k) vs ∙ ap (λ (n : ℕ). sets (set l (b + k) v) n vs) (add-suc b k)
+
+pub row-stored : (l : List ℕ) (b v : ℕ) (vs : List ℕ) → stores (set l b v) b 1 vs ≡ sets l b (v ∷ vs)
+row-stored l b v vs = stores-sets (set l b v) b 1 vs ∙ ap (λ (n : ℕ). sets (set l b v) n vs) (add-one b)
 
 -- rows do not overlap
 row-gap : (w i k : ℕ) → k < i → k * w + w ≤ i * w

@@ -6,14 +6,15 @@
 --   1                  the count of live credentials
 --   2                  the next serial
 --   3                  the count of credential rows in use
---   lineBase ..        200 rows of 10: a formula line's (document 01: a wording's) letter, a, b, its first interval
---                      and its second, each from and to; then its formula's size, whether it is plain and whether it
---                      is balanced (1 or 0), kept so that no later request goes through the formula's parts again
---   credentialBase ..  1,024 rows of 5: a credential's (a coupon's) serial, kind (0 linear: single-use, 1
+--   lineBase ..        200 rows of 14: a formula line's (document 01: a wording's) letter, a, b, its first interval
+--                      and its second, each from, to, first, last; then its formula's size, whether it is plain and
+--                      whether it is balanced (1 or 0), kept so that no later request goes through the formula's
+--                      parts again
+--   credentialBase ..  1,024 rows of 7: a credential's (a coupon's) serial, kind (0 linear: single-use, 1
 --                      unrestricted: standing, 2 for one that has left: a gap), formula number (wording), and its
---                      interval (window), from and to. Rows stand in the order of their serials, and a row that
---                      leaves is only marked, so that no other one moves; there are twice as many rows as may live,
---                      and when all are in use the live ones are moved together
+--                      interval (window), from, to, first, last. Rows stand in the order of their serials, and a row
+--                      that leaves is only marked, so that no other one moves; there are twice as many rows as may
+--                      live, and when all are in use the live ones are moved together
 --   hintBase ..        1,024 hints: at serial mod 1,024 the row where the credential of that serial may stand. A hint
 --                      is only a guess that the search tests first: nothing is asked of its value
 use mathlib.Core.List.{List, [], _∷_}
@@ -41,7 +42,7 @@ lineBase = 4
 
 -- in a row the line's own numbers stand before its formula's size, plain and balanced
 abbrev pub sizeCell : ℕ
-sizeCell = 7
+sizeCell = 11
 
 abbrev pub plainCell : ℕ
 plainCell = sizeCell + 1
@@ -56,7 +57,7 @@ abbrev pub credentialBase : ℕ
 credentialBase = lineBase + maxFormulas * lineWidth
 
 abbrev pub credentialWidth : ℕ
-credentialWidth = 5
+credentialWidth = 7
 
 -- how many credential rows there are: twice as many as may live
 abbrev pub maxRows : ℕ
@@ -112,7 +113,13 @@ unfoldable pub lineCell : List ℕ → ℕ → ℕ → ℕ
 lineCell l i f = cell l lineBase lineWidth i f
 
 abbrev pub rowFrom : (ℕ → ℕ) → Row
-rowFrom g = record { letter = g 0; a = g 1; b = g 2; first = span (g 3) (g 4); second = span (g 5) (g 6) }
+rowFrom g = record {
+  letter = g 0;
+  a = g 1;
+  b = g 2;
+  first = span (g 3) (g 4) (g 5) (g 6);
+  second = span (g 7) (g 8) (g 9) (g 10);
+}
 
 -- the row of a formula's number; a number that names none reads as 1
 unfoldable pub rowAt : List ℕ → ℕ → Row
@@ -130,7 +137,9 @@ balancedAt l n = lineCell l n balancedCell
 
 abbrev pub lineCells : Row → ℕ → Bool → Bool → List ℕ
 lineCells r size plain balanced =
-    r .letter ∷ r .a ∷ r .b ∷ r .first .from ∷ r .first .to ∷ r .second .from ∷ r .second .to ∷
+    let v = r .first in
+    let w = r .second in
+    r .letter ∷ r .a ∷ r .b ∷ v .from ∷ v .to ∷ v .first ∷ v .last ∷ w .from ∷ w .to ∷ w .first ∷ w .last ∷
     size ∷ bit plain ∷ bit balanced ∷ []
 
 unfoldable pub putLine : List ℕ → ℕ → Row → ℕ → Bool → Bool → List ℕ
@@ -146,7 +155,12 @@ kindNumber Linear = 0
 kindNumber Unrestricted = 1
 
 abbrev pub credentialFrom : (ℕ → ℕ) → Credential
-credentialFrom g = record { serial = g 0; kind = kindFrom (g 1); formula = g 2; interval = span (g 3) (g 4) }
+credentialFrom g = record {
+  serial = g 0;
+  kind = kindFrom (g 1);
+  formula = g 2;
+  interval = span (g 3) (g 4) (g 5) (g 6);
+}
 
 -- cell f of row i, and its place in the list
 abbrev pub credentialCell : List ℕ → ℕ → ℕ → ℕ
@@ -168,7 +182,8 @@ entryAt l i = pick (gapAt l i) none (some (credentialAt l i))
 
 abbrev pub credentialCells : Credential → List ℕ
 credentialCells c =
-    c .serial ∷ kindNumber (c .kind) ∷ c .formula ∷ c .interval .from ∷ c .interval .to ∷ []
+    let i = c .interval in
+    c .serial ∷ kindNumber (c .kind) ∷ c .formula ∷ i .from ∷ i .to ∷ i .first ∷ i .last ∷ []
 
 unfoldable pub putCredential : List ℕ → ℕ → Credential → List ℕ
 putCredential l i c = putRow l credentialBase credentialWidth i (credentialCells c)

@@ -55,6 +55,8 @@ pub fn credential(store: &Store, i: u32) -> Credential
         interval: Interval {
             from: store[at + 3],
             to: store[at + 4],
+            first: store[at + 5],
+            last: store[at + 6],
         },
     }
 }
@@ -86,6 +88,8 @@ pub fn put_credential(store: &mut Store, i: u32, c: Credential)
     store[at + 2] = c.formula;
     store[at + 3] = w.from;
     store[at + 4] = w.to;
+    store[at + 5] = w.first;
+    store[at + 6] = w.last;
 }
 
 // The row where the credential of a serial may stand: any number may be answered.

@@ -8,7 +8,7 @@ pub mod lines;
 // where the formula rows start; how many numbers a line has, and what stands after them; how wide a row is
 const LINES: usize = 4;
 
-const SIZE: usize = 7;
+const SIZE: usize = 11;
 
 const PLAIN: usize = SIZE + 1;
 
@@ -19,7 +19,7 @@ const LINE_WIDTH: usize = BALANCED + 1;
 // where the credential rows start, how wide they are and how many there are: twice as many as may live
 const CREDENTIALS: usize = LINES + ledger::MAX_FORMULAS as usize * LINE_WIDTH;
 
-const CREDENTIAL_WIDTH: usize = 5;
+const CREDENTIAL_WIDTH: usize = 7;
 
 pub const ROWS: u32 = 2 * ledger::MAX_LIVE;
 

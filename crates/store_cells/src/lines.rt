@@ -25,10 +25,14 @@ pub fn line_row(store: &Store, i: u32) -> Row
         first: Interval {
             from: store[at + 3],
             to: store[at + 4],
+            first: store[at + 5],
+            last: store[at + 6],
         },
         second: Interval {
-            from: store[at + 5],
-            to: store[at + 6],
+            from: store[at + 7],
+            to: store[at + 8],
+            first: store[at + 9],
+            last: store[at + 10],
         },
     }
 }
@@ -74,8 +78,12 @@ pub fn put_line(store: &mut Store, i: u32, row: Row, size: u32, plain: bool, bal
     store[at + 2] = row.b;
     store[at + 3] = v.from;
     store[at + 4] = v.to;
-    store[at + 5] = w.from;
-    store[at + 6] = w.to;
+    store[at + 5] = v.first;
+    store[at + 6] = v.last;
+    store[at + 7] = w.from;
+    store[at + 8] = w.to;
+    store[at + 9] = w.first;
+    store[at + 10] = w.last;
     store[at + SIZE] = size;
     store[at + PLAIN] = p;
     store[at + BALANCED] = b;

@@ -18,7 +18,7 @@ fn offer(desk: &mut Desk, part: &Part, good: bool, name: &str) {
     let n = desk.enter(part);
     let mark = BALANCE.iter().find(|b| **b == name).unwrap_or_else(|| panic!("no such name: {name}"));
     let answer = if good { Answer::Done(desk.model.given + 1) } else { Answer::Refused(21, 0) };
-    desk.expect(format!("issue,r,{n},0,9\n").as_bytes(), answer, &[mark]);
+    desk.expect(format!("issue,r,{n},0,9,0,0\n").as_bytes(), answer, &[mark]);
 }
 
 /// Marks the last sheet, which offered this wording, where a byte could not tell whether it is balanced.
@@ -163,8 +163,8 @@ fn not_plain() -> Session {
     for b in &bad {
         for part in [b.clone(), tensor(b, &f), tensor(&f, b), says(1, &tensor(&f, &says(2, b)))] {
             let n = desk.enter(&part);
-            desk.refuse(format!("issue,s,{n},0,9\n").as_bytes(), 20, "not plain");
-            let book = format!("book,3,{n},0,9,1,1\nhold,{kept}\nax,0\n");
+            desk.refuse(format!("issue,s,{n},0,9,0,0\n").as_bytes(), 20, "not plain");
+            let book = format!("book,3,{n},0,9,0,0,1,1\nhold,{kept}\nax,0\n");
             desk.refuse(book.as_bytes(), 20, "not plain");
         }
     }
@@ -200,7 +200,7 @@ pub fn random(seed: u64) -> Session {
             offer(&mut desk, &part, true, "offer at random");
             mark_alike(&mut desk, &part);
             let n = desk.enter(&other);
-            desk.play(format!("issue,r,{n},0,9\n").as_bytes(), Steps::Close);
+            desk.play(format!("issue,r,{n},0,9,0,0\n").as_bytes(), Steps::Close);
             mark_alike(&mut desk, &other);
         }
     }

@@ -70,8 +70,12 @@ pub fn place(desk: &mut Desk, deriv: Deriv, holds: Vec<Hold>, now: u32) -> Optio
 
 impl Booking {
     pub fn sheet(&self, serials: &[u32], steps: &[String]) -> Vec<u8> {
-        let (w, h, n) = (self.window, serials.len(), steps.len());
-        let mut text = format!("book,{},{},{},{},{h},{n}\n", self.now, self.goal, w.from, w.to);
+        self.sheet_at(self.now, self.window, serials, steps)
+    }
+
+    pub fn sheet_at(&self, now: u32, w: Window, serials: &[u32], steps: &[String]) -> Vec<u8> {
+        let (h, n) = (serials.len(), steps.len());
+        let mut text = format!("book,{now},{},{},{h},{n}\n", self.goal, w.text());
         serials.iter().for_each(|s| text += &format!("hold,{s}\n"));
         steps.iter().for_each(|s| text += &format!("{s}\n"));
         text.into_bytes()
@@ -112,6 +116,7 @@ impl Booking {
         marks.extend((self.holds.len() == 32).then_some("32 holds"));
         marks.extend(self.two_within_two().then_some("two premises within two"));
         marks.extend(self.singles_alike().then_some("alike: both in one booking"));
+        marks.extend(self.right_by_break());
         for h in self.holds.iter().filter(|h| h.standing) {
             let mut parts = vec![];
             h.wording.collect(&mut parts);
@@ -127,6 +132,25 @@ impl Booking {
         let singles = self.holds.iter().filter(|h| !h.standing);
         let all: Vec<u32> = singles.flat_map(|h| h.wording.sessions()).collect();
         all.iter().any(|s| all.iter().any(|t| alike(*s, *t)))
+    }
+
+    /// Steps that compare windows and are right only by a break of the inner one.
+    fn right_by_break(&self) -> Vec<&'static str> {
+        let mut marks = vec![];
+        for (line, scene) in self.script.lines.iter().zip(&self.script.scenes) {
+            let l = scene.d.iter().find(|h| Some(h.label) == line.label).map(|h| h.window);
+            let inner = line.window.unwrap_or(scene.goal.window);
+            let (place, outer, inner) = match (line.letters, l, &*scene.goal.wording) {
+                ("ax", Some(w), _) => (0, w, inner),
+                ("sl", Some(w), _) => (1, w, inner),
+                ("ll", Some(w), _) => (2, w, inner),
+                ("ul", Some(w), _) => (3, w, inner),
+                ("gr", _, Wording::Covers(outer, inner)) => (4, *outer, *inner),
+                _ => continue,
+            };
+            marks.extend((!outer.contains(inner.whole())).then_some(RIGHT_BY_BREAK[place]));
+        }
+        marks
     }
 
     fn two_within_two(&self) -> bool {
@@ -154,6 +178,12 @@ impl Booking {
         }
     }
 }
+
+/// Marks of accepted bookings that come by chance.
+pub const RIGHT_BY_BREAK: [&str; 5] = [
+    "by chance: ax right by a break", "by chance: sl right by a break", "by chance: ll right by a break",
+    "by chance: ul right by a break", "by chance: gr right by a break",
+];
 
 pub const LETTERS: &str = "aotwplubhsg";
 pub const STANDING: [&str; 11] = [

@@ -9,6 +9,20 @@ macro_rules! ways {
     ($($letters:literal)*; $clause:literal) => { [$(concat!($letters, ": ", $clause)),*] };
 }
 
+macro_rules! over_break {
+    ($letters:literal) => {
+        [
+            concat!($letters, ": window over L's break"),
+            concat!($letters, ": window ends in L's break"),
+            concat!($letters, ": window begins in L's break"),
+            concat!($letters, ": window in L's break"),
+            concat!($letters, ": break begins after L's"),
+            concat!($letters, ": break ends before L's"),
+            concat!($letters, ": break beside L's"),
+        ]
+    };
+}
+
 pub const LEFTS: [(&str, char); 11] = [
     ("ax", 'a'), ("tl", 't'), ("ol", 'o'), ("w1", 'w'), ("w2", 'w'), ("pl", 'p'),
     ("ll", 'l'), ("ul", 'u'), ("bl", 'b'), ("hl", 'h'), ("sl", 's'),
@@ -42,12 +56,15 @@ pub const REST: [&str; 27] = [
     "ul: window overlaps behind",
 ];
 
+/// J against a break in L's window.
+pub const OVER_BREAK: [[&str; 7]; 2] = [over_break!("ll"), over_break!("ul")];
+
 /// Rare in a derivation that closes, and made on purpose elsewhere.
 const RARE: [&str; 3] = ["sl: window", "sl: other principal", "ax: other atom"];
 
 /// The name as it stands in the lists above.
 pub fn way(text: &str) -> &'static str {
-    let known = REST.iter().chain(&RARE).find(|w| **w == text);
+    let known = REST.iter().chain(&RARE).chain(OVER_BREAK.iter().flatten()).find(|w| **w == text);
     known.unwrap_or_else(|| panic!("no such way: {text}"))
 }
 
@@ -219,12 +236,33 @@ fn sticking_out(outer: Window) -> Vec<(&'static str, Window)> {
     let room_before = outer.from > 0;
     let room_behind = outer.to < LAST_MINUTE;
     if room_before {
-        out.push(("from too early", window(outer.from - 1, outer.to)));
-        out.push(("overlaps before", window(outer.from - 1, outer.from)));
+        out.push(("window from too early", Window { from: outer.from - 1, ..outer }));
+        out.push(("window overlaps before", window(outer.from - 1, outer.from)));
     }
     if room_behind {
-        out.push(("to too late", window(outer.from, outer.to + 1)));
-        out.push(("overlaps behind", window(outer.to, outer.to + 1)));
+        out.push(("window to too late", Window { to: outer.to + 1, ..outer }));
+        out.push(("window overlaps behind", window(outer.to, outer.to + 1)));
+    }
+    out
+}
+
+/// Windows with ends in order that meet the outer one's break.
+fn over_break(w: Window) -> Vec<(&'static str, Window)> {
+    if !w.has_break() {
+        return vec![];
+    }
+    let mut out = vec![
+        ("window over L's break", w.whole()),
+        ("window ends in L's break", window(w.from, w.first)),
+        ("window begins in L's break", window(w.last, w.to)),
+        ("window in L's break", window(w.first, w.last)),
+    ];
+    if w.first < w.last {
+        out.push(("break begins after L's", Window { first: w.first + 1, ..w }));
+        out.push(("break ends before L's", Window { last: w.last - 1, ..w }));
+    }
+    if w.from + 1 < w.first {
+        out.push(("break beside L's", Window { first: w.first - 1, last: w.first - 1, ..w }));
     }
     out
 }
@@ -232,8 +270,8 @@ fn sticking_out(outer: Window) -> Vec<(&'static str, Window)> {
 fn windows(s: &Scene, out: &mut Vec<Broken>) {
     for (letters, letter) in [("ll", 'l'), ("ul", 'u')] {
         for h in s.d.iter().filter(|h| h.wording.letter() == letter) {
-            for (what, w) in sticking_out(h.window) {
-                let name = way(&format!("{letters}: window {what}"));
+            for (what, w) in [sticking_out(h.window), over_break(h.window)].concat() {
+                let name = way(&format!("{letters}: {what}"));
                 out.push((name, StepLine { window: Some(w), ..on(letters, h) }));
             }
         }

@@ -19,8 +19,8 @@ fn sizes() -> Session {
     desk.script("word,t,4,4", "ok,5", "size 63");
     desk.script("word,l,4,4", "ok,6", "size 63");
     desk.script("word,b,5", "ok,7", "size 64");
-    desk.script("word,h,6,1,2", "ok,8", "size 64");
-    for line in ["s,1,7", "b,8", "h,7,3,4"] {
+    desk.script("word,h,6,1,2,0,0", "ok,8", "size 64");
+    for line in ["s,1,7", "b,8", "h,7,3,4,0,0"] {
         desk.script(&format!("word,{line}"), "no,12,0", "size 65");
     }
     // 31 + 33 and one: 65; 31 + 32 and one: 64.
@@ -39,8 +39,8 @@ fn sizes() -> Session {
 
 fn wordings() -> Session {
     let mut desk = Desk::new();
-    desk.words(&["a,1,7", "o", "s,0,0", "h,0,0,9", "g,0,9,0,9", "b,1", "w,0,0", "p,0,0", "u,1,1", "l,0,0"]);
-    for line in ["a,1,7", "o", "s,0,0", "h,0,0,9", "g,0,9,0,9", "b,1", "w,0,0", "p,0,0", "u,1,1", "l,0,0"] {
+    desk.words(&["a,1,7", "o", "s,0,0", "h,0,0,9,0,0", "g,0,9,0,0,0,9,0,0", "b,1", "w,0,0", "p,0,0", "u,1,1", "l,0,0"]);
+    for line in ["a,1,7", "o", "s,0,0", "h,0,0,9,0,0", "g,0,9,0,0,0,9,0,0", "b,1", "w,0,0", "p,0,0", "u,1,1", "l,0,0"] {
         desk.script(&format!("word,{line}"), "no,13,0", "line there already");
     }
     for n in 10..199 {
@@ -48,13 +48,13 @@ fn wordings() -> Session {
     }
     desk.script("word,a,1,7", "no,13,0", "line there already");
     desk.script("word,a,250,250", "ok,199", "199 wordings there");
-    for line in ["a,250,251", "t,0,1", "g,0,9,0,8", "s,7,199"] {
+    for line in ["a,250,251", "t,0,1", "g,0,9,0,0,0,8,0,0", "s,7,199"] {
         desk.script(&format!("word,{line}"), "no,14,0", "200 wordings there");
     }
     desk.script("word,a,1,7", "no,13,0", "line there already, 200 there");
     desk.script("word,a,250,250", "no,13,0", "line there already, 200 there");
-    desk.script("issue,s,199,0,9", "ok,1", "");
-    desk.script("issue,s,200,0,9", "no,10,0", "");
+    desk.script("issue,s,199,0,9,0,0", "ok,1", "");
+    desk.script("issue,s,200,0,9,0,0", "no,10,0", "");
     desk.session("wordings", 0)
 }
 
@@ -73,13 +73,13 @@ fn book(desk: &mut Desk, holds: &[u32], steps: &str, good: bool, name: &'static 
     let lines: String = holds.iter().map(|s| format!("hold,{s}|")).collect();
     let goal = if steps.starts_with("tr") { 1 } else { 0 };
     let answer = if good { format!("ok,{}", desk.model.given + 1) } else { "no,22,0".to_string() };
-    desk.script(&format!("book,3,{goal},2,8,{h},{n}|{lines}{steps}"), &answer, name);
+    desk.script(&format!("book,3,{goal},2,8,0,0,{h},{n}|{lines}{steps}"), &answer, name);
 }
 
 /// An issue of each kind when the till is full, or one that has place.
 fn issue(desk: &mut Desk, kind: char, good: bool, name: &'static str) {
     let answer = if good { format!("ok,{}", desk.model.given + 1) } else { "no,22,0".to_string() };
-    desk.script(&format!("issue,{kind},0,0,9"), &answer, name);
+    desk.script(&format!("issue,{kind},0,0,9,0,0"), &answer, name);
 }
 
 fn coupons(seed: u64) -> Session {

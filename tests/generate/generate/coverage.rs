@@ -24,7 +24,7 @@ const MORE: [&str; 6] = [
     "tally", "damaged at random", "empty sheet", "range: last wording there",
     "range: first wording not there", "range: first serial not given",
 ];
-const REFUSALS: [u32; 16] = [1, 2, 3, 10, 12, 13, 14, 20, 21, 22, 24, 30, 31, 40, 41, 42];
+const REFUSALS: [u32; 17] = [1, 2, 3, 10, 12, 13, 14, 20, 21, 22, 24, 30, 31, 40, 41, 42, 43];
 
 /// Everything that must be reached, in groups.
 fn required(long: bool) -> Vec<(&'static str, Vec<String>)> {
@@ -33,10 +33,14 @@ fn required(long: bool) -> Vec<(&'static str, Vec<String>)> {
     refusals.extend(long.then(|| "refusal 23".to_string()));
     let rules = [
         &breaks::OF_R[..], &breaks::SPENT, &breaks::NEVER, &breaks::OTHER, &breaks::GOAL_OTHER,
-        &breaks::GOAL_AFFIRMS, &breaks::REST,
+        &breaks::GOAL_AFFIRMS, &breaks::REST, &breaks::OVER_BREAK.concat(),
     ];
     let later = [&late::LATE[..], &slips::ARMS, &slips::JOINED, &slips::NAMES, &slips::ARROWS];
     let at_once = [&pairs::BOOK_PAIRS[..], &pairs::STEP_ORDER, &pairs::CALL_PAIRS];
+    let by_break = [&spans::RIGHT_BY_BREAK[..], &spans::WRONG_BY_BREAK];
+    let about_breaks = [
+        &midday::FITS[..], &midday::ORDER, &midday::NOW, &midday::TALLY, &model::TALLIED, &midday::JOINED, &midday::M1,
+    ];
     let past_255 = [&tour::ENDS.concat()[..], &tour::TOUR];
     let mut groups = vec![
         ("refusal numbers", refusals),
@@ -47,7 +51,7 @@ fn required(long: bool) -> Vec<(&'static str, Vec<String>)> {
         ("faults found later", all(&later.concat())),
         ("every step on every connective", all(&matrix::MATRIX)),
         ("label 64", all(&late::WANTS_64)),
-        ("windows", all(&spans::SPANS)),
+        ("windows", all(&[&spans::SPANS[..], &spans::NEW_COUPON].concat())),
         ("balance", all(&balance::BALANCE)),
         ("limits of the till", all(&capacity::CAPACITY)),
         ("ranges", all(&[&ranges::RANGES[..], &ranges::BACKWARD, &MORE].concat())),
@@ -57,6 +61,13 @@ fn required(long: bool) -> Vec<(&'static str, Vec<String>)> {
         ("document 01's sessions", all(&papers::PAPERS)),
         ("session numbers past 255", all(&past_255.concat())),
         ("sessions alike, by chance", all(&tour::ALIKE)),
+        ("breaks in all relations, for each rule", all(&relation::RELATIONS.concat())),
+        ("right or wrong only by a break", all(&by_break.concat())),
+        ("right only by a break, by chance", all(&booking::RIGHT_BY_BREAK)),
+        ("all pairs of small windows", all(&grid::GRID)),
+        ("43 in every place", all(&midday::MISFITS.concat())),
+        ("fields of a window, in every place", all(&midday::FORM.concat())),
+        ("about breaks", all(&about_breaks.concat())),
     ];
     groups.extend(long.then(|| ("the last serial", all(&long::LONG))));
     groups

@@ -21,28 +21,28 @@ fn mark_of(name: &str) -> &'static str {
 /// A good sheet of each kind, with its answer when they are played in this order.
 const GOOD: [(&str, &str); 14] = [
     ("word,a,12,34", "ok,5"), ("word,o", "ok,6"), ("word,t,1,2", "ok,7"), ("word,b,1", "ok,8"),
-    ("word,h,1,23,45", "ok,9"), ("word,s,6,1", "ok,10"), ("word,g,12,34,56,78", "ok,11"),
+    ("word,h,1,23,45,30,31", "ok,9"), ("word,s,6,1", "ok,10"), ("word,g,12,34,0,0,56,78,60,77", "ok,11"),
     ("word,a,1,65535", "ok,12"),
-    ("issue,s,1,23,45", "ok,4"), ("issue,r,4,10,60", "ok,5"), ("withdraw,4", "ok,4"),
+    ("issue,s,1,23,45,24,44", "ok,4"), ("issue,r,4,10,60,0,0", "ok,5"), ("withdraw,4", "ok,4"),
     ("tally,7,1234567", "ok,0,1,0"), ("tally,65535,50", "ok,0,0,0"),
-    ("book,15,1,10,20,2,4|hold,1|hold,2|cp,0|ll,2,0000000000000002,10,20|ax,1|ax,3", "ok,6"),
+    ("book,15,1,10,20,17,18,2,4|hold,1|hold,2|cp,0|ll,2,0000000000000002,10,20,17,18|ax,1|ax,3", "ok,6"),
 ];
 
 /// Step lines of every form, for a booking that is refused at its first step when undamaged.
 fn every_form() -> (Vec<u8>, Answer) {
     let steps = "af|ax,12|cp,12|tr,00000000000000ab|tl,1|or|ol,1|wr|w1,1|w2,1|p1|p2|pl,1\
-        |ll,12,00000000000000cd,12,34|ul,12,34,56|br|bl,1|hr|hl,1|sr|sl,1|gr";
+        |ll,12,00000000000000cd,12,34,23,24|ul,12,34,56,45,46|br|bl,1|hr|hl,1|sr|sl,1|gr";
     let n = steps.split('|').count();
-    (sheet_of(&format!("book,15,1,10,20,2,{n}|hold,1|hold,2|{steps}")), Answer::Refused(40, 1))
+    (sheet_of(&format!("book,15,1,10,20,12,13,2,{n}|hold,1|hold,2|{steps}")), Answer::Refused(40, 1))
 }
 
 /// Serials: 1 the standing a ⊸ a, 2 an a, 3 a seat.
 fn with_coupons() -> Desk {
     let mut desk = Desk::new();
     desk.words(&["a,1,7", "a,9,7", "s,3,1", "l,1,1", "a,9,8"]);
-    desk.script("issue,r,3,0,99", "ok,1", "");
-    desk.script("issue,s,1,0,99", "ok,2", "");
-    desk.script("issue,s,0,0,99", "ok,3", "");
+    desk.script("issue,r,3,0,99,0,0", "ok,1", "");
+    desk.script("issue,s,1,0,99,0,0", "ok,2", "");
+    desk.script("issue,s,0,0,99,0,0", "ok,3", "");
     desk
 }
 
@@ -250,14 +250,17 @@ fn at_random(rng: &mut Rng, sheet: &[u8]) -> Vec<u8> {
 pub fn random(seed: u64) -> Session {
     let mut rng = Rng::new(seed);
     let mut desk = with_coupons();
-    let calls = ["word,h,1,23,45", "issue,s,1,23,45", "issue,r,3,10,60", "withdraw,2", "tally,7,50"];
+    let calls = [
+        "word,h,1,23,45,30,31", "issue,s,1,23,45,25,36", "issue,r,3,10,60,0,0", "withdraw,2", "tally,7,50",
+    ];
     for _ in 0..60 {
         let sheet = sheet_of(rng.pick(&calls));
         let bad = at_random(&mut rng, &sheet);
         desk.play(&bad, Steps::Unknown);
         desk.mark(&[RANDOM]);
     }
-    let book = sheet_of("book,15,1,10,20,2,4|hold,1|hold,2|cp,0|ll,2,0000000000000002,10,20|ax,1|ax,3");
+    let steps = "cp,0|ll,2,0000000000000002,10,20,16,18|ax,1|ax,3";
+    let book = sheet_of(&format!("book,15,1,10,20,16,18,2,4|hold,1|hold,2|{steps}"));
     for _ in 0..25 {
         let bad = at_random(&mut rng, &book);
         desk.play(&bad, Steps::Unknown);

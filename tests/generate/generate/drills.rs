@@ -70,8 +70,10 @@ fn right_step(g: &mut Grower, letters: &'static str, goal: Window) -> Deriv {
         "p1" => p(true, g.axiom(x, goal), &y),
         "p2" => p(false, g.axiom(x, goal), &y),
         "br" => br(or(goal)),
+        "hr" if goal.has_break() => hr(g.axiom(x, with_break(5, 9, 6, 7)), goal),
         "hr" => hr(g.axiom(x, window(5, 6)), goal),
         "sr" => sr(af(g.axiom(x, goal), 2)),
+        _ if goal.has_break() => gr(with_break(3, 9, 5, 6), with_break(4, 9, 5, 7), goal),
         _ => gr(window(3, 9), window(4, 9), goal),
     }
 }
@@ -135,23 +137,32 @@ pub fn exercise(b: &Booking, desk: &mut Desk, g: &mut Grower, seen: &mut Seen, b
     late::unused_single(b, desk, g.rng);
     late::missing_single(b, desk);
     late::alike_single(b, desk, g.rng);
+    late::broken_single(b, desk, g.rng);
+    late::outside(b, desk);
+    late::misfit(b, desk, g.rng);
     late::ends(b, desk, g.rng);
     late::label_64(b, desk, g, seen, 1 + breaks / 5);
     b.accept(desk);
 }
 
-pub fn session(letters: &'static str, seed: u64, seen: &mut Seen) -> Session {
+/// The drill in a window without a break, or with one beside now.
+pub fn session(letters: &'static str, paused: bool, seed: u64, seen: &mut Seen) -> Session {
     let mut rng = Rng::new(seed);
     let mut world = World::new(&mut rng);
     world.now = 540;
     let mut desk = Desk::new();
     let mut g = Grower::new(&mut rng, &world);
     let from = g.rng.between(10, 540);
-    let goal = window(from, g.rng.between(540, 900));
+    let mut goal = window(from, g.rng.between(540, 900));
+    if paused {
+        let before = with_break(from.min(520), goal.to, g.rng.between(522, 530), g.rng.between(531, 539));
+        let behind = with_break(from, goal.to.max(570), g.rng.between(541, 549), g.rng.between(550, 560));
+        goal = g.rng.pick(&[before, behind]);
+    }
     let deriv = drill(&mut g, letters, goal);
     let holds = holds_for(&deriv, g.rng);
     let b = place(&mut desk, deriv, holds, 540).expect("a drill fits");
     exercise(&b, &mut desk, &mut g, seen, 32);
     desk.tallies(&mut rng, 4);
-    desk.session(&format!("drill {letters}"), seed)
+    desk.session(&format!("drill {letters}{}", if paused { ", with a break" } else { "" }), seed)
 }

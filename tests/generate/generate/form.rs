@@ -1,6 +1,6 @@
 //! The form of a sheet (η-logic's request): lines, fields and ranges, and nothing else.
 
-use super::wording::{window, Window, LAST_MINUTE, LAST_SESSION};
+use super::wording::{with_break, Window, LAST_MINUTE, LAST_SESSION};
 
 #[derive(Clone, Copy, PartialEq, Eq, Debug)]
 pub enum Kind {
@@ -79,8 +79,10 @@ fn share(field: &str) -> Option<()> {
     (field.len() == 16 && good).then_some(())
 }
 
-fn span(from: &str, to: &str) -> Option<Window> {
-    Some(window(minute(from)?, minute(to)?))
+/// The four fields of a window.
+fn span(fields: &[&str]) -> Option<Window> {
+    let [from, to, first, last] = fields else { return None };
+    Some(with_break(minute(from)?, minute(to)?, minute(first)?, minute(last)?))
 }
 
 fn wording_line(fields: &[&str]) -> Option<WordingLine> {
@@ -96,15 +98,15 @@ fn wording_line(fields: &[&str]) -> Option<WordingLine> {
         ["o"] => {}
         ["t" | "w" | "p" | "l" | "u", i, j] => line.refs = vec![wording(i)?, wording(j)?],
         ["b", i] => line.refs = vec![wording(i)?],
-        ["h", i, from, to] => {
+        ["h", i, w @ ..] => {
             line.refs = vec![wording(i)?];
-            line.windows = vec![span(from, to)?];
+            line.windows = vec![span(w)?];
         }
         ["s", k, i] => {
             line.numbers = vec![byte(k)?];
             line.refs = vec![wording(i)?];
         }
-        ["g", a, b, c, d] => line.windows = vec![span(a, b)?, span(c, d)?],
+        ["g", a, b, c, d, w @ ..] => line.windows = vec![span(&[a, b, c, d])?, span(w)?],
         _ => return None,
     }
     Some(line)
@@ -120,14 +122,14 @@ fn step_line(line: &str) -> Option<Vec<Window>> {
             Some(vec![])
         }
         ["tr", s] => share(s).map(|()| vec![]),
-        ["ll", l, s, from, to] => {
+        ["ll", l, s, w @ ..] => {
             label(l)?;
             share(s)?;
-            Some(vec![span(from, to)?])
+            Some(vec![span(w)?])
         }
-        ["ul", l, from, to] => {
+        ["ul", l, w @ ..] => {
             label(l)?;
-            Some(vec![span(from, to)?])
+            Some(vec![span(w)?])
         }
         _ => None,
     }
@@ -138,7 +140,7 @@ fn hold_line(line: &str) -> Option<u32> {
 }
 
 fn book(fields: &[&str], rest: &[&str]) -> Option<Sheet> {
-    let [now, goal, from, to, holds, steps] = fields else { return None };
+    let [now, goal, w @ .., holds, steps] = fields else { return None };
     let (holds, steps) = (number(holds, 0, 32)? as usize, number(steps, 1, 256)? as usize);
     if rest.len() != holds + steps {
         return None;
@@ -146,7 +148,7 @@ fn book(fields: &[&str], rest: &[&str]) -> Option<Sheet> {
     let mut head = BookHead {
         now: minute(now)?,
         wording: wording(goal)?,
-        window: span(from, to)?,
+        window: span(w)?,
         holds: vec![],
         step_windows: vec![],
     };
@@ -170,9 +172,9 @@ fn lines(text: &str) -> Option<Sheet> {
     }
     match fields.as_slice() {
         ["word", line @ ..] => wording_line(line).map(Sheet::Word),
-        ["issue", kind @ ("s" | "r"), w, from, to] => {
+        ["issue", kind @ ("s" | "r"), n, w @ ..] => {
             let kind = if *kind == "s" { Kind::Single } else { Kind::Standing };
-            Some(Sheet::Issue(kind, wording(w)?, span(from, to)?))
+            Some(Sheet::Issue(kind, wording(n)?, span(w)?))
         }
         ["withdraw", s] => serial(s).map(Sheet::Withdraw),
         ["tally", s, m] => Some(Sheet::Tally(session(s)?, minute(m)?)),
@@ -180,7 +182,7 @@ fn lines(text: &str) -> Option<Sheet> {
     }
 }
 
-/// Checks 1 to 3, which look at the sheet alone; else the sheet.
+/// Checks 1 to 3 and 43, which look at the sheet alone; else the sheet.
 pub fn read(sheet: &[u8]) -> Result<Sheet, u32> {
     if sheet.len() > 16_384 {
         return Err(1);
@@ -195,6 +197,9 @@ pub fn read(sheet: &[u8]) -> Result<Sheet, u32> {
     };
     if windows.iter().any(|w| w.from > w.to) {
         return Err(3);
+    }
+    if !windows.iter().all(|w| w.break_fits()) {
+        return Err(43);
     }
     Ok(sheet)
 }

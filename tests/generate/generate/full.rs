@@ -68,7 +68,7 @@ pub fn session(seed: u64) -> Session {
     let world = World::new(&mut rng);
     let mut desk = Desk::new();
     let mut g = Grower::new(&mut rng, &world);
-    let w = window(3, 8);
+    let w = with_break(3, 8, 6, 7);
     for (steps, labels) in [(256, 40), (255, 64), (256, 64), (257, 30), (200, 65), (200, 66), (180, 63)] {
         let deriv = sized(&mut g, steps, labels, w);
         let holds = holds_for(&deriv, g.rng);
@@ -84,5 +84,7 @@ pub fn session(seed: u64) -> Session {
     desk.tally(7, 3);
     desk.tally(8, 9);
     desk.tally(263, 3);
+    desk.tally(7, 6);
+    desk.tally(8, 7);
     desk.session("full bookings", seed)
 }

@@ -5,18 +5,22 @@ use super::breaks::breaks;
 use super::derivation::{bl, left, Deriv};
 use super::form::Kind;
 use super::grow::Grower;
+use super::midday::misfits;
 use super::model::Answer;
 use super::rng::Rng;
 use super::session::Desk;
 use super::wording::*;
+use super::world::minutes_of;
 use super::write::{Hold, Script, StepLine};
 
-pub const LATE: [&str; 16] = [
+pub const LATE: [&str; 23] = [
     "tr: label moved left", "tr: label moved right", "ll: label moved to the share",
     "ll: label moved to the rest", "ax: unused single", "or: unused single", "br: unused single",
     "gr: unused single", "42: a step missing", "42: cut short", "42: a step too many",
     "42: many steps too many", "40 where label 64 is wanted", "missing single",
-    "42: cut after a first premise", "ax: single of a session alike",
+    "42: cut after a first premise", "ax: single of a session alike", "ax: single with a break in the goal's minutes",
+    "30: first minute of the break", "30: last minute of the break", "30: before the window", "30: behind the window",
+    "43: in a booking's head", "43: in a booking's step",
 ];
 
 fn late(text: &str) -> &'static str {
@@ -117,6 +121,56 @@ pub fn alike_single(b: &Booking, desk: &mut Desk, rng: &mut Rng) {
     let mark = late("ax: single of a session alike");
     desk.expect(&b.sheet(&serials, &b.texts()), Answer::Refused(40, step), &[mark]);
     desk.expect(format!("withdraw,{serial}\n").as_bytes(), Answer::Done(serial), &["withdraw single"]);
+}
+
+/// For one of the atoms held, the same with a break in minutes that its step needs.
+pub fn broken_single(b: &Booking, desk: &mut Desk, rng: &mut Rng) {
+    let bare = |i: &usize| !b.holds[*i].standing && b.holds[*i].wording.letter() == 'a';
+    let mut all = vec![];
+    for place in (0..b.holds.len()).filter(bare) {
+        let closes = |l: &StepLine| l.letters == "ax" && l.label == Some(place as u32);
+        let step = b.script.lines.iter().position(closes).expect("every single is used");
+        let (outer, inner) = (b.holds[place].window, b.script.scenes[step].goal.window);
+        let inside = minutes_of(inner).into_iter().filter(|m| outer.from < *m && *m < outer.to);
+        all.extend(inside.map(|m| (place, step as u32 + 1, Window { first: m, last: m, ..outer })));
+    }
+    rng.shuffle(&mut all);
+    let Some((place, step, window)) = all.pop() else { return };
+    let serial = desk.issue(Kind::Single, &b.holds[place].wording, window);
+    let mut serials = b.serials.clone();
+    serials[place] = serial;
+    let mark = late("ax: single with a break in the goal's minutes");
+    desk.expect(&b.sheet(&serials, &b.texts()), Answer::Refused(40, step), &[mark]);
+    desk.expect(format!("withdraw,{serial}\n").as_bytes(), Answer::Done(serial), &["withdraw single"]);
+}
+
+/// Now outside the goal's window: beside its ends, and in its break.
+pub fn outside(b: &Booking, desk: &mut Desk) {
+    let w = b.window;
+    let mut all = vec![];
+    if w.has_break() {
+        all.extend([(w.first, "30: first minute of the break"), (w.last, "30: last minute of the break")]);
+    }
+    all.extend((w.from > 0).then(|| (w.from - 1, "30: before the window")));
+    all.extend((w.to < LAST_MINUTE).then_some((w.to + 1, "30: behind the window")));
+    for (now, name) in all {
+        desk.refuse(&b.sheet_at(now, w, &b.serials, &b.texts()), 30, late(name));
+    }
+}
+
+/// A break that does not fit, in the head or in some step.
+pub fn misfit(b: &Booking, desk: &mut Desk, rng: &mut Rng) {
+    let (_, bad) = rng.pick(&misfits(b.window));
+    desk.refuse(&b.sheet_at(b.now, bad, &b.serials, &b.texts()), 43, late("43: in a booking's head"));
+    let mut lines = b.script.lines.clone();
+    let with_window: Vec<usize> = (0..lines.len()).filter(|i| lines[*i].window.is_some()).collect();
+    if with_window.is_empty() {
+        return;
+    }
+    let line = &mut lines[rng.pick(&with_window)];
+    line.window = line.window.map(|w| rng.pick(&misfits(w)).1);
+    let texts: Vec<String> = lines.iter().map(StepLine::text).collect();
+    desk.refuse(&b.sheet(&b.serials, &texts), 43, late("43: in a booking's step"));
 }
 
 /// 42 both ways.

@@ -8,7 +8,7 @@ use super::model::{Coupon, Steps};
 use super::rng::Rng;
 use super::session::{Desk, Session};
 use super::wording::*;
-use super::world::World;
+use super::world::{inside, minutes_of, World};
 use super::write::Hold;
 
 pub const LIFE: [&str; 11] = [
@@ -29,14 +29,13 @@ fn plain(rng: &mut Rng, world: &World, depth: u32) -> Part {
 
 /// A booking of one live single for its own wording, in a window inside its own.
 fn again(desk: &mut Desk, g: &mut Grower, c: &Coupon) -> Option<Booking> {
-    let from = g.rng.between(c.window.from, c.window.to);
-    let inner = window(from, g.rng.between(from, c.window.to));
+    let inner = inside(g.rng, c.window);
     let inner = g.rng.pick(&[inner, c.window]);
     let h = g.hyp(c.wording.clone(), c.window);
     let id = h.id;
     let deriv = g.identity(h, inner);
     let hold = Hold { ids: vec![id], standing: false, wording: c.wording.clone(), window: c.window };
-    let now = g.rng.pick(&[inner.from, inner.to]);
+    let now = g.rng.pick(&minutes_of(inner));
     let mut b = place(desk, deriv, vec![hold], now)?;
     b.serials = vec![c.serial];
     b.fits_limits().then_some(b)
@@ -65,7 +64,7 @@ fn withdraw(desk: &mut Desk, rng: &mut Rng, booked: &[u32], dead: &mut Vec<u32>)
         desk.mark(&["alike: withdrawn beside the other"]);
     }
     dead.push(c.serial);
-    let held = format!("book,0,0,0,0,1,1\nhold,{}\nax,0\n", c.serial);
+    let held = format!("book,0,0,0,0,0,0,1,1\nhold,{}\nax,0\n", c.serial);
     if desk.model.wordings[0].plain() {
         let standing = c.kind == Kind::Standing;
         let name = if standing { "withdrawn standing held" } else { "withdrawn single held" };
@@ -122,7 +121,7 @@ pub fn session(seed: u64, calls: usize) -> Session {
     desk.session("life", seed)
 }
 
-/// Tallies at both ends of every live window, for every session that occurs and one that is alike.
+/// Tallies at the ends of some live windows and of their breaks, for every session that occurs and one that is alike.
 fn every_end(desk: &mut Desk) {
     let named = desk.model.live.iter().flat_map(|c| c.wording.sessions());
     let sessions: std::collections::BTreeSet<u32> = named.flat_map(|s| [s, s ^ 256]).collect();
@@ -131,6 +130,9 @@ fn every_end(desk: &mut Desk) {
         for w in windows.iter().take(4) {
             desk.tally(session, w.from);
             desk.tally(session, (w.to + 1).min(LAST_MINUTE));
+            if w.has_break() {
+                [w.first - 1, w.first, w.last, w.last + 1].iter().for_each(|m| desk.tally(session, *m));
+            }
         }
     }
     desk.play(b"tally,255,0\n", Steps::Close);
@@ -141,10 +143,10 @@ fn every_end(desk: &mut Desk) {
 pub fn fixed() -> Session {
     let mut desk = Desk::new();
     desk.words(&["a,1,7", "l,0,0"]);
-    let booking = |serial: u32| format!("book,5,0,4,9,1,1|hold,{serial}|ax,0");
+    let booking = |serial: u32| format!("book,5,0,4,9,0,0,1,1|hold,{serial}|ax,0");
     for (n, kind) in ["s", "s", "s", "r"].iter().enumerate() {
         let wording = u32::from(*kind == "r");
-        desk.script(&format!("issue,{kind},{wording},0,9"), &format!("ok,{}", n + 1), "");
+        desk.script(&format!("issue,{kind},{wording},0,9,0,0"), &format!("ok,{}", n + 1), "");
     }
     desk.script("tally,7,3", "ok,3,0,0", "tally");
     desk.script(&booking(1), "ok,5", "");
@@ -159,16 +161,16 @@ pub fn fixed() -> Session {
     desk.script(&booking(2), "no,24,0", "withdrawn single held");
     desk.script("withdraw,4", "ok,4", "withdraw standing");
     desk.script("withdraw,4", "no,24,0", "withdraw dead");
-    desk.script("book,5,0,4,9,2,1|hold,3|hold,4|ax,0", "no,24,0", "withdrawn standing held");
+    desk.script("book,5,0,4,9,0,0,2,1|hold,3|hold,4|ax,0", "no,24,0", "withdrawn standing held");
     desk.script("withdraw,7", "no,24,0", "withdraw dead");
-    desk.script("issue,s,0,9,9", "ok,7", "");
+    desk.script("issue,s,0,9,9,0,0", "ok,7", "");
     desk.script("tally,7,9", "ok,2,0,0", "tally");
     desk.script("tally,7,8", "ok,1,1,0", "tally");
     desk.script("tally,7,10", "ok,0,2,0", "tally");
     desk.script("tally,8,9", "ok,0,0,0", "tally");
     desk.words(&["a,2,7", "t,2,2", "s,1,3", "a,1,255", "a,2,0", "t,5,6", "t,0,0"]);
     for (serial, wording) in [(8, 4), (9, 7), (10, 8)] {
-        desk.script(&format!("issue,s,{wording},0,9"), &format!("ok,{serial}"), "");
+        desk.script(&format!("issue,s,{wording},0,9,0,0"), &format!("ok,{serial}"), "");
     }
     desk.script("tally,7,9", "ok,4,0,2", "tally");
     desk.script("tally,255,9", "ok,1,0,0", "tally");
@@ -190,7 +192,7 @@ pub fn many(seed: u64) -> Session {
             desk.script(&format!("withdraw,{serial}"), &format!("ok,{serial}"), "");
             desk.issue(Kind::Single, &seat, w);
         } else {
-            desk.script(&format!("book,5,0,0,9,1,1|hold,{serial}|ax,0"), &format!("ok,{next}"), "");
+            desk.script(&format!("book,5,0,0,9,0,0,1,1|hold,{serial}|ax,0"), &format!("ok,{next}"), "");
         }
     }
     desk.tally(7, 9);

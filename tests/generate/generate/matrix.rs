@@ -12,7 +12,7 @@ pub const MATRIX: [&str; 7] = [
 
 /// A wording of each connective, in the order of `LETTERS`; 0 is an atom, and 11 another.
 const WORDS: [&str; 12] = [
-    "a,9,7", "o", "t,0,0", "w,0,0", "p,0,0", "l,0,0", "u,0,0", "b,0", "h,0,0,9", "s,1,0", "g,0,9,0,9",
+    "a,9,7", "o", "t,0,0", "w,0,0", "p,0,0", "l,0,0", "u,0,0", "b,0", "h,0,0,9,0,0", "s,1,0", "g,0,9,0,0,0,9,0,0",
     "a,8,7",
 ];
 const LETTERS: &str = "aotwplubhsg";
@@ -23,7 +23,7 @@ fn desk() -> Desk {
     let mut desk = Desk::new();
     desk.words(&WORDS);
     for n in 0..WORDS.len() {
-        desk.script(&format!("issue,r,{n},0,9"), &format!("ok,{}", n + 1), "");
+        desk.script(&format!("issue,r,{n},0,9,0,0"), &format!("ok,{}", n + 1), "");
     }
     desk
 }
@@ -32,7 +32,7 @@ fn desk() -> Desk {
 fn offer(desk: &mut Desk, wording: usize) -> u32 {
     let (line, serial) = (desk.model.lines.len(), desk.model.given + 1);
     desk.words(&[&format!("l,{wording},11")]);
-    desk.script(&format!("issue,r,{line},0,9"), &format!("ok,{serial}"), "");
+    desk.script(&format!("issue,r,{line},0,9,0,0"), &format!("ok,{serial}"), "");
     serial
 }
 
@@ -45,8 +45,8 @@ fn end_with(desk: &mut Desk, head: &str, steps: &str, good: bool, name: &'static
 
 fn left_line(letters: &str, label: u32) -> String {
     match letters {
-        "ll" => format!("ll,{label},{EMPTY},0,9"),
-        "ul" => format!("ul,{label},0,9"),
+        "ll" => format!("ll,{label},{EMPTY},0,9,0,0"),
+        "ul" => format!("ul,{label},0,9,0,0"),
         _ => format!("{letters},{label}"),
     }
 }
@@ -57,7 +57,7 @@ fn lefts() -> Session {
     for (letters, own) in LEFTS.iter().filter(|(letters, _)| *letters != "ax") {
         for (n, letter) in LETTERS.chars().enumerate() {
             let line = left_line(letters, 1);
-            let head = |goal: u32| format!("book,5,{goal},0,9,1,{{}}|hold,{}|{{S}}", n + 1);
+            let head = |goal: u32| format!("book,5,{goal},0,9,0,0,1,{{}}|hold,{}|{{S}}", n + 1);
             let fits = letter == *own;
             let plain = fits && *letters != "sl";
             end_with(&mut desk, &head(0), &format!("cp,0|{line}"), plain, MATRIX[0]);
@@ -72,19 +72,19 @@ fn rights() -> Session {
     let mut desk = desk();
     for (n, letter) in LETTERS.chars().enumerate() {
         let serial = offer(&mut desk, n);
-        let start = format!("cp,0|ll,1,{EMPTY},0,9");
-        let head = format!("book,5,11,0,9,1,{{}}|hold,{serial}|{{S}}");
+        let start = format!("cp,0|ll,1,{EMPTY},0,9,0,0");
+        let head = format!("book,5,11,0,9,0,0,1,{{}}|hold,{serial}|{{S}}");
         for (letters, own) in RIGHTS {
             let line = if letters == "tr" { format!("tr,{EMPTY}") } else { letters.to_string() };
             end_with(&mut desk, &head, &format!("{start}|{line}"), letter == own, MATRIX[2]);
         }
-        let head = format!("book,5,11,0,9,2,{{}}|hold,{serial}|hold,{}|{{S}}", n + 1);
-        let steps = "cp,0|cp,1|ll,2,0000000000000008,0,9|ax,3";
+        let head = format!("book,5,11,0,9,0,0,2,{{}}|hold,{serial}|hold,{}|{{S}}", n + 1);
+        let steps = "cp,0|cp,1|ll,2,0000000000000008,0,9,0,0|ax,3";
         end_with(&mut desk, &head, steps, letter == 'a', MATRIX[4]);
         if letter == 'b' {
             let (holds, next) = (format!("hold,{serial}|hold,1"), desk.model.given + 1);
-            let steps = format!("cp,0|ll,2,{EMPTY},0,9|br|cp,1|ax,3|ax,4");
-            desk.script(&format!("book,5,11,0,9,2,6|{holds}|{steps}"), &format!("ok,{next}"), MATRIX[6]);
+            let steps = format!("cp,0|ll,2,{EMPTY},0,9,0,0|br|cp,1|ax,3|ax,4");
+            desk.script(&format!("book,5,11,0,9,0,0,2,6|{holds}|{steps}"), &format!("ok,{next}"), MATRIX[6]);
         }
     }
     desk.session("matrix: right steps", 0)
@@ -99,16 +99,16 @@ fn affirming() -> Session {
             desk.words(&[&format!("s,1,{n}")]);
         }
         let serial = offer(&mut desk, if n > 0 { said } else { 9 });
-        let head = format!("book,5,11,0,9,1,{{}}|hold,{serial}|{{S}}");
+        let head = format!("book,5,11,0,9,0,0,1,{{}}|hold,{serial}|{{S}}");
         for (letters, _) in RIGHTS {
             let line = if letters == "tr" { format!("tr,{EMPTY}") } else { letters.to_string() };
-            let steps = format!("cp,0|ll,1,{EMPTY},0,9|sr|{line}");
+            let steps = format!("cp,0|ll,1,{EMPTY},0,9,0,0|sr|{line}");
             end_with(&mut desk, &head, &steps, false, MATRIX[3]);
         }
-        let head = format!("book,5,11,0,9,2,{{}}|hold,{serial}|hold,{}|{{S}}", n + 1);
-        let steps = "cp,0|cp,1|ll,2,0000000000000008,0,9|sr|ax,3";
+        let head = format!("book,5,11,0,9,0,0,2,{{}}|hold,{serial}|hold,{}|{{S}}", n + 1);
+        let steps = "cp,0|cp,1|ll,2,0000000000000008,0,9,0,0|sr|ax,3";
         end_with(&mut desk, &head, steps, false, MATRIX[3]);
-        end_with(&mut desk, &head, "cp,0|cp,1|ll,2,0000000000000008,0,9|sr|af", true, "");
+        end_with(&mut desk, &head, "cp,0|cp,1|ll,2,0000000000000008,0,9,0,0|sr|af", true, "");
     }
     desk.session("matrix: right steps, goal affirms", 0)
 }
@@ -118,15 +118,15 @@ fn never_taken(first: &str) -> Session {
     let mut desk = Desk::new();
     desk.words(&[first, "a,8,8"]);
     let goal = u32::from(first == "o");
-    desk.script("issue,s,1,0,0", "ok,1", "");
+    desk.script("issue,s,1,0,0,0,0", "ok,1", "");
     for line in ["ax,0", "cp,0", "ol,0", "ax,63", "cp,63", "ol,63"] {
-        let alone = format!("book,0,{goal},0,0,0,2|{line}|ax,0");
+        let alone = format!("book,0,{goal},0,0,0,0,0,2|{line}|ax,0");
         desk.script(&alone, "no,40,1", MATRIX[5]);
     }
     for line in ["ax,1", "cp,1", "ol,1", "ax,63", "cp,63", "ol,63"] {
-        desk.script(&format!("book,0,1,0,0,1,2|hold,1|{line}|ax,0"), "no,40,1", MATRIX[5]);
+        desk.script(&format!("book,0,1,0,0,0,0,1,2|hold,1|{line}|ax,0"), "no,40,1", MATRIX[5]);
     }
-    desk.script("book,0,1,0,0,1,1|hold,1|ax,0", "ok,2", "");
+    desk.script("book,0,1,0,0,0,0,1,1|hold,1|ax,0", "ok,2", "");
     desk.session("matrix: labels never taken", 0)
 }
 

@@ -42,6 +42,12 @@ pub enum Steps {
     Unknown,
 }
 
+/// Tallies about a break.
+pub const TALLIED: [&str; 4] = [
+    "tally: last minute before a break", "tally: first minute of a break", "tally: last minute of a break",
+    "tally: first minute after a break",
+];
+
 /// A coupon (η-logic's credential).
 #[derive(Clone, Debug)]
 pub struct Coupon {
@@ -153,6 +159,17 @@ impl Model {
     pub fn seated(&self, of: &dyn Fn(u32) -> bool) -> bool {
         let singles = self.live.iter().filter(|c| c.kind == Kind::Single);
         singles.into_iter().any(|c| c.wording.sessions().into_iter().any(of))
+    }
+
+    /// How the minute lies to the breaks of live singles with a seat of the session.
+    pub fn breaks_at(&self, session: u32, minute: u32) -> Vec<&'static str> {
+        let seats = |c: &&Coupon| c.kind == Kind::Single && c.wording.count(1, session) > 0 && c.window.has_break();
+        let names = self.live.iter().filter(seats).flat_map(|c| {
+            let w = c.window;
+            let at = [w.first - 1 == minute, w.first == minute, w.last == minute, w.last + 1 == minute];
+            (0..4).filter(move |n| at[*n]).map(|n| TALLIED[n])
+        });
+        names.collect()
     }
 
     fn tally(&self, session: u32, minute: u32) -> Answer {

@@ -11,7 +11,7 @@ use super::wording::*;
 struct Pieces {
     now: u32,
     goal: u32,
-    window: (u32, u32),
+    window: Window,
     holds: Vec<u32>,
     /// The steps, unless `steps` says otherwise: copy label 0, close with the copy.
     steps: Option<Vec<String>>,
@@ -20,14 +20,16 @@ struct Pieces {
 }
 
 /// The orders of checks for a booking, save the one for a full till.
-const BOOK: [u32; 11] = [1, 2, 3, 10, 20, 30, 24, 31, 40, 41, 42];
+const BOOK: [u32; 12] = [1, 2, 3, 43, 10, 20, 30, 24, 31, 40, 41, 42];
+/// Breaks that fit neither 0..9 nor 9..8.
+const BAD_BREAKS: [(u32, u32); 6] = [(0, 5), (5, 0), (6, 5), (4, 9), (9, 9), (12, 13)];
 
 impl Pieces {
     fn good(standing: u32) -> Pieces {
         Pieces {
             now: 5,
             goal: 0,
-            window: (0, 9),
+            window: window(0, 9),
             holds: vec![standing],
             steps: None,
             damage: "",
@@ -49,10 +51,15 @@ impl Pieces {
         match number {
             1 => self.overlong = true,
             2 => self.damage = rng.pick(&[",", " ", "\r", ",0", "x"]),
-            3 => self.window = (9, 8),
+            3 => (self.window.from, self.window.to) = (9, 8),
+            43 => (self.window.first, self.window.last) = rng.pick(&BAD_BREAKS),
             10 => self.goal = 999,
             20 => self.goal = 1,
-            30 => self.now = if self.window.0 == 0 { 10 } else { 0 },
+            30 if !self.window.has_break() && rng.chance(1, 2) => {
+                (self.window.first, self.window.last) = (4, 6);
+                self.now = rng.between(4, 6);
+            }
+            30 => self.now = if self.window.from == 0 { 10 } else { 0 },
             24 => {
                 let place = rng.below(self.holds.len() + 1).max(1);
                 self.holds.insert(place, 777);
@@ -78,9 +85,8 @@ impl Pieces {
 
     fn sheet(&self) -> Vec<u8> {
         let steps = self.steps();
-        let (from, to) = self.window;
         let (h, n) = (self.holds.len(), steps.len());
-        let mut text = format!("book,{},{},{from},{to},{h},{n}{}\n", self.now, self.goal, self.damage);
+        let mut text = format!("book,{},{},{},{h},{n}{}\n", self.now, self.goal, self.window.text(), self.damage);
         self.holds.iter().for_each(|s| text += &format!("hold,{s}\n"));
         steps.iter().for_each(|s| text += &format!("{s}\n"));
         if self.overlong {
@@ -90,9 +96,10 @@ impl Pieces {
     }
 }
 
-pub const BOOK_PAIRS: [&str; 12] = [
-    "pair: book 1", "pair: book 2", "pair: book 3", "pair: book 10", "pair: book 20", "pair: book 30",
-    "pair: book 24", "pair: book 31", "pair: book 40", "pair: book 41", "pair: book 42", "pair: book 22",
+pub const BOOK_PAIRS: [&str; 13] = [
+    "pair: book 1", "pair: book 2", "pair: book 3", "pair: book 43", "pair: book 10", "pair: book 20",
+    "pair: book 30", "pair: book 24", "pair: book 31", "pair: book 40", "pair: book 41", "pair: book 42",
+    "pair: book 22",
 ];
 
 /// The answer when this check is the first to fail.
@@ -124,7 +131,7 @@ fn bookings(seed: u64, full: bool) -> Session {
                 let mut pieces = Pieces::good(standing);
                 // Faults in holds come before those in steps, which count the holds.
                 let mut both = vec![*second, *first];
-                both.sort_by_key(|n| (*n >= 40, *n == 40));
+                both.sort_by_key(|n| (matches!(n, 40..=42), *n == 40));
                 both.dedup();
                 both.iter().for_each(|n| pieces.break_it(*n, &mut rng));
                 let answer = answer_of(*first, &pieces, &both);
@@ -139,7 +146,7 @@ fn bookings(seed: u64, full: bool) -> Session {
     desk.session(if full { "pairs: bookings, full till" } else { "pairs: bookings" }, seed)
 }
 
-/// 40 to 42 are found step by step; 24 before 31; 3 in any line before the others, 2 before it. The last
+/// 40 to 42 are found step by step; 24 before 31; 3, then 43, in any line before the others, 2 before them. The last
 /// serial given is a live single.
 fn step_order(desk: &mut Desk, standing: u32) {
     let cps = |n: usize| vec!["cp,0"; n].join("|");
@@ -152,18 +159,21 @@ fn step_order(desk: &mut Desk, standing: u32) {
         (format!("63|{hold}|{}", cps(63)), "no,42,64", "pair: 42 where no label is left"),
         (format!("3|{hold}|cp,0|ax,1|af"), "no,42,3", "pair: 42 before 40"),
         (format!("4|{hold}|cp,0|ax,1|cp,9|sr"), "no,42,3", "pair: 42 before 40"),
-        (format!("3|{hold}|cp,0|ax,1|ul,0,9,8"), "no,3,0", "pair: 3 after the close"),
+        (format!("3|{hold}|cp,0|ax,1|ul,0,9,8,0,0"), "no,3,0", "pair: 3 after the close"),
+        (format!("3|{hold}|cp,0|ax,1|ul,0,0,9,5,9"), "no,43,0", "pair: 43 after the close"),
+        (format!("4|{hold}|cp,0|ax,1|ul,0,0,9,5,9|ul,0,9,8,0,0"), "no,3,0", "pair: 43, then 3 after the close"),
         (format!("3|{hold}|cp,0|ax,1|ax,64"), "no,2,0", "pair: 2 after the close"),
         (format!("3|{hold}|cp,0|ax,0|ax,1"), "no,40,2", "pair: 40 before 42"),
         (format!("1|{hold}|cp,0"), "no,42,2", "pair: 42 alone"),
-        (format!("2|{hold}|cp,0|ul,0,9,8|ax,1"), "no,2,0", "pair: 2 and 3, a line too many"),
+        (format!("2|{hold}|cp,0|ul,0,9,8,0,0|ax,1"), "no,2,0", "pair: 2 and 3, a line too many"),
+        (format!("2|{hold}|cp,0|ul,0,0,9,0,5|ax,1"), "no,2,0", "pair: 2 and 43, a line too many"),
     ];
     for (tail, answer, name) in tries {
-        desk.script(&format!("book,5,0,0,9,1,{tail}"), answer, name);
+        desk.script(&format!("book,5,0,0,9,0,0,1,{tail}"), answer, name);
     }
     for holds in ["777|hold,S|hold,S", "S|hold,S|hold,777", "S|hold,777|hold,S", "777|hold,777|hold,S"] {
         let holds = holds.replace('S', &standing.to_string());
-        desk.script(&format!("book,5,0,0,9,3,1|hold,{holds}|af"), "no,24,0", "pair: 24 before 31");
+        desk.script(&format!("book,5,0,0,9,0,0,3,1|hold,{holds}|af"), "no,24,0", "pair: 24 before 31");
     }
     let last = desk.model.given.to_string();
     for (holds, name) in [
@@ -173,77 +183,99 @@ fn step_order(desk: &mut Desk, standing: u32) {
     ] {
         let n = holds.split('|').count();
         let holds = holds.replace('S', &standing.to_string()).replace('L', &last);
-        desk.script(&format!("book,5,0,0,9,{n},1|hold,{holds}|af"), "no,31,0", name);
+        desk.script(&format!("book,5,0,0,9,0,0,{n},1|hold,{holds}|af"), "no,31,0", name);
     }
 }
 
-pub const STEP_ORDER: [&str; 14] = [
+pub const STEP_ORDER: [&str; 17] = [
     "pair: 41 on the last line", "pair: 41 before 40", "pair: 40 where no label is left",
     "pair: 42 where no label is left", "pair: 42 before 40", "pair: 3 after the close",
     "pair: 2 after the close", "pair: 40 before 42", "pair: 42 alone", "pair: 24 before 31",
     "standing held twice", "single held twice", "held twice, another between", "pair: 2 and 3, a line too many",
+    "pair: 43 after the close", "pair: 43, then 3 after the close", "pair: 2 and 43, a line too many",
 ];
-pub const CALL_PAIRS: [&str; 14] = [
+pub const CALL_PAIRS: [&str; 21] = [
     "pair: word 2 and 3", "pair: word 2 and 10", "pair: word 2 and 13", "pair: word 3 and 10",
     "pair: word 3 and 12", "pair: word 10 and 12", "pair: word 3 and 14", "pair: word 10 and 14",
     "pair: word 12 and 14", "pair: word 13 and 14", "pair: issue", "pair: withdraw 2 and 24",
-    "pair: overlong", "pair: word 2 and 14",
+    "pair: overlong", "pair: word 2 and 14", "pair: word 2 and 43", "pair: word 3 and 43", "pair: word 43 and 10",
+    "pair: word 43 and 12", "pair: word 43 and 14", "pair: issue 43", "pair: issue 43, full till",
 ];
 
 fn words(desk: &mut Desk) {
     let long = ",".repeat(16_400);
-    desk.words(&["a,9,7", "t,0,0", "t,1,1", "t,2,2", "t,3,3", "t,4,4", "s,1,5", "h,0,0,9"]);
+    desk.words(&["a,9,7", "t,0,0", "t,1,1", "t,2,2", "t,3,3", "t,4,4", "s,1,5", "h,0,0,9,0,0"]);
     desk.words(&["a,1,7", "o", "l,8,9"]);
-    desk.script("word,h,0,9,8,", "no,2,0", "pair: word 2 and 3");
-    desk.script("word,h,0,09,8", "no,2,0", "pair: word 2 and 3");
-    desk.script("word,h,0,9,8|o", "no,2,0", "pair: word 2 and 3");
+    desk.script("word,h,0,9,8,0,0,", "no,2,0", "pair: word 2 and 3");
+    desk.script("word,h,0,09,8,0,0", "no,2,0", "pair: word 2 and 3");
+    desk.script("word,h,0,9,8,0,0|o", "no,2,0", "pair: word 2 and 3");
     desk.script("word,t,999,0,", "no,2,0", "pair: word 2 and 10");
     desk.script("word,t,999,1000", "no,2,0", "pair: word 2 and 10");
     desk.script("word,a,9,07", "no,2,0", "pair: word 2 and 13");
     desk.script("word,a,9,65543", "no,2,0", "pair: word 2 and 13");
     desk.script("word,a,265,7", "no,2,0", "pair: word 2 and 13");
-    desk.script("word,h,0,0,09", "no,2,0", "pair: word 2 and 13");
-    desk.script("word,h,999,9,8", "no,3,0", "pair: word 3 and 10");
-    desk.script("word,h,6,9,8", "no,3,0", "pair: word 3 and 12");
+    desk.script("word,h,0,0,09,0,0", "no,2,0", "pair: word 2 and 13");
+    desk.script("word,h,0,0,9,0,5,", "no,2,0", "pair: word 2 and 43");
+    desk.script("word,h,0,0,9,5,00", "no,2,0", "pair: word 2 and 43");
+    desk.script("word,g,0,9,0,5,0,9,5,10000000", "no,2,0", "pair: word 2 and 43");
+    desk.script("word,h,0,9,8,0,5", "no,3,0", "pair: word 3 and 43");
+    desk.script("word,g,0,9,0,5,9,8,0,0", "no,3,0", "pair: word 3 and 43");
+    desk.script("word,g,9,8,0,0,0,9,0,5", "no,3,0", "pair: word 3 and 43");
+    desk.script("word,h,999,0,9,5,9", "no,43,0", "pair: word 43 and 10");
+    desk.script("word,h,6,0,9,0,9", "no,43,0", "pair: word 43 and 12");
+    desk.script("word,h,999,9,8,0,0", "no,3,0", "pair: word 3 and 10");
+    desk.script("word,h,6,9,8,0,0", "no,3,0", "pair: word 3 and 12");
     desk.script("word,t,6,999", "no,10,0", "pair: word 10 and 12");
     desk.script("word,t,999,6", "no,10,0", "pair: word 10 and 12");
     desk.script(&format!("word,a,9,7{long}"), "no,1,0", "pair: overlong");
-    desk.script(&format!("word,h,999,9,8{long}"), "no,1,0", "pair: overlong");
+    desk.script(&format!("word,h,999,9,8,0,0{long}"), "no,1,0", "pair: overlong");
     for n in 11..200 {
         desk.words(&[&format!("a,10,{n}")]);
     }
     desk.script("word,a,300,0", "no,2,0", "pair: word 2 and 14");
     desk.script("word,a,0,65536", "no,2,0", "pair: word 2 and 14");
-    desk.script("word,h,0,9,8", "no,3,0", "pair: word 3 and 14");
-    desk.script("word,g,0,9,9,8", "no,3,0", "pair: word 3 and 14");
+    desk.script("word,h,0,9,8,0,0", "no,3,0", "pair: word 3 and 14");
+    desk.script("word,g,0,9,0,0,9,8,0,0", "no,3,0", "pair: word 3 and 14");
+    desk.script("word,h,0,0,9,9,9", "no,43,0", "pair: word 43 and 14");
+    desk.script("word,g,0,9,1,8,0,9,8,1", "no,43,0", "pair: word 43 and 14");
     desk.script("word,t,0,200", "no,10,0", "pair: word 10 and 14");
     desk.script("word,t,999,0", "no,10,0", "pair: word 10 and 14");
     desk.script("word,s,1,6", "no,12,0", "pair: word 12 and 14");
     desk.script("word,t,5,5", "no,12,0", "pair: word 12 and 14");
     desk.script("word,t,4,4", "no,13,0", "pair: word 13 and 14");
-    desk.script("word,h,0,0,9", "no,13,0", "pair: word 13 and 14");
+    desk.script("word,h,0,0,9,0,0", "no,13,0", "pair: word 13 and 14");
     desk.script("word,a,9,263", "no,14,0", "200 wordings there");
     desk.script("word,a,9,65535", "no,14,0", "200 wordings there");
     desk.script(&format!("word,t,4,4{long}"), "no,1,0", "pair: overlong");
 }
 
 /// Wording 0 is plain and balanced, 7 is not plain, 8 not balanced, 10 neither.
-const ISSUES: [(&str, &str); 19] = [
-    ("issue,s,999,9,8", "no,3,0"), ("issue,r,999,9,8", "no,3,0"), ("issue,s,7,9,8", "no,3,0"),
-    ("issue,s,999,09,8", "no,2,0"), ("issue,x,999,0,8", "no,2,0"), ("issue,s,7,9,8,", "no,2,0"),
-    ("issue,s,0,9,8", "no,3,0"), ("issue,r,0,9,8", "no,3,0"), ("issue,s,0,0,9,", "no,2,0"),
-    ("issue,s,999,0,9", "no,10,0"), ("issue,r,999,0,9", "no,10,0"), ("issue,s,7,0,9", "no,20,0"),
-    ("issue,r,8,0,9", "no,21,0"), ("issue,r,10,0,9", "no,21,0"), ("issue,r,10,9,0", "no,3,0"),
-    ("issue,r,8,0,09", "no,2,0"), ("issue,s,10,0,9", "no,20,0"), ("issue,s,10,9,0", "no,3,0"),
-    ("issue,s,0,9,8|o", "no,2,0"),
+const ISSUES: [(&str, &str); 31] = [
+    ("issue,s,999,9,8,0,0", "no,3,0"), ("issue,r,999,9,8,0,0", "no,3,0"), ("issue,s,7,9,8,0,0", "no,3,0"),
+    ("issue,s,999,09,8,0,0", "no,2,0"), ("issue,x,999,0,8,0,0", "no,2,0"), ("issue,s,7,9,8,0,0,", "no,2,0"),
+    ("issue,s,0,9,8,0,0", "no,3,0"), ("issue,r,0,9,8,0,0", "no,3,0"), ("issue,s,0,0,9,0,0,", "no,2,0"),
+    ("issue,s,999,0,9,0,0", "no,10,0"), ("issue,r,999,0,9,0,0", "no,10,0"), ("issue,s,7,0,9,0,0", "no,20,0"),
+    ("issue,r,8,0,9,0,0", "no,21,0"), ("issue,r,10,0,9,0,0", "no,21,0"), ("issue,r,10,9,0,0,0", "no,3,0"),
+    ("issue,r,8,0,09,0,0", "no,2,0"), ("issue,s,10,0,9,0,0", "no,20,0"), ("issue,s,10,9,0,0,0", "no,3,0"),
+    ("issue,s,0,9,8,0,0|o", "no,2,0"), ("issue,s,0,9,8,0,5", "no,3,0"), ("issue,r,0,9,8,8,9", "no,3,0"),
+    ("issue,s,999,0,9,0,5", "no,43,0"), ("issue,r,999,0,9,5,0", "no,43,0"), ("issue,s,7,0,9,9,9", "no,43,0"),
+    ("issue,r,8,0,9,6,5", "no,43,0"), ("issue,s,0,0,9,4,12", "no,43,0"), ("issue,r,0,0,9,12,13", "no,43,0"),
+    ("issue,s,0,0,9,0,05", "no,2,0"), ("issue,s,0,0,9,5", "no,2,0"), ("issue,s,0,0,9,0,5|o", "no,2,0"),
+    ("issue,s,999,9,8,5,0", "no,3,0"),
 ];
 
 fn other_calls(desk: &mut Desk) {
     let long = "0".repeat(16_400);
+    let full = desk.model.live.len() == 512;
     for (text, answer) in ISSUES {
-        desk.script(text, answer, "pair: issue");
+        let mark = match (answer, full) {
+            ("no,43,0", true) => "pair: issue 43, full till",
+            ("no,43,0", false) => "pair: issue 43",
+            _ => "pair: issue",
+        };
+        desk.script(text, answer, mark);
     }
-    desk.script(&format!("issue,s,7,9,8{long}"), "no,1,0", "pair: overlong");
+    desk.script(&format!("issue,s,7,9,8,0,0{long}"), "no,1,0", "pair: overlong");
     desk.script(&format!("tally,256,5{long}"), "no,1,0", "pair: overlong");
     desk.script(&format!("tally,65536,5{long}"), "no,1,0", "pair: overlong");
     desk.script(&format!("withdraw,777777{long}"), "no,1,0", "pair: overlong");
@@ -257,10 +289,10 @@ fn calls() -> Session {
     words(&mut desk);
     other_calls(&mut desk);
     while desk.model.live.len() < 512 {
-        desk.script("issue,s,8,0,9", &format!("ok,{}", desk.model.given + 1), "");
+        desk.script("issue,s,8,0,9,0,0", &format!("ok,{}", desk.model.given + 1), "");
     }
     other_calls(&mut desk);
-    desk.script("issue,s,8,0,9", "no,22,0", "pair: issue");
+    desk.script("issue,s,8,0,9,0,0", "no,22,0", "pair: issue");
     desk.tally(7, 9);
     desk.tally(7, 10);
     desk.session("pairs: calls", 0)

@@ -1,4 +1,4 @@
-//! Document 01's own sessions M1 to M10.
+//! Document 01's own sessions M1 to M10, with 0,0 in each window (document 02, ask 2).
 
 use super::session::{Desk, Session};
 
@@ -7,19 +7,19 @@ pub const WORDS: [&str; 8] = ["a,1,7", "a,2,7", "a,9,7", "s,1,0", "s,2,2", "s,1,
 /// M1 up to the booking, serial 2's window ending as given.
 fn before_booking(desk: &mut Desk, last: u32) {
     desk.words(&WORDS);
-    desk.script("issue,r,7,0,9999", "ok,1", "");
-    desk.script(&format!("issue,s,3,0,{last}"), "ok,2", "");
-    desk.script("issue,s,4,0,600", "ok,3", "");
+    desk.script("issue,r,7,0,9999,0,0", "ok,1", "");
+    desk.script(&format!("issue,s,3,0,{last},0,0"), "ok,2", "");
+    desk.script("issue,s,4,0,600,0,0", "ok,3", "");
     desk.script("tally,7,540", "ok,1,0,0", "");
 }
 
 /// M1's booking with its changeable places filled.
 fn booking(head: &str, holds: &str, share: &str) -> String {
     let steps = "sr|sl,1|af|ax,4|sr|sl,2|af|ax,5|sr|sl,6|af|ax,7";
-    format!("book,{head},3,15|{holds}|cp,0|ll,3,0000000000000006,540,600|tr,{share}|{steps}")
+    format!("book,{head},3,15|{holds}|cp,0|ll,3,0000000000000006,540,600,0,0|tr,{share}|{steps}")
 }
 
-const HEAD: &str = "540,5,540,600";
+const HEAD: &str = "540,5,540,600,0,0";
 const HOLDS: &str = "hold,1|hold,2|hold,3";
 const SHARE: &str = "0000000000000002";
 
@@ -34,8 +34,8 @@ fn variant(n: usize) -> Desk {
     match n {
         2 => desk.script(&booking(HEAD, HOLDS, SHARE), "no,40,5", "M2"),
         3 => desk.script(&booking(HEAD, HOLDS, "0000000000000006"), "no,40,7", "M3"),
-        4 => desk.script(&booking("539,5,540,600", HOLDS, SHARE), "no,30,0", "M4"),
-        5 => desk.script(&booking("540,5,540,540", HOLDS, SHARE), "ok,4", "M5"),
+        4 => desk.script(&booking("539,5,540,600,0,0", HOLDS, SHARE), "no,30,0", "M4"),
+        5 => desk.script(&booking("540,5,540,540,0,0", HOLDS, SHARE), "ok,4", "M5"),
         7 => desk.script(&booking(HEAD, "hold,1|hold,2|hold,2", SHARE), "no,31,0", "M7"),
         _ => {
             desk.script(&booking(HEAD, HOLDS, SHARE), "ok,4", "");
@@ -53,7 +53,7 @@ fn m8() -> Desk {
     desk.words(&WORDS);
     desk.script("word,t,5,5", "ok,8", "");
     desk.script("word,l,3,8", "ok,9", "");
-    desk.script("issue,r,9,0,9", "no,21,0", "M8");
+    desk.script("issue,r,9,0,9,0,0", "no,21,0", "M8");
     desk
 }
 
@@ -68,12 +68,12 @@ fn m9() -> Desk {
 fn m10() -> Desk {
     let mut desk = Desk::new();
     desk.words(&WORDS);
-    desk.script("issue,r,2,0,9", "ok,1", "");
+    desk.script("issue,r,2,0,9,0,0", "ok,1", "");
     for serial in 2..513 {
-        desk.script("issue,s,2,0,9", &format!("ok,{serial}"), "");
+        desk.script("issue,s,2,0,9,0,0", &format!("ok,{serial}"), "");
     }
-    desk.script("book,0,2,0,9,1,1|hold,2|ax,0", "ok,513", "");
-    desk.script("book,0,2,0,9,1,2|hold,1|cp,0|ax,1", "no,22,0", "M10");
+    desk.script("book,0,2,0,9,0,0,1,1|hold,2|ax,0", "ok,513", "");
+    desk.script("book,0,2,0,9,0,0,1,2|hold,1|cp,0|ax,1", "no,22,0", "M10");
     desk
 }
 

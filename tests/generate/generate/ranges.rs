@@ -1,4 +1,4 @@
-//! Both ends of every field's range and one beyond, and from > to for every window field.
+//! Both ends of every field's range and one beyond, and from > to for every window, whatever its break.
 
 use super::form::Kind;
 use super::model::Steps;
@@ -36,6 +36,19 @@ fn field(desk: &mut Desk, text: &str, lo: u32, hi: u32, steps: Steps) {
     }
 }
 
+/// The fields of a break, the rest of the window in place: 43 at an end alone, in order at both; beyond, 2.
+fn break_fields(desk: &mut Desk, text: &str, steps: Steps) {
+    let window = |of: &str| text.replace("{}", of);
+    field(desk, &window("0,9999999,{},9999998"), 0, LAST_MINUTE, steps);
+    field(desk, &window("0,9999999,1,{}"), 0, LAST_MINUTE, steps);
+    field(desk, &window("0,9999999,{},0"), 0, LAST_MINUTE, steps);
+    field(desk, &window("0,9999999,0,{}"), 0, LAST_MINUTE, steps);
+    for (of, mark) in [("0,9999999,1,1", "range: low end"), ("0,9999999,9999998,9999998", "range: high end")] {
+        desk.play(&sheet_of(&window(of)), steps);
+        desk.mark(&[mark]);
+    }
+}
+
 fn wording_fields(desk: &mut Desk) {
     let no = Steps::Close;
     field(desk, "word,a,{},7", 0, 255, no);
@@ -52,16 +65,19 @@ fn wording_fields(desk: &mut Desk) {
         desk.script(&format!("word,{letter},{},0", next + 1), "no,10,0", "range: first wording not there");
     }
     field(desk, "word,b,{}", 0, 999, no);
-    field(desk, "word,h,{},0,9", 0, 999, no);
-    field(desk, "word,h,1,{},9999999", 0, LAST_MINUTE, no);
-    field(desk, "word,h,1,0,{}", 0, LAST_MINUTE, no);
+    field(desk, "word,h,{},0,9,0,0", 0, 999, no);
+    field(desk, "word,h,1,{},9999999,0,0", 0, LAST_MINUTE, no);
+    field(desk, "word,h,1,0,{},0,0", 0, LAST_MINUTE, no);
+    break_fields(desk, "word,h,1,{}", no);
     field(desk, "word,s,{},0", 0, 255, no);
     field(desk, "word,s,1,{}", 0, 999, no);
-    field(desk, "word,g,{},9999999,3,4", 0, LAST_MINUTE, no);
-    field(desk, "word,g,0,{},3,4", 0, LAST_MINUTE, no);
-    field(desk, "word,g,3,4,{},9999999", 0, LAST_MINUTE, no);
-    field(desk, "word,g,3,4,0,{}", 0, LAST_MINUTE, no);
-    for line in ["b,99", "h,99,0,9", "s,1,99"] {
+    field(desk, "word,g,{},9999999,0,0,3,4,0,0", 0, LAST_MINUTE, no);
+    field(desk, "word,g,0,{},0,0,3,4,0,0", 0, LAST_MINUTE, no);
+    field(desk, "word,g,3,4,0,0,{},9999999,0,0", 0, LAST_MINUTE, no);
+    field(desk, "word,g,3,4,0,0,0,{},0,0", 0, LAST_MINUTE, no);
+    break_fields(desk, "word,g,{},3,4,0,0", no);
+    break_fields(desk, "word,g,3,4,0,0,{}", no);
+    for line in ["b,99", "h,99,0,9,0,0", "s,1,99"] {
         desk.script(&format!("word,{line}"), "no,10,0", "range: first wording not there");
     }
 }
@@ -69,9 +85,10 @@ fn wording_fields(desk: &mut Desk) {
 fn call_fields(desk: &mut Desk) {
     let no = Steps::Close;
     for kind in ["s", "r"] {
-        field(desk, &format!("issue,{kind},{{}},0,9"), 0, 999, no);
-        field(desk, &format!("issue,{kind},0,{{}},9999999"), 0, LAST_MINUTE, no);
-        field(desk, &format!("issue,{kind},0,0,{{}}"), 0, LAST_MINUTE, no);
+        field(desk, &format!("issue,{kind},{{}},0,9,0,0"), 0, 999, no);
+        field(desk, &format!("issue,{kind},0,{{}},9999999,0,0"), 0, LAST_MINUTE, no);
+        field(desk, &format!("issue,{kind},0,0,{{}},0,0"), 0, LAST_MINUTE, no);
+        break_fields(desk, &format!("issue,{kind},0,{{}}"), no);
     }
     field(desk, "tally,{},5", 0, LAST_SESSION, no);
     field(desk, "tally,7,{}", 0, LAST_MINUTE, no);
@@ -84,30 +101,31 @@ fn call_fields(desk: &mut Desk) {
 fn book_fields(desk: &mut Desk) {
     let r = desk.issue(Kind::Standing, &atom(9, 7), window(0, LAST_MINUTE));
     let tail = format!("1,2|hold,{r}|cp,0|ax,1");
-    field(desk, &format!("book,{{}},0,0,9999999,{tail}"), 0, LAST_MINUTE, Steps::Close);
-    field(desk, &format!("book,5,{{}},0,9999999,{tail}"), 0, 999, Steps::Close);
-    field(desk, &format!("book,9999999,0,{{}},9999999,{tail}"), 0, LAST_MINUTE, Steps::Close);
-    field(desk, &format!("book,0,0,0,{{}},{tail}"), 0, LAST_MINUTE, Steps::Close);
+    field(desk, &format!("book,{{}},0,0,9999999,0,0,{tail}"), 0, LAST_MINUTE, Steps::Close);
+    field(desk, &format!("book,5,{{}},0,9999999,0,0,{tail}"), 0, 999, Steps::Close);
+    field(desk, &format!("book,9999999,0,{{}},9999999,0,0,{tail}"), 0, LAST_MINUTE, Steps::Close);
+    field(desk, &format!("book,0,0,0,{{}},0,0,{tail}"), 0, LAST_MINUTE, Steps::Close);
+    break_fields(desk, &format!("book,0,0,{{}},{tail}"), Steps::Close);
     let dead = "hold,{}|cp,0|ax,1";
-    field(desk, &format!("book,5,0,0,9,1,2|{dead}"), 1, 999_999, Steps::Close);
-    desk.script("book,5,0,0,9,0,1|ax,0", "no,40,1", "range: low end");
-    desk.script("book,5,0,0,9,0,1|cp,0", "no,40,1", "range: low end");
+    field(desk, &format!("book,5,0,0,9,0,0,1,2|{dead}"), 1, 999_999, Steps::Close);
+    desk.script("book,5,0,0,9,0,0,0,1|ax,0", "no,40,1", "range: low end");
+    desk.script("book,5,0,0,9,0,0,0,1|cp,0", "no,40,1", "range: low end");
     for (holds, name) in [(32, "range: high end"), (33, "range: beyond the high end")] {
         let mut issue = || desk.issue(Kind::Standing, &atom(9, 7), window(0, 9));
         let lines: String = (0..holds).map(|_| format!("hold,{}|", issue())).collect();
         let serial = desk.model.given + 1;
         let answer = if holds == 32 { format!("ok,{serial}") } else { "no,2,0".to_string() };
-        desk.script(&format!("book,5,0,0,9,{holds},2|{lines}cp,3|ax,{holds}"), &answer, name);
+        desk.script(&format!("book,5,0,0,9,0,0,{holds},2|{lines}cp,3|ax,{holds}"), &answer, name);
     }
-    desk.script(&format!("book,5,0,0,9,1,0|hold,{r}"), "no,2,0", "range: below the low end");
-    let many = |n: usize| format!("book,5,0,0,9,1,{n}|hold,{r}{}", "|af".repeat(n));
+    desk.script(&format!("book,5,0,0,9,0,0,1,0|hold,{r}"), "no,2,0", "range: below the low end");
+    let many = |n: usize| format!("book,5,0,0,9,0,0,1,{n}|hold,{r}{}", "|af".repeat(n));
     desk.script(&many(256), "no,40,1", "range: high end");
     desk.script(&many(257), "no,2,0", "range: beyond the high end");
     for number in beyond(1) {
         if number.len() > 2 {
             let (holds, steps) = (format!("{number},2"), format!("1,{number}"));
             for counts in [holds, steps] {
-                let sheet = format!("book,5,0,0,9,{counts}|hold,{r}|cp,0|ax,1");
+                let sheet = format!("book,5,0,0,9,0,0,{counts}|hold,{r}|cp,0|ax,1");
                 desk.script(&sheet, "no,2,0", "range: beyond the high end");
             }
         }
@@ -118,19 +136,21 @@ fn book_fields(desk: &mut Desk) {
 fn step_fields(desk: &mut Desk) {
     let r = desk.issue(Kind::Standing, &atom(9, 7), window(0, LAST_MINUTE));
     let stop = Steps::Stop(40, 1);
-    let head = format!("book,5,0,0,9,1,3|hold,{r}");
+    let head = format!("book,5,0,0,9,0,0,1,3|hold,{r}");
     for letters in ["ax", "tl", "ol", "w1", "w2", "pl", "bl", "hl", "sl"] {
         field(desk, &format!("{head}|{letters},{{}}|cp,0|ax,1"), 0, 63, stop);
     }
     desk.script(&format!("{head}|cp,0|cp,63|ax,1"), "no,40,2", "range: high end");
     desk.script(&format!("{head}|cp,0|cp,64|ax,1"), "no,2,0", "range: beyond the high end");
-    field(desk, &format!("{head}|ll,{{}},0000000000000000,0,9|cp,0|ax,1"), 0, 63, stop);
-    field(desk, &format!("{head}|ll,0,0000000000000000,{{}},9999999|cp,0|ax,1"), 0, LAST_MINUTE, stop);
-    field(desk, &format!("{head}|ll,0,0000000000000000,0,{{}}|cp,0|ax,1"), 0, LAST_MINUTE, stop);
-    field(desk, &format!("{head}|ul,{{}},0,9|cp,0|ax,1"), 0, 63, stop);
-    field(desk, &format!("{head}|ul,0,{{}},9999999|cp,0|ax,1"), 0, LAST_MINUTE, stop);
-    field(desk, &format!("{head}|ul,0,0,{{}}|cp,0|ax,1"), 0, LAST_MINUTE, stop);
-    for step in ["tr,{}", "ll,0,{},0,9"] {
+    field(desk, &format!("{head}|ll,{{}},0000000000000000,0,9,0,0|cp,0|ax,1"), 0, 63, stop);
+    field(desk, &format!("{head}|ll,0,0000000000000000,{{}},9999999,0,0|cp,0|ax,1"), 0, LAST_MINUTE, stop);
+    field(desk, &format!("{head}|ll,0,0000000000000000,0,{{}},0,0|cp,0|ax,1"), 0, LAST_MINUTE, stop);
+    field(desk, &format!("{head}|ul,{{}},0,9,0,0|cp,0|ax,1"), 0, 63, stop);
+    field(desk, &format!("{head}|ul,0,{{}},9999999,0,0|cp,0|ax,1"), 0, LAST_MINUTE, stop);
+    field(desk, &format!("{head}|ul,0,0,{{}},0,0|cp,0|ax,1"), 0, LAST_MINUTE, stop);
+    break_fields(desk, &format!("{head}|ll,0,0000000000000000,{{}}|cp,0|ax,1"), stop);
+    break_fields(desk, &format!("{head}|ul,0,{{}}|cp,0|ax,1"), stop);
+    for step in ["tr,{}", "ll,0,{},0,9,0,0"] {
         let line = format!("{head}|{step}|cp,0|ax,1");
         for (share, answer, name) in SHARES {
             desk.script(&line.replace("{}", share), answer, name);
@@ -152,21 +172,23 @@ const SHARES: [(&str, &str, &str); 9] = [
 
 fn backward(desk: &mut Desk) {
     let r = desk.issue(Kind::Standing, &atom(9, 7), window(0, 9));
-    for (from, to) in [(1, 0), (9_999_999, 0), (9_999_999, 9_999_998), (541, 540)] {
-        let w = format!("{from},{to}");
+    let ends = [(1, 0), (9_999_999, 0), (9_999_999, 9_999_998), (541, 540)];
+    let breaks = ["0,0", "0,5", "5,0", "1,1", "541,540", "9999999,9999999"];
+    for ((from, to), pause) in ends.iter().flat_map(|w| breaks.map(|b| (w, b))) {
+        let w = format!("{from},{to},{pause}");
         let hold = format!("1,2|hold,{r}");
         desk.script(&format!("issue,s,0,{w}"), "no,3,0", "3: issue");
         desk.script(&format!("issue,r,0,{w}"), "no,3,0", "3: issue");
         desk.script(&format!("book,{from},0,{w},{hold}|cp,0|ax,1"), "no,3,0", "3: book head");
         let (ll, ul) = (format!("ll,0,0000000000000000,{w}"), format!("ul,0,{w}"));
         for (line, name) in [(ll, "3: ll"), (ul, "3: ul")] {
-            desk.script(&format!("book,5,0,0,9,{hold}|{line}|ax,1"), "no,3,0", name);
-            let after = format!("book,5,0,0,9,1,3|hold,{r}|cp,0|ax,1|{line}");
+            desk.script(&format!("book,5,0,0,9,0,0,{hold}|{line}|ax,1"), "no,3,0", name);
+            let after = format!("book,5,0,0,9,0,0,1,3|hold,{r}|cp,0|ax,1|{line}");
             desk.script(&after, "no,3,0", name);
         }
         desk.script(&format!("word,h,0,{w}"), "no,3,0", "3: h");
-        desk.script(&format!("word,g,{w},3,4"), "no,3,0", "3: g, first window");
-        desk.script(&format!("word,g,3,4,{w}"), "no,3,0", "3: g, second window");
+        desk.script(&format!("word,g,{w},3,4,0,0"), "no,3,0", "3: g, first window");
+        desk.script(&format!("word,g,3,4,0,0,{w}"), "no,3,0", "3: g, second window");
     }
 }
 

@@ -23,7 +23,7 @@ pub struct Session {
 pub struct Desk {
     pub model: Model,
     pub cases: Vec<Case>,
-    /// Set once an answer is unknown: from then on only checks 1 to 3 are known.
+    /// Set once an answer is unknown: from then on only checks 1 to 3 and 43 are known.
     lost: bool,
 }
 
@@ -97,10 +97,10 @@ impl Desk {
         match &**part {
             Wording::Atom(p, s) => format!("a,{p},{s}"),
             Wording::One => "o".to_string(),
-            Wording::At(a, w) => format!("h,{},{},{}", number(a), w.from, w.to),
+            Wording::At(a, w) => format!("h,{},{}", number(a), w.text()),
             Wording::Says(k, a) => format!("s,{k},{}", number(a)),
             Wording::Bang(a) => format!("b,{}", number(a)),
-            Wording::Covers(o, i) => format!("g,{},{},{},{}", o.from, o.to, i.from, i.to),
+            Wording::Covers(o, i) => format!("g,{},{}", o.text(), i.text()),
             other => {
                 let p = other.parts();
                 format!("{},{},{}", other.letter(), number(&p[0]), number(&p[1]))
@@ -127,7 +127,7 @@ impl Desk {
         let n = self.enter(part);
         let serial = self.model.given + 1;
         let letter = if kind == Kind::Single { 's' } else { 'r' };
-        let sheet = format!("issue,{letter},{n},{},{}\n", w.from, w.to);
+        let sheet = format!("issue,{letter},{n},{}\n", w.text());
         self.expect(sheet.as_bytes(), Answer::Done(serial), &[]);
         serial
     }
@@ -135,13 +135,14 @@ impl Desk {
     pub fn tally(&mut self, session: u32, minute: u32) {
         self.play(format!("tally,{session},{minute}\n").as_bytes(), Steps::Close);
         self.mark(&["tally"]);
+        self.mark(&self.model.breaks_at(session, minute));
         if self.model.seated(&|s| alike(s, session)) {
             let both = self.model.seated(&|s| s == session);
             self.mark(&[if both { "alike: tally of both" } else { "alike: tally of the other" }]);
         }
     }
 
-    /// Tallies for some live coupon's sessions, or ones alike, at and beside both ends of its window.
+    /// Tallies for some live coupon's sessions, or ones alike, at and beside both ends of its window or its break.
     pub fn tallies(&mut self, rng: &mut Rng, how_many: usize) {
         for _ in 0..how_many {
             let (mut session, mut minute) = (rng.between(0, LAST_SESSION), rng.between(0, LAST_MINUTE));
@@ -152,8 +153,11 @@ impl Desk {
                     session = rng.pick(&all);
                     session = if rng.chance(1, 4) { rng.alike(session) } else { session };
                 }
-                let (from, to) = (c.window.from, c.window.to);
-                minute = rng.pick(&[from, to, from.saturating_sub(1), (to + 1).min(LAST_MINUTE)]);
+                let w = c.window;
+                minute = rng.pick(&[w.from, w.to, w.from.saturating_sub(1), (w.to + 1).min(LAST_MINUTE)]);
+                if w.has_break() && rng.chance(2, 3) {
+                    minute = rng.pick(&[w.first - 1, w.first, w.last, w.last + 1]);
+                }
             }
             self.tally(session, minute);
         }

@@ -2,7 +2,7 @@
 
 use super::session::{Desk, Session};
 
-/// Coupons by serial, then bookings: `goal,from,to` at now = from, holds, steps, answer, name.
+/// Bookings: `goal,from,to` without a break, at now = from; holds, steps, answer, name.
 type Try = (&'static str, &'static [u32], &'static str, &'static str, &'static str);
 
 fn play(desk: &mut Desk, tries: &[Try]) {
@@ -12,18 +12,19 @@ fn play(desk: &mut Desk, tries: &[Try]) {
         let holds: String = holds.iter().map(|s| format!("hold,{s}|")).collect();
         let next = format!("ok,{}", desk.model.given + 1);
         let answer = if *answer == "ok" { &next } else { *answer };
-        desk.script(&format!("book,{from},{goal},{h},{n}|{holds}{steps}"), answer, name);
+        desk.script(&format!("book,{from},{goal},0,0,{h},{n}|{holds}{steps}"), answer, name);
     }
 }
 
 const ZERO: &str = "0000000000000000";
 
+/// A desk with these words and coupons `kind,wording,from,to`, all without a break.
 fn desk(words: &[&str], issues: &[&str]) -> Desk {
     let mut desk = Desk::new();
     desk.words(words);
     for line in issues {
         let serial = desk.model.given + 1;
-        desk.script(&format!("issue,{line}"), &format!("ok,{serial}"), "");
+        desk.script(&format!("issue,{line},0,0"), &format!("ok,{serial}"), "");
     }
     desk
 }
@@ -40,7 +41,7 @@ pub const ARMS: [&str; 16] = [
 fn arms() -> Session {
     let words = [
         "a,9,7", "a,8,7", "a,7,7", "w,0,1", "p,0,1", "l,4,2", "w,0,0", "l,6,2", "l,3,2", "u,0,2", "b,0",
-        "t,0,1", "l,0,1", "l,12,2", "u,0,1", "l,14,2", "g,0,9,1,2", "l,16,2", "s,1,0", "s,2,18",
+        "t,0,1", "l,0,1", "l,12,2", "u,0,1", "l,14,2", "g,0,9,0,0,1,2,0,0", "l,16,2", "s,1,0", "s,2,18",
     ];
     let w = "0,9999999";
     let offers = [3, 5, 7, 8, 9, 10, 4, 13, 15, 17, 16].map(|n| format!("r,{n},{w}"));
@@ -53,22 +54,22 @@ fn arms() -> Session {
     play(&mut desk, &[
         ("0,5,6", &[1], "cp,0|w2,1|ax,2", "no,40,3", name(1)),
         ("1,5,6", &[1], "cp,0|w1,1|ax,2", "no,40,3", name(0)),
-        ("2,5,6", &[2, 12], "cp,0|ll,2,0000000000000002,5,6|p2|ax,1|ax,3", "no,40,4", name(3)),
-        ("2,5,6", &[2, 13], "cp,0|ll,2,0000000000000002,5,6|p1|ax,1|ax,3", "no,40,4", name(2)),
+        ("2,5,6", &[2, 12], "cp,0|ll,2,0000000000000002,5,6,0,0|p2|ax,1|ax,3", "no,40,4", name(3)),
+        ("2,5,6", &[2, 13], "cp,0|ll,2,0000000000000002,5,6,0,0|p1|ax,1|ax,3", "no,40,4", name(2)),
         ("0,5,6", &[7], "cp,0|pl,1|ax,2|ax,3", "no,40,4", name(4)),
-        ("2,5,6", &[4, 12, 13], "cp,0|ll,3,0000000000000006,5,6|wr|ax,1|ax,2|ax,4", "no,40,4", name(5)),
-        ("2,5,6", &[4, 12], "cp,0|ll,2,0000000000000002,5,6|wr|ax,1|ax,1|ax,3", "no,40,5", name(15)),
-        ("2,5,6", &[5, 12], "cp,0|ul,2,5,6|ax,1|ax,3", "no,40,3", name(7)),
+        ("2,5,6", &[4, 12, 13], "cp,0|ll,3,0000000000000006,5,6,0,0|wr|ax,1|ax,2|ax,4", "no,40,4", name(5)),
+        ("2,5,6", &[4, 12], "cp,0|ll,2,0000000000000002,5,6,0,0|wr|ax,1|ax,1|ax,3", "no,40,5", name(15)),
+        ("2,5,6", &[5, 12], "cp,0|ul,2,5,6,0,0|ax,1|ax,3", "no,40,3", name(7)),
         ("0,5,6", &[6], "cp,0|bl,1|ax,2", "no,40,3", name(8)),
         ("11,5,6", &[14], "tl,0|tr,0000000000000004|ax,2|ax,1", "no,40,3", name(9)),
-        ("2,5,6", &[8, 13], "cp,0|ll,2,0000000000000002,5,6|wr", "no,40,3", name(10)),
-        ("2,5,6", &[9, 13], "cp,0|ll,2,0000000000000002,5,6|hr", "no,40,3", name(11)),
-        ("2,5,6", &[10, 11], "cp,0|cp,1|ll,2,0000000000000008,5,6|ax,3|ax,4", "no,40,4", name(12)),
-        ("2,5,6", &[10], "cp,0|ll,1,0000000000000000,5,6|gr|ax,2", "ok", ""),
+        ("2,5,6", &[8, 13], "cp,0|ll,2,0000000000000002,5,6,0,0|wr", "no,40,3", name(10)),
+        ("2,5,6", &[9, 13], "cp,0|ll,2,0000000000000002,5,6,0,0|hr", "no,40,3", name(11)),
+        ("2,5,6", &[10, 11], "cp,0|cp,1|ll,2,0000000000000008,5,6,0,0|ax,3|ax,4", "no,40,4", name(12)),
+        ("2,5,6", &[10], "cp,0|ll,1,0000000000000000,5,6,0,0|gr|ax,2", "ok", ""),
         ("19,5,6", &[15], "sr|af|sr|sl,0", "no,40,4", name(14)),
         ("19,5,6", &[15], "sr|af|af|sr", "no,40,3", name(13)),
         ("19,5,6", &[15], "sr|sl,0|af|sr|sl,1|af|ax,2", "ok", ""),
-        ("2,5,6", &[3, 12], "cp,0|ll,2,0000000000000002,5,6|wr|ax,1|ax,1|ax,3", "ok", name(6)),
+        ("2,5,6", &[3, 12], "cp,0|ll,2,0000000000000002,5,6,0,0|wr|ax,1|ax,1|ax,3", "ok", name(6)),
     ]);
     desk.session("slips: arms and shares", 0)
 }
@@ -84,15 +85,15 @@ fn joined() -> Session {
     let offers = ["r,3,0,9", "r,5,0,9", "r,6,0,9", "r,7,0,9", "r,8,0,9"];
     let mut desk = desk(&words, &offers);
     let first = format!("tr,{ZERO}|cp,0|bl,1|cp,2|ax,3");
-    let wr = format!("cp,0|ll,2,{ZERO},5,6|wr|cp,1|bl,3|cp,4|ax,5");
+    let wr = format!("cp,0|ll,2,{ZERO},5,6,0,0|wr|cp,1|bl,3|cp,4|ax,5");
     let pl = "cp,0|pl,2|ol,3|cp,1|bl,4|cp,5|ax,6|ol,7";
-    let ll = format!("cp,0|ll,2,{ZERO},5,6|cp,1|bl,3|cp,4|ax,5");
-    let ul = "cp,0|ul,2,5,6|cp,1|bl,3|cp,4|ax,5";
+    let ll = format!("cp,0|ll,2,{ZERO},5,6,0,0|cp,1|bl,3|cp,4|ax,5");
+    let ul = "cp,0|ul,2,5,6,0,0|cp,1|bl,3|cp,4|ax,5";
     let mut both = |goal: u32, holds: &str, steps: &str, bad: &str, good: &str, name: &'static str| {
         let (h, n) = (holds.split('|').count(), steps.split('|').count() as u32);
         let book = |rest: &str| {
             let all = n as usize + rest.split('|').count();
-            format!("book,5,{goal},5,6,{h},{all}|{holds}|{steps}|{rest}")
+            format!("book,5,{goal},5,6,0,0,{h},{all}|{holds}|{steps}|{rest}")
         };
         desk.script(&book(bad), &format!("no,40,{}", n + 1), name);
         let serial = format!("ok,{}", desk.model.given + 1);
@@ -153,19 +154,19 @@ fn arrows() -> Session {
     let mut desk = desk(&words, &[&offers[..], &singles].concat());
     let name = |n: usize| ARROWS[n];
     play(&mut desk, &[
-        ("3,5,6", &[1], "sr|cp,0|ul,1,5,6|af|or|ax,2", "no,40,4", name(0)),
-        ("3,5,6", &[1], "sr|cp,0|ul,1,5,6|or|ax,2", "no,40,5", name(1)),
-        ("3,5,6", &[1], "sr|cp,0|ul,1,5,6|or|af|ax,2", "ok", name(2)),
-        ("3,5,6", &[3], "sr|cp,0|ul,1,5,6|or|sl,2|af|ax,3", "ok", name(2)),
-        ("3,5,6", &[2], "sr|cp,0|ll,1,0000000000000000,5,6|af|or|ax,2", "no,40,4", name(0)),
-        ("3,5,6", &[2], "sr|cp,0|ll,1,0000000000000000,5,6|or|ax,2", "no,40,5", name(1)),
-        ("3,5,6", &[2], "sr|cp,0|ll,1,0000000000000000,5,6|or|af|ax,2", "ok", name(2)),
-        ("0,5,6", &[4, 6, 10], "cp,0|ul,3,5,6|cp,1|ax,4|ol,5|ax,2", "no,40,4", name(3)),
-        ("0,5,6", &[4, 6, 10], "cp,0|ul,3,19,30|cp,1|ax,4|ol,5|ax,2", "no,40,4", name(4)),
-        ("0,5,6", &[4, 6, 10], "cp,0|ul,3,20,30|cp,1|ax,4|ol,5|ax,2", "ok", name(5)),
-        ("0,5,6", &[5, 8, 11], "cp,0|ll,3,0000000000000002,5,6|ax,1|ol,4|ax,2", "no,40,3", name(3)),
-        ("0,5,6", &[5, 8, 11], "cp,0|ll,3,0000000000000002,20,31|ax,1|ol,4|ax,2", "no,40,3", name(4)),
-        ("0,5,6", &[5, 8, 11], "cp,0|ll,3,0000000000000002,20,30|ax,1|ol,4|ax,2", "ok", name(5)),
+        ("3,5,6", &[1], "sr|cp,0|ul,1,5,6,0,0|af|or|ax,2", "no,40,4", name(0)),
+        ("3,5,6", &[1], "sr|cp,0|ul,1,5,6,0,0|or|ax,2", "no,40,5", name(1)),
+        ("3,5,6", &[1], "sr|cp,0|ul,1,5,6,0,0|or|af|ax,2", "ok", name(2)),
+        ("3,5,6", &[3], "sr|cp,0|ul,1,5,6,0,0|or|sl,2|af|ax,3", "ok", name(2)),
+        ("3,5,6", &[2], "sr|cp,0|ll,1,0000000000000000,5,6,0,0|af|or|ax,2", "no,40,4", name(0)),
+        ("3,5,6", &[2], "sr|cp,0|ll,1,0000000000000000,5,6,0,0|or|ax,2", "no,40,5", name(1)),
+        ("3,5,6", &[2], "sr|cp,0|ll,1,0000000000000000,5,6,0,0|or|af|ax,2", "ok", name(2)),
+        ("0,5,6", &[4, 6, 10], "cp,0|ul,3,5,6,0,0|cp,1|ax,4|ol,5|ax,2", "no,40,4", name(3)),
+        ("0,5,6", &[4, 6, 10], "cp,0|ul,3,19,30,0,0|cp,1|ax,4|ol,5|ax,2", "no,40,4", name(4)),
+        ("0,5,6", &[4, 6, 10], "cp,0|ul,3,20,30,0,0|cp,1|ax,4|ol,5|ax,2", "ok", name(5)),
+        ("0,5,6", &[5, 8, 11], "cp,0|ll,3,0000000000000002,5,6,0,0|ax,1|ol,4|ax,2", "no,40,3", name(3)),
+        ("0,5,6", &[5, 8, 11], "cp,0|ll,3,0000000000000002,20,31,0,0|ax,1|ol,4|ax,2", "no,40,3", name(4)),
+        ("0,5,6", &[5, 8, 11], "cp,0|ll,3,0000000000000002,20,30,0,0|ax,1|ol,4|ax,2", "ok", name(5)),
         (
             "10,5,6",
             &[7, 9],
@@ -182,10 +183,10 @@ fn arrows() -> Session {
 fn label_64(desk: &mut Desk) {
     let copies = "|cp,0".repeat(63);
     let ends = [("", "no,42,65"), ("|af", "no,40,65"), ("|or", "no,41,64"), ("|or|af", "no,41,64")];
-    for (serial, line) in [(1, "ul,1,5,6"), (2, "ll,1,0000000000000000,5,6")] {
+    for (serial, line) in [(1, "ul,1,5,6,0,0"), (2, "ll,1,0000000000000000,5,6,0,0")] {
         for (end, answer) in ends {
             let n = 64 + end.matches('|').count();
-            let sheet = format!("book,5,0,5,6,1,{n}|hold,{serial}{copies}|{line}{end}");
+            let sheet = format!("book,5,0,5,6,0,0,1,{n}|hold,{serial}{copies}|{line}{end}");
             desk.script(&sheet, answer, ARROWS[6]);
         }
     }

@@ -57,7 +57,7 @@ fn ends() -> Session {
         let seat = desk.model.lines.len() - 4;
         for _ in 0..=n {
             let serial = desk.model.given + 1;
-            desk.script(&format!("issue,s,{seat},0,9"), &format!("ok,{serial}"), "");
+            desk.script(&format!("issue,s,{seat},0,9,0,0"), &format!("ok,{serial}"), "");
         }
     }
     beyond(&mut desk);
@@ -95,9 +95,9 @@ fn m1(session: u32) -> Session {
     let lines = papers::WORDS.map(|line| line.replace(",7", &format!(",{session}")));
     desk.words(&lines.each_ref().map(|line| line.as_str()));
     let tally = format!("tally,{session},540");
-    desk.script("issue,r,7,0,9999", "ok,1", "");
-    desk.script("issue,s,3,0,600", "ok,2", "");
-    desk.script("issue,s,4,0,600", "ok,3", "");
+    desk.script("issue,r,7,0,9999,0,0", "ok,1", "");
+    desk.script("issue,s,3,0,600,0,0", "ok,2", "");
+    desk.script("issue,s,4,0,600,0,0", "ok,3", "");
     desk.script(&tally, "ok,1,0,0", "");
     desk.script(&papers::m1_booking(), "ok,4", "");
     desk.script(&tally, "ok,0,0,1", "past 255: M1");
@@ -120,7 +120,7 @@ fn straight(first: u32, step: u32, mark: &'static str) -> Session {
         firsts[k] = desk.model.given + 1;
         live[k] = 1 + k as u32 % 4;
         for serial in firsts[k]..firsts[k] + live[k] {
-            desk.script(&format!("issue,s,{k},0,9"), &format!("ok,{serial}"), "");
+            desk.script(&format!("issue,s,{k},0,9,0,0"), &format!("ok,{serial}"), "");
         }
         desk.script(&format!("tally,{},9", session(k)), &counted(k, live[k]), mark);
     }
@@ -160,18 +160,18 @@ const CROSSED: [(&str, &str, u32); 14] = [
     ("6|20", "sr|sl,0|af|ax,1", 4), ("7|19", "sr|sl,0|af|ax,1", 4),
     ("8|8|11", "tr,0000000000000002|ax,1|ax,0", 2),
     ("8|21", "tl,0|tr,0000000000000004|ax,2|ax,1", 3),
-    ("2|3|11", "cp,0|ll,2,0000000000000002,5,9|ax,1|ax,3", 3),
-    ("3|3|8", "cp,0|ll,2,0000000000000002,5,9|ax,1|ax,3", 4),
-    ("13|5|8|11", "cp,0|ll,3,0000000000000006,5,9|tr,0000000000000002|ax,1|ax,2|tl,4|tr,0000000000000040|ax,6|ax,5", 8),
+    ("2|3|11", "cp,0|ll,2,0000000000000002,5,9,0,0|ax,1|ax,3", 3),
+    ("3|3|8", "cp,0|ll,2,0000000000000002,5,9,0,0|ax,1|ax,3", 4),
+    ("13|5|8|11", "cp,0|ll,3,0000000000000006,5,9,0,0|tr,0000000000000002|ax,1|ax,2|tl,4|tr,0000000000000040|ax,6|ax,5", 8),
 ];
 
 /// The same with coupons of the right sessions, serials 23 to 32.
 const STRAIGHT: [(&str, &str); 10] = [
     ("0|8", "ax,0"), ("1|11", "ax,0"),
-    ("2|3|9", "cp,0|ll,2,0000000000000002,5,9|ax,1|ax,3"), ("3|4|12", "cp,0|ll,2,0000000000000002,5,9|ax,1|ax,3"),
+    ("2|3|9", "cp,0|ll,2,0000000000000002,5,9,0,0|ax,1|ax,3"), ("3|4|12", "cp,0|ll,2,0000000000000002,5,9,0,0|ax,1|ax,3"),
     ("4|1", "cp,0|ax,1"), ("5|2", "cp,0|ax,1"), ("6|19", "sr|sl,0|af|ax,1"), ("7|20", "sr|sl,0|af|ax,1"),
     ("8|21", "tl,0|tr,0000000000000002|ax,1|ax,2"),
-    ("13|5|23|24", "cp,0|ll,3,0000000000000006,5,9|tr,0000000000000002|ax,1|ax,2|tl,4|tr,0000000000000020|ax,5|ax,6"),
+    ("13|5|23|24", "cp,0|ll,3,0000000000000006,5,9,0,0|tr,0000000000000002|ax,1|ax,2|tl,4|tr,0000000000000020|ax,5|ax,6"),
 ];
 
 /// Withdrawals, each with the two tallies at minute 5 after it.
@@ -207,7 +207,7 @@ impl Two {
         let (goal, holds) = goal_and_holds.split_once('|').expect("a goal and its holds");
         let holds: Vec<String> = holds.split('|').map(|s| format!("hold,{s}|")).collect();
         let (h, n) = (holds.len(), steps.split('|').count());
-        self.desk.script(&format!("book,5,{goal},5,9,{h},{n}|{}{steps}", holds.concat()), answer, mark);
+        self.desk.script(&format!("book,5,{goal},5,9,0,0,{h},{n}|{}{steps}", holds.concat()), answer, mark);
     }
 
     fn coupons(&mut self) {
@@ -220,12 +220,12 @@ impl Two {
         for (n, good) in LINES.iter().enumerate().filter_map(|(n, (_, good))| good.map(|g| (n, g))) {
             let answer = if good { format!("ok,{}", self.desk.model.given + 1) } else { "no,21,0".to_string() };
             let mark = if good { "apart: offer within a session" } else { "apart: offer across sessions" };
-            self.desk.script(&format!("issue,r,{n},0,99"), &answer, mark);
+            self.desk.script(&format!("issue,r,{n},0,99,0,0"), &answer, mark);
         }
         for (wording, window, times) in SINGLES {
             for _ in 0..times {
                 let serial = self.desk.model.given + 1;
-                self.desk.script(&format!("issue,s,{wording},{window}"), &format!("ok,{serial}"), "");
+                self.desk.script(&format!("issue,s,{wording},{window},0,0"), &format!("ok,{serial}"), "");
             }
         }
     }

@@ -12,25 +12,57 @@ pub fn alike(a: u32, b: u32) -> bool {
     a != b && a % 256 == b % 256
 }
 
-/// A window (η-logic's interval).
+/// A window (η-logic's interval): the minutes from..to without the break first..last; 0,0 is no break.
 #[derive(Clone, Copy, PartialEq, Eq, PartialOrd, Ord, Debug)]
 pub struct Window {
     pub from: u32,
     pub to: u32,
+    pub first: u32,
+    pub last: u32,
 }
 
+/// A window without a break.
 pub fn window(from: u32, to: u32) -> Window {
-    Window { from, to }
+    Window { from, to, first: 0, last: 0 }
+}
+
+pub fn with_break(from: u32, to: u32, first: u32, last: u32) -> Window {
+    Window { from, to, first, last }
 }
 
 impl Window {
-    /// self ⊇ inner.
+    pub fn has_break(self) -> bool {
+        (self.first, self.last) != (0, 0)
+    }
+
+    /// Check 43: no break, or one strictly inside.
+    pub fn break_fits(self) -> bool {
+        !self.has_break() || (self.from < self.first && self.first <= self.last && self.last < self.to)
+    }
+
+    /// The same ends without the break.
+    pub fn whole(self) -> Window {
+        window(self.from, self.to)
+    }
+
+    /// self ⊇ inner, as sets of minutes. A window has its own ends; so those of self lie around those of inner, and the
+    /// break of self lies where inner has no minute: before it, in its break or behind it, whole in one of these.
     pub fn contains(self, inner: Window) -> bool {
-        self.from <= inner.from && inner.to <= self.to
+        let before = self.last < inner.from;
+        let behind = inner.to < self.first;
+        let within = inner.has_break() && inner.first <= self.first && self.last <= inner.last;
+        let ends = self.from <= inner.from && inner.to <= self.to;
+        ends && (!self.has_break() || before || behind || within)
     }
 
     pub fn has(self, minute: u32) -> bool {
-        self.from <= minute && minute <= self.to
+        let in_break = self.has_break() && self.first <= minute && minute <= self.last;
+        self.from <= minute && minute <= self.to && !in_break
+    }
+
+    /// The four fields.
+    pub fn text(self) -> String {
+        format!("{},{},{},{}", self.from, self.to, self.first, self.last)
     }
 }
 

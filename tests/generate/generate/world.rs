@@ -13,6 +13,77 @@ pub struct World {
     pub windows: Vec<Window>,
 }
 
+/// The window with a break, and with a shorter one inside that, where there is room: as long as can be, one minute,
+/// about now, beside now, or any.
+fn paused(rng: &mut Rng, w: Window, now: u32) -> Vec<Window> {
+    if w.to - w.from < 2 {
+        return vec![];
+    }
+    let (lo, hi) = (w.from + 1, w.to - 1);
+    let some = rng.between(lo, hi);
+    let (first, last) = match rng.below(6) {
+        0 => (lo, hi),
+        1 => (some, some),
+        2 if lo <= now && now <= hi => (rng.between(lo, now), rng.between(now, hi)),
+        3 if w.from <= now && now < hi => (now + 1, rng.between(now + 1, hi)),
+        4 if lo < now && now <= w.to => (rng.between(lo, now - 1), now - 1),
+        _ => (some, rng.between(some, hi)),
+    };
+    let shorter = rng.between(first, last);
+    let shorter = (shorter, rng.between(shorter, last));
+    [(first, last), shorter].map(|(first, last)| with_break(w.from, w.to, first, last)).to_vec()
+}
+
+/// A window that contains this one: its break shorter or gone, or a break beside it.
+pub fn around(rng: &mut Rng, inner: Window) -> Window {
+    let (a, b) = (inner.from, inner.to);
+    let mut all = vec![inner, inner.whole()];
+    if inner.has_break() {
+        let first = rng.between(inner.first, inner.last);
+        all.extend([
+            with_break(a, b, first, rng.between(first, inner.last)),
+            with_break(a, b, inner.first, first),
+            with_break(a, b, first, inner.last),
+        ]);
+    }
+    if a >= 2 {
+        let first = rng.between(1, a - 1);
+        all.extend([with_break(0, b, 1, a - 1), with_break(0, b, first, rng.between(first, a - 1))]);
+    }
+    if b <= LAST_MINUTE - 2 {
+        let first = rng.between(b + 1, LAST_MINUTE - 1);
+        let last = rng.between(first, LAST_MINUTE - 1);
+        all.extend([with_break(a, LAST_MINUTE, b + 1, LAST_MINUTE - 1), with_break(a, LAST_MINUTE, first, last)]);
+    }
+    let outer = rng.pick(&all);
+    assert!(outer.break_fits() && outer.contains(inner));
+    outer
+}
+
+/// A window within this one.
+pub fn inside(rng: &mut Rng, outer: Window) -> Window {
+    let mut some = minutes_of(outer);
+    some.extend([rng.between(outer.from, outer.to), rng.between(outer.from, outer.to)]);
+    some.retain(|m| outer.has(*m));
+    let (one, other) = (rng.pick(&some), rng.pick(&some));
+    let (from, to) = (one.min(other), one.max(other));
+    let inner = if outer.has_break() && from < outer.first && outer.last < to {
+        with_break(from, to, rng.between(from + 1, outer.first), rng.between(outer.last, to - 1))
+    } else if to - from >= 2 && rng.chance(1, 2) {
+        let first = rng.between(from + 1, to - 1);
+        with_break(from, to, first, rng.between(first, to - 1))
+    } else {
+        window(from, to)
+    };
+    assert!(inner.break_fits() && outer.contains(inner));
+    inner
+}
+
+/// The minutes of the window at its ends, and beside its break.
+pub fn minutes_of(w: Window) -> Vec<u32> {
+    if w.has_break() { vec![w.from, w.to, w.first - 1, w.last + 1] } else { vec![w.from, w.to] }
+}
+
 impl World {
     pub fn new(rng: &mut Rng) -> World {
         let now = rng.pick(&[540, 540, 0, LAST_MINUTE, rng.clone().between(1, LAST_MINUTE - 1)]);
@@ -28,6 +99,9 @@ impl World {
         let far = rng.between(0, LAST_MINUTE);
         windows.push(window(far, (far + rng.between(0, 90)).min(LAST_MINUTE)));
         windows.push(rng.pick(&[window(0, 0), window(LAST_MINUTE, LAST_MINUTE)]));
+        for w in windows.clone() {
+            windows.extend(paused(rng, w, now));
+        }
         let pair = |rng: &mut Rng| vec![rng.between(0, 255), rng.pick(&[0, 7, 255])];
         World {
             now,
@@ -55,11 +129,11 @@ impl World {
         rng.pick(&self.windows)
     }
 
-    /// A window of the stock, or this one itself, that contains this one.
+    /// A window of the stock, or this one itself, or one about it, that contains this one.
     pub fn containing(&self, rng: &mut Rng, inner: Window) -> Window {
         let mut good: Vec<Window> = self.windows.iter().copied().filter(|w| w.contains(inner)).collect();
         good.push(inner);
-        rng.pick(&good)
+        if rng.chance(1, 3) { around(rng, inner) } else { rng.pick(&good) }
     }
 
     /// A window of the stock that has the minute now.

@@ -23,7 +23,7 @@ impl StepLine {
             text += &format!(",{share:016x}");
         }
         if let Some(w) = self.window {
-            text += &format!(",{},{}", w.from, w.to);
+            text += &format!(",{}", w.text());
         }
         text
     }

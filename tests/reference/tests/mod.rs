@@ -4,6 +4,7 @@ use super::form::MAX_BYTES;
 use super::Answer::{Counted, Done, Refused};
 use super::{Answer, Till};
 
+mod breaks;
 mod ranges;
 mod rules;
 mod state;
@@ -76,11 +77,14 @@ fn refusal_2_for_any_broken_form() {
         "word,a,1,7,7", "word, a,1,7", "word,a, 1,7", "word,a,1,7 ", " word,a,1,7", "Word,a,1,7",
         "word,A,1,7", "word,a,01,7", "word,a,1,07", "word,a,+1,7", "word,a,-1,7", "word,a,00,7",
         "word,a,,7", "word,a,1;7", "word,a,1,0x7", "word,\"a\",1,7", "word\na,1,7", "word,\na,1,7",
-        "word,aa,1,7", "word,b,1,1", "word,t,0", "word,t,0,0,0", "word,h,0,1", "word,g,1,2,3",
-        "word,g,1,2,3,4,5", "word,s,1", "issue,x,0,0,9", "issue,S,0,0,9", "issue,,0,0,9",
-        "issue,sr,0,0,9", "issue,s,0,0", "issue,s,0,0,9,9", "issue,s,0,0,9\n", "withdraw", "withdraw,",
-        "withdraw,1,1", "withdraw,01", "tally,7", "tally,7,540,", "tally,7,540,1", "tally,7,540\ntally,7,540",
-        "hold,1", "ax,0", "book", "books,0,0,0,0,0,1\nor", "", "ok,0",
+        "word,aa,1,7", "word,b,1,1", "word,t,0", "word,t,0,0,0", "word,h,0,1", "word,h,0,1,2,0",
+        "word,h,0,1,2,0,0,0", "word,g,1,2,0,0,3,4,0", "word,g,1,2,0,0,3,4,0,0,5", "word,s,1",
+        "issue,x,0,0,9,0,0", "issue,S,0,0,9,0,0", "issue,,0,0,9,0,0", "issue,sr,0,0,9,0,0", "issue,s,0,0",
+        "issue,s,0,0,9,0", "issue,s,0,0,9,0,0,", "issue,s,0,0,9,0,0,0", "issue,s,0,0,9,0,,0",
+        "issue,s,0,0,9,,0", "issue,s,0,0,9,00,0", "issue,s,0,0,9,0,00", "issue,s,0,0,9,03,4",
+        "issue,s,0,0,9,0,0\n", "withdraw", "withdraw,", "withdraw,1,1", "withdraw,01", "tally,7",
+        "tally,7,540,", "tally,7,540,1", "tally,7,540\ntally,7,540", "hold,1", "ax,0", "book",
+        "books,0,0,0,0,0,0,0,1\nor", "", "ok,0", "\0word,a,1,7", "word,a,1,7\0",
     ];
     for sheet in broken {
         assert_eq!(after(&["word,o"], sheet), Refused(2, 0), "{sheet}");
@@ -90,20 +94,21 @@ fn refusal_2_for_any_broken_form() {
 #[test]
 fn refusal_2_for_the_lines_of_a_booking() {
     let broken = [
-        "book,0,0,0,9,0,1",
-        "book,0,0,0,9,0,1\nor\nor",
-        "book,0,0,0,9,0,1\nor\n",
-        "book,0,0,0,9,0,2\nor",
-        "book,0,0,0,9,1,1\nor",
-        "book,0,0,0,9,1,1\nor\nhold,1",
-        "book,0,0,0,9,0,1\nhold,1\nor",
-        "book,0,0,0,9,1,1\nhold,1",
-        "book,0,0,0,9,1,1\nhold,1,1\nor",
-        "book,0,0,0,9,1,1\nhold\nor",
-        "book,0,0,0,9,1,1\nholds,1\nor",
-        "book,0,0,0,9,0,1,1\nor",
-        "book,0,0,0,9,0\nor",
-        "book,0,0,0,9,0,1\n\nor",
+        "book,0,0,0,9,0,0,0,1",
+        "book,0,0,0,9,0,0,0,1\nor\nor",
+        "book,0,0,0,9,0,0,0,1\nor\n",
+        "book,0,0,0,9,0,0,0,2\nor",
+        "book,0,0,0,9,0,0,1,1\nor",
+        "book,0,0,0,9,0,0,1,1\nor\nhold,1",
+        "book,0,0,0,9,0,0,0,1\nhold,1\nor",
+        "book,0,0,0,9,0,0,1,1\nhold,1",
+        "book,0,0,0,9,0,0,1,1\nhold,1,1\nor",
+        "book,0,0,0,9,0,0,1,1\nhold\nor",
+        "book,0,0,0,9,0,0,1,1\nholds,1\nor",
+        "book,0,0,0,9,0,0,0,1,1\nor",
+        "book,0,0,0,9,0,0,1\nor",
+        "book,0,0,0,9,0,0,0\nor",
+        "book,0,0,0,9,0,0,0,1\n\nor",
     ];
     for sheet in broken {
         assert_eq!(after(&["word,a,9,7"], sheet), Refused(2, 0), "{sheet}");
@@ -117,10 +122,11 @@ fn refusal_2_for_broken_step_lines_even_after_a_wrong_step() {
         "ax,", "ax,0,0", "ax,00", "cp", "tr", "tr,", "tr,0", "tr,000000000000001", "tr,00000000000000011",
         "tr,000000000000000A", "tr,000000000000000g", "tr,0000000000000001,", "tr,0x00000000000001",
         "tl", "ol", "w1", "w2", "w3,0", "p3", "pl", "ll,0", "ll,0,0000000000000000,0", "ul,0,0",
-        "ll,0,0000000000000000,0,0,0", "ll,0,0,0,0", "ul,0,0,0,0", "bl", "hl", "sl", "AX,0", "a,0", "axx,0",
+        "ll,0,0000000000000000,0,0,0", "ll,0,0000000000000000,0,0,0,0,0", "ll,0,0,0,0,0,0", "ul,0,0,0,0",
+        "ul,0,0,0,0,0,0", "bl", "hl", "sl", "AX,0", "a,0", "axx,0",
     ];
     for step in broken {
-        let sheet = booking("0,0,0,9", &[], &["or", step]);
+        let sheet = booking("0,0,0,9,0,0", &[], &["or", step]);
         assert_eq!(after(&["word,a,9,7"], &sheet), Refused(2, 0), "{step}");
     }
 }
@@ -128,48 +134,49 @@ fn refusal_2_for_broken_step_lines_even_after_a_wrong_step() {
 #[test]
 fn refusal_3_for_head_step_and_formula_intervals() {
     let words = ["word,a,9,7"];
-    assert_eq!(after(&words, "word,h,0,5,4"), Refused(3, 0));
-    assert_eq!(after(&words, "word,g,5,4,0,0"), Refused(3, 0));
-    assert_eq!(after(&words, "word,g,0,0,5,4"), Refused(3, 0));
-    assert_eq!(after(&words, "issue,s,0,5,4"), Refused(3, 0));
-    assert_eq!(after(&words, "book,0,0,5,4,0,1\nor"), Refused(3, 0));
-    assert_eq!(after(&words, "book,0,0,0,4,0,2\nor\nul,0,5,4"), Refused(3, 0));
-    assert_eq!(after(&words, "book,0,0,0,4,0,2\nor\nll,0,0000000000000000,5,4"), Refused(3, 0));
-    assert_eq!(after(&words, "word,h,0,5,5"), Done(1));
-    assert_eq!(after(&words, "word,g,5,5,0,0"), Done(1));
-    assert_eq!(after(&words, "issue,s,0,5,5"), Done(1));
+    assert_eq!(after(&words, "word,h,0,5,4,0,0"), Refused(3, 0));
+    assert_eq!(after(&words, "word,g,5,4,0,0,0,0,0,0"), Refused(3, 0));
+    assert_eq!(after(&words, "word,g,0,0,0,0,5,4,0,0"), Refused(3, 0));
+    assert_eq!(after(&words, "issue,s,0,5,4,0,0"), Refused(3, 0));
+    assert_eq!(after(&words, "book,0,0,5,4,0,0,0,1\nor"), Refused(3, 0));
+    assert_eq!(after(&words, "book,0,0,0,4,0,0,0,2\nor\nul,0,5,4,0,0"), Refused(3, 0));
+    assert_eq!(after(&words, "book,0,0,0,4,0,0,0,2\nor\nll,0,0000000000000000,5,4,0,0"), Refused(3, 0));
+    assert_eq!(after(&words, "word,h,0,5,5,0,0"), Done(1));
+    assert_eq!(after(&words, "word,g,5,5,0,0,0,0,0,0"), Done(1));
+    assert_eq!(after(&words, "issue,s,0,5,5,0,0"), Done(1));
 }
 
 #[test]
 fn refusal_2_comes_before_3_anywhere_in_the_sheet() {
     let words = ["word,a,9,7"];
-    assert_eq!(after(&words, "book,0,0,5,4,0,2\nor\nxx"), Refused(2, 0));
-    assert_eq!(after(&words, "book,0,0,5,4,0,1\nor\nor"), Refused(2, 0));
-    assert_eq!(after(&words, "word,g,5,4,0,10000000"), Refused(2, 0));
-    assert_eq!(after(&words, "issue,s,0,10000000,4"), Refused(2, 0));
+    assert_eq!(after(&words, "book,0,0,5,4,0,0,0,2\nor\nxx"), Refused(2, 0));
+    assert_eq!(after(&words, "book,0,0,5,4,0,0,0,1\nor\nor"), Refused(2, 0));
+    assert_eq!(after(&words, "word,g,5,4,0,0,0,10000000,0,0"), Refused(2, 0));
+    assert_eq!(after(&words, "issue,s,0,10000000,4,0,0"), Refused(2, 0));
 }
 
 #[test]
 fn refusal_3_comes_before_10() {
-    assert_eq!(after(&[], "word,h,0,5,4"), Refused(3, 0));
-    assert_eq!(after(&[], "issue,s,0,5,4"), Refused(3, 0));
-    assert_eq!(after(&[], "book,0,0,0,0,0,1\nul,0,5,4"), Refused(3, 0));
+    assert_eq!(after(&[], "word,h,0,5,4,0,0"), Refused(3, 0));
+    assert_eq!(after(&[], "issue,s,0,5,4,0,0"), Refused(3, 0));
+    assert_eq!(after(&[], "book,0,0,0,0,0,0,0,1\nul,0,5,4,0,0"), Refused(3, 0));
 }
 
 #[test]
 fn refusal_10_for_every_named_formula() {
     let words = ["word,a,9,7"];
-    for line in ["t,0,1", "t,1,0", "w,0,1", "p,1,0", "l,0,1", "u,1,0", "b,1", "h,1,0,0", "s,0,1", "t,0,999"] {
+    let parts = ["t,0,1", "t,1,0", "w,0,1", "p,1,0", "l,0,1", "u,1,0", "b,1", "s,0,1", "t,0,999"];
+    for line in parts.into_iter().chain(["h,1,0,0,0,0", "h,1,0,9,3,4"]) {
         assert_eq!(after(&words, &format!("word,{line}")), Refused(10, 0), "{line}");
     }
-    assert_eq!(after(&words, "issue,s,1,0,9"), Refused(10, 0));
-    assert_eq!(after(&words, "issue,r,1,0,9"), Refused(10, 0));
-    assert_eq!(after(&words, "book,0,1,0,9,0,1\nor"), Refused(10, 0));
+    assert_eq!(after(&words, "issue,s,1,0,9,0,0"), Refused(10, 0));
+    assert_eq!(after(&words, "issue,r,1,0,9,0,0"), Refused(10, 0));
+    assert_eq!(after(&words, "book,0,1,0,9,0,0,0,1\nor"), Refused(10, 0));
 }
 
 #[test]
 fn refusal_10_comes_before_24_and_30() {
-    assert_eq!(after(&[], "book,9,0,0,0,1,1\nhold,1\nor"), Refused(10, 0));
+    assert_eq!(after(&[], "book,9,0,0,0,0,0,1,1\nhold,1\nor"), Refused(10, 0));
 }
 
 #[test]
@@ -181,16 +188,19 @@ fn refusal_12_counts_a_part_used_twice_twice() {
     let mut till = till_after(&words);
     assert_eq!(ask(&mut till, "word,b,5"), Done(6));
     assert_eq!(ask(&mut till, "word,b,6"), Refused(12, 0));
-    assert_eq!(ask(&mut till, "word,h,6,0,9"), Refused(12, 0));
+    assert_eq!(ask(&mut till, "word,h,6,0,9,0,0"), Refused(12, 0));
+    assert_eq!(ask(&mut till, "word,h,6,0,9,0,9"), Refused(43, 0));
 }
 
 #[test]
 fn refusal_13_for_an_equal_line_only() {
-    let words = ["word,a,9,7", "word,a,9,8", "word,t,0,1", "word,h,0,0,9", "word,g,0,9,1,2", "word,o"];
+    let words = [
+        "word,a,9,7", "word,a,9,8", "word,t,0,1", "word,h,0,0,9,0,0", "word,g,0,9,0,0,1,2,0,0", "word,o",
+    ];
     for line in words {
         assert_eq!(after(&words, line), Refused(13, 0), "{line}");
     }
-    for line in ["word,t,1,0", "word,w,0,1", "word,h,0,0,8", "word,g,1,2,0,9", "word,a,8,9"] {
+    for line in ["word,t,1,0", "word,w,0,1", "word,h,0,0,8,0,0", "word,g,1,2,0,0,0,9,0,0", "word,a,8,9"] {
         assert_eq!(after(&words, line), Done(6), "{line}");
     }
 }
@@ -222,8 +232,9 @@ fn refusal_14_at_200_after_10_12_and_13() {
     assert_eq!(ask(&mut till, "word,a,3,200"), Refused(14, 0));
     assert_eq!(ask(&mut till, "word,a,3,199"), Refused(13, 0));
     assert_eq!(ask(&mut till, "word,b,200"), Refused(10, 0));
-    assert_eq!(ask(&mut till, "issue,s,199,0,9"), Done(1));
-    assert_eq!(ask(&mut till, "issue,s,200,0,9"), Refused(10, 0));
+    assert_eq!(ask(&mut till, "word,h,0,0,9,0,9"), Refused(43, 0));
+    assert_eq!(ask(&mut till, "issue,s,199,0,9,0,0"), Done(1));
+    assert_eq!(ask(&mut till, "issue,s,200,0,9,0,0"), Refused(10, 0));
 }
 
 #[test]
@@ -241,36 +252,36 @@ fn refusal_12_comes_before_14() {
 fn refusal_20_unless_only_a_t_s() {
     let mut words = vec!["word,a,9,7", "word,a,1,7", "word,s,255,1", "word,t,1,2", "word,s,0,3"];
     for id in 0..5 {
-        assert_eq!(after(&words, &format!("issue,s,{id},0,9")), Done(1));
+        assert_eq!(after(&words, &format!("issue,s,{id},0,9,0,0")), Done(1));
     }
     words.extend(["word,o", "word,w,0,0", "word,p,0,0", "word,l,0,0", "word,u,0,0", "word,b,0"]);
-    words.extend(["word,h,0,0,9", "word,g,0,9,0,9", "word,t,0,5", "word,s,1,11"]);
+    words.extend(["word,h,0,0,9,0,0", "word,g,0,9,0,0,0,9,0,0", "word,t,0,5", "word,s,1,11"]);
     for id in 5..15 {
-        assert_eq!(after(&words, &format!("issue,s,{id},0,9")), Refused(20, 0), "{id}");
-        let book = booking(&format!("0,{id},0,9"), &[], &["or"]);
+        assert_eq!(after(&words, &format!("issue,s,{id},0,9,0,0")), Refused(20, 0), "{id}");
+        let book = booking(&format!("0,{id},0,9,0,0"), &[], &["or"]);
         assert_eq!(after(&words, &book), Refused(20, 0), "{id}");
     }
 }
 
 #[test]
 fn refusal_20_comes_before_30_and_24() {
-    let sheet = booking("9,0,0,0", &[1], &["or"]);
+    let sheet = booking("9,0,0,0,0,0", &[1], &["or"]);
     assert_eq!(after(&["word,o"], &sheet), Refused(20, 0));
 }
 
 #[test]
 fn refusal_30_on_both_sides_of_the_window() {
-    let words = ["word,a,9,7", "issue,s,0,0,99"];
+    let words = ["word,a,9,7", "issue,s,0,0,99,0,0"];
     for (now, answer) in [(4, Refused(30, 0)), (5, Done(2)), (7, Done(2)), (8, Refused(30, 0))] {
-        assert_eq!(after(&words, &booking(&format!("{now},0,5,7"), &[1], &["ax,0"])), answer, "{now}");
+        assert_eq!(after(&words, &booking(&format!("{now},0,5,7,0,0"), &[1], &["ax,0"])), answer, "{now}");
     }
-    assert_eq!(after(&words, &booking("4,0,5,7", &[9], &["ax,0"])), Refused(30, 0));
+    assert_eq!(after(&words, &booking("4,0,5,7,0,0", &[9], &["ax,0"])), Refused(30, 0));
 }
 
 #[test]
 fn refusal_24_for_serials_not_given_spent_or_withdrawn() {
-    let words = ["word,a,9,7", "issue,s,0,0,9"];
-    let book = booking("0,0,0,9", &[1], &["ax,0"]);
+    let words = ["word,a,9,7", "issue,s,0,0,9,0,0"];
+    let book = booking("0,0,0,9,0,0", &[1], &["ax,0"]);
     assert_eq!(after(&words, "withdraw,2"), Refused(24, 0));
     assert_eq!(after(&words, "withdraw,1"), Done(1));
     assert_eq!(after(&[&words[..], &["withdraw,1"]].concat(), "withdraw,1"), Refused(24, 0));
@@ -284,16 +295,16 @@ fn refusal_24_for_serials_not_given_spent_or_withdrawn() {
 
 #[test]
 fn refusal_24_of_any_hold_comes_before_31() {
-    let words = ["word,a,9,7", "issue,s,0,0,9"];
+    let words = ["word,a,9,7", "issue,s,0,0,9,0,0"];
     for (holds, number) in [(&[1, 1, 2][..], 24), (&[2, 2], 24), (&[1, 1], 31), (&[1, 2, 1], 24)] {
-        assert_eq!(after(&words, &booking("0,0,0,9", holds, &["or"])), Refused(number, 0), "{holds:?}");
+        assert_eq!(after(&words, &booking("0,0,0,9,0,0", holds, &["or"])), Refused(number, 0), "{holds:?}");
     }
 }
 
 #[test]
 fn refusal_31_for_a_standing_serial_too() {
-    let words = ["word,a,9,7", "issue,r,0,0,9", "issue,s,0,0,9"];
+    let words = ["word,a,9,7", "issue,r,0,0,9,0,0", "issue,s,0,0,9,0,0"];
     for holds in [[1, 1, 2], [1, 2, 1], [2, 1, 2]] {
-        assert_eq!(after(&words, &booking("0,0,0,9", &holds, &["ax,0"])), Refused(31, 0), "{holds:?}");
+        assert_eq!(after(&words, &booking("0,0,0,9,0,0", &holds, &["ax,0"])), Refused(31, 0), "{holds:?}");
     }
 }

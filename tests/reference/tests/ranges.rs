@@ -37,7 +37,7 @@ fn sessions_go_from_0_to_65_535() {
 
 #[test]
 fn a_session_too_large_breaks_the_form_and_is_never_cut() {
-    let words = ["word,a,1,7", "issue,s,0,0,9"];
+    let words = ["word,a,1,7", "issue,s,0,0,9,0,0"];
     for number in ["65536", "65543", "4294967303", "18446744073709551623", "065535", "65535 ", "65535,"] {
         assert_eq!(after(&words, &format!("word,a,1,{number}")), Refused(2, 0), "{number}");
         assert_eq!(after(&words, &format!("word,a,2,{number}")), Refused(2, 0), "{number}");
@@ -50,10 +50,19 @@ fn a_session_too_large_breaks_the_form_and_is_never_cut() {
 #[test]
 fn minutes_go_from_0_to_9_999_999() {
     let patterns = [
-        "tally,0,#", "issue,s,0,#,0", "issue,r,0,0,#", "word,h,0,#,0", "word,h,0,0,#", "word,g,#,0,0,0",
-        "word,g,0,#,0,0", "word,g,0,0,#,0", "word,g,0,0,0,#", "book,#,0,0,0,0,1\nor", "book,0,0,#,0,0,1\nor",
-        "book,0,0,0,#,0,1\nor", "book,0,0,0,0,0,1\nul,0,#,0", "book,0,0,0,0,0,1\nul,0,0,#",
-        "book,0,0,0,0,0,1\nll,0,0000000000000000,#,0", "book,0,0,0,0,0,1\nll,0,0000000000000000,0,#",
+        "tally,0,#", "issue,s,0,#,0,0,0", "issue,r,0,0,#,0,0", "issue,s,0,0,0,#,0", "issue,r,0,0,0,0,#",
+        "word,h,0,#,0,0,0", "word,h,0,0,#,0,0", "word,h,0,0,0,#,0", "word,h,0,0,0,0,#",
+        "word,g,#,0,0,0,0,0,0,0", "word,g,0,#,0,0,0,0,0,0", "word,g,0,0,#,0,0,0,0,0",
+        "word,g,0,0,0,#,0,0,0,0", "word,g,0,0,0,0,#,0,0,0", "word,g,0,0,0,0,0,#,0,0",
+        "word,g,0,0,0,0,0,0,#,0", "word,g,0,0,0,0,0,0,0,#",
+        "book,#,0,0,0,0,0,0,1\nor", "book,0,0,#,0,0,0,0,1\nor", "book,0,0,0,#,0,0,0,1\nor",
+        "book,0,0,0,0,#,0,0,1\nor", "book,0,0,0,0,0,#,0,1\nor",
+        "book,0,0,0,0,0,0,0,1\nul,0,#,0,0,0", "book,0,0,0,0,0,0,0,1\nul,0,0,#,0,0",
+        "book,0,0,0,0,0,0,0,1\nul,0,0,0,#,0", "book,0,0,0,0,0,0,0,1\nul,0,0,0,0,#",
+        "book,0,0,0,0,0,0,0,1\nll,0,0000000000000000,#,0,0,0",
+        "book,0,0,0,0,0,0,0,1\nll,0,0000000000000000,0,#,0,0",
+        "book,0,0,0,0,0,0,0,1\nll,0,0000000000000000,0,0,#,0",
+        "book,0,0,0,0,0,0,0,1\nll,0,0000000000000000,0,0,0,#",
     ];
     for pattern in patterns {
         check(pattern, &[0, 1, 9_999_999], &[10_000_000, 99_999_999]);
@@ -63,9 +72,9 @@ fn minutes_go_from_0_to_9_999_999() {
 #[test]
 fn formula_numbers_go_from_0_to_999() {
     let patterns = [
-        "issue,s,#,0,0", "issue,r,#,0,0", "word,b,#", "word,h,#,0,0", "word,s,0,#", "word,t,#,0",
+        "issue,s,#,0,0,0,0", "issue,r,#,0,0,0,0", "word,b,#", "word,h,#,0,0,0,0", "word,s,0,#", "word,t,#,0",
         "word,t,0,#", "word,w,#,0", "word,w,0,#", "word,p,#,0", "word,p,0,#", "word,l,#,0", "word,l,0,#",
-        "word,u,#,0", "word,u,0,#", "book,0,#,0,0,0,1\nor",
+        "word,u,#,0", "word,u,0,#", "book,0,#,0,0,0,0,0,1\nor",
     ];
     for pattern in patterns {
         check(pattern, &[0, 199, 200, 999], &[1000, 9999]);
@@ -74,7 +83,7 @@ fn formula_numbers_go_from_0_to_999() {
 
 #[test]
 fn serials_go_from_1_to_999_999() {
-    for pattern in ["withdraw,#", "book,0,0,0,0,1,1\nhold,#\nor"] {
+    for pattern in ["withdraw,#", "book,0,0,0,0,0,0,1,1\nhold,#\nor"] {
         check(pattern, &[1, 9, 999_999], &[0, 1_000_000]);
     }
 }
@@ -82,10 +91,10 @@ fn serials_go_from_1_to_999_999() {
 #[test]
 fn labels_go_from_0_to_63() {
     for step in ["ax", "cp", "tl", "ol", "w1", "w2", "pl", "bl", "hl", "sl"] {
-        check(&format!("book,0,0,0,0,0,1\n{step},#"), &[0, 9, 10, 63], &[64, 99, 100]);
+        check(&format!("book,0,0,0,0,0,0,0,1\n{step},#"), &[0, 9, 10, 63], &[64, 99, 100]);
     }
-    check("book,0,0,0,0,0,1\nul,#,0,0", &[0, 63], &[64]);
-    check("book,0,0,0,0,0,1\nll,#,0000000000000000,0,0", &[0, 63], &[64]);
+    check("book,0,0,0,0,0,0,0,1\nul,#,0,0,0,0", &[0, 63], &[64]);
+    check("book,0,0,0,0,0,0,0,1\nll,#,0000000000000000,0,0,0,0", &[0, 63], &[64]);
 }
 
 #[test]
@@ -93,7 +102,7 @@ fn holds_go_from_0_to_32_and_steps_from_1_to_256() {
     let inside = [(0, 1, true), (32, 256, true)];
     let outside = [(33, 1, false), (0, 0, false), (0, 257, false)];
     for (holds, steps, right) in inside.into_iter().chain(outside) {
-        let sheet = booking("0,0,0,0", &vec![1; holds], &vec!["or"; steps]);
+        let sheet = booking("0,0,0,0,0,0", &vec![1; holds], &vec!["or"; steps]);
         assert_eq!(in_form(&sheet), right, "{holds} {steps}");
     }
 }
@@ -101,18 +110,18 @@ fn holds_go_from_0_to_32_and_steps_from_1_to_256() {
 #[test]
 fn a_share_has_exactly_16_lower_case_hexadecimal_digits() {
     for share in ["0000000000000000", "ffffffffffffffff", "0123456789abcdef"] {
-        assert!(in_form(&format!("book,0,0,0,0,0,1\ntr,{share}")), "{share}");
+        assert!(in_form(&format!("book,0,0,0,0,0,0,0,1\ntr,{share}")), "{share}");
     }
     for share in ["", "0", "fffffffffffffff", "fffffffffffffffff", "FFFFFFFFFFFFFFFF", "000000000000000g"] {
-        assert!(!in_form(&format!("book,0,0,0,0,0,1\ntr,{share}")), "{share}");
-        assert!(!in_form(&format!("book,0,0,0,0,0,1\nll,0,{share},0,0")), "{share}");
+        assert!(!in_form(&format!("book,0,0,0,0,0,0,0,1\ntr,{share}")), "{share}");
+        assert!(!in_form(&format!("book,0,0,0,0,0,0,0,1\nll,0,{share},0,0,0,0")), "{share}");
     }
 }
 
 #[test]
 fn a_label_in_range_but_not_taken_breaks_the_rule_not_the_form() {
-    let words = ["word,a,9,7", "issue,s,0,0,9"];
-    assert_eq!(after(&words, &booking("0,0,0,9", &[1], &["ax,63"])), Refused(40, 1));
-    assert_eq!(after(&words, &booking("0,0,0,9", &[1], &["ax,64"])), Refused(2, 0));
-    assert_eq!(after(&words, &booking("0,0,0,9", &[1], &["cp,1"])), Refused(40, 1));
+    let words = ["word,a,9,7", "issue,s,0,0,9,0,0"];
+    assert_eq!(after(&words, &booking("0,0,0,9,0,0", &[1], &["ax,63"])), Refused(40, 1));
+    assert_eq!(after(&words, &booking("0,0,0,9,0,0", &[1], &["ax,64"])), Refused(2, 0));
+    assert_eq!(after(&words, &booking("0,0,0,9,0,0", &[1], &["cp,1"])), Refused(40, 1));
 }

@@ -6,7 +6,7 @@ use super::{after, ask, booking, till_after, Answer, Counted, Done, Refused, Til
 fn stand(words: &[&str]) -> Answer {
     let words: Vec<String> = words.iter().map(|word| format!("word,{word}")).collect();
     let words: Vec<&str> = words.iter().map(String::as_str).collect();
-    after(&words, &format!("issue,r,{},0,9", words.len() - 1))
+    after(&words, &format!("issue,r,{},0,9,0,0", words.len() - 1))
 }
 
 const RIGHT: Answer = Done(1);
@@ -19,7 +19,7 @@ fn balanced_needs_weight_0_for_every_session() {
     assert_eq!(stand(&["a,0,7"]), RIGHT);
     assert_eq!(stand(&["a,3,7"]), RIGHT);
     assert_eq!(stand(&["o"]), RIGHT);
-    assert_eq!(stand(&["g,0,1,0,9"]), RIGHT);
+    assert_eq!(stand(&["g,0,1,0,0,0,9,0,0"]), RIGHT);
     assert_eq!(stand(&["a,1,7", "a,2,7", "l,0,1"]), RIGHT);
     assert_eq!(stand(&["a,1,7", "a,2,8", "l,0,1"]), WRONG);
     assert_eq!(stand(&["a,1,0", "a,2,255", "l,0,1"]), WRONG);
@@ -83,9 +83,9 @@ fn thirty_two_sessions_in_a_wording() {
     for (number, line) in seats_of(&sessions).iter().enumerate() {
         assert_eq!(ask(&mut till, &format!("word,{line}")), Done(number as u32));
     }
-    assert_eq!(ask(&mut till, "issue,s,62,0,9"), Done(1));
+    assert_eq!(ask(&mut till, "issue,s,62,0,9,0,0"), Done(1));
     assert_eq!(ask(&mut till, "word,s,1,62"), Done(63));
-    assert_eq!(ask(&mut till, "issue,s,63,5,9"), Done(2));
+    assert_eq!(ask(&mut till, "issue,s,63,5,9,0,0"), Done(2));
     assert_eq!(ask(&mut till, "word,t,0,62"), Refused(12, 0));
     for session in &sessions {
         assert_eq!(ask(&mut till, &format!("tally,{session},0")), Counted(1, 1, 0));
@@ -131,7 +131,7 @@ fn sixteen_sessions_on_either_side_balance_one_by_one() {
 fn weights_of_tensor_lolli_and_says() {
     assert_eq!(stand(&["a,1,7", "l,0,0", "t,0,1"]), WRONG);
     assert_eq!(stand(&["a,1,7", "a,2,7", "t,0,0", "t,0,1", "l,2,3"]), RIGHT);
-    assert_eq!(stand(&["a,1,7", "s,3,0", "h,1,0,5", "l,0,2"]), RIGHT);
+    assert_eq!(stand(&["a,1,7", "s,3,0", "h,1,0,5,0,0", "l,0,2"]), RIGHT);
     // negative and positive weights meet: (seat ⊸ 1) ⊗ place
     assert_eq!(stand(&["a,1,7", "a,2,7", "o", "l,0,2", "t,3,1"]), RIGHT);
     assert_eq!(stand(&["a,1,7", "o", "l,0,1"]), WRONG);
@@ -183,7 +183,7 @@ fn plain_standing_coupons_need_balance_not_plainness_alone() {
 fn tally_counts_seats_by_window_and_places_in_any() {
     let mut till = till_after(&[
         "word,a,1,7", "word,a,2,7", "word,a,1,8", "word,t,0,0", "word,t,3,1", "word,s,1,4", "word,t,5,2",
-        "issue,s,6,10,20", "issue,s,0,15,30", "issue,s,1,0,5", "issue,s,2,12,12",
+        "issue,s,6,10,20,0,0", "issue,s,0,15,30,0,0", "issue,s,1,0,5,0,0", "issue,s,2,12,12,0,0",
     ]);
     assert_eq!(ask(&mut till, "tally,7,9"), Counted(0, 3, 2));
     assert_eq!(ask(&mut till, "tally,7,10"), Counted(2, 1, 2));
@@ -201,7 +201,9 @@ fn tally_counts_seats_by_window_and_places_in_any() {
 fn tally_tells_sessions_apart() {
     for (one, other) in APART {
         let words = [format!("word,a,1,{one}"), format!("word,a,1,{other}"), format!("word,a,2,{other}")];
-        let coupons = ["word,t,0,1", "issue,s,0,0,9", "issue,s,1,0,4", "issue,s,2,0,9", "issue,s,3,5,9"];
+        let coupons = [
+            "word,t,0,1", "issue,s,0,0,9,0,0", "issue,s,1,0,4,0,0", "issue,s,2,0,9,0,0", "issue,s,3,5,9,0,0",
+        ];
         let mut till = till_after(&[&[&words[0][..], &words[1], &words[2]][..], &coupons].concat());
         assert_eq!(ask(&mut till, &format!("tally,{one},0")), Counted(1, 1, 0), "{one} {other}");
         assert_eq!(ask(&mut till, &format!("tally,{one},5")), Counted(2, 0, 0), "{one} {other}");
@@ -222,23 +224,24 @@ fn a_session_past_255_is_moved_by_a_booking_and_stays_in_its_sum() {
         let line = format!("word,{}", word.replace('#', &session.to_string()));
         assert!(matches!(ask(&mut till, &line), Done(_)), "{line}");
     }
-    for issue in ["issue,r,7,0,9999", "issue,s,3,0,600", "issue,s,4,0,600"] {
+    for issue in ["issue,r,7,0,9999,0,0", "issue,s,3,0,600,0,0", "issue,s,4,0,600,0,0"] {
         assert!(matches!(ask(&mut till, issue), Done(_)), "{issue}");
     }
     assert_eq!(ask(&mut till, "tally,65535,540"), Counted(1, 0, 0));
     assert_eq!(ask(&mut till, "tally,255,540"), Counted(0, 0, 0));
     let steps = [
-        "cp,0", "ll,3,0000000000000006,540,600", "tr,0000000000000002", "sr", "sl,1", "af", "ax,4", "sr",
+        "cp,0", "ll,3,0000000000000006,540,600,0,0", "tr,0000000000000002", "sr", "sl,1", "af", "ax,4", "sr",
         "sl,2", "af", "ax,5", "sr", "sl,6", "af", "ax,7",
     ];
-    assert_eq!(ask(&mut till, &booking("540,5,540,600", &[1, 2, 3], &steps)), Done(4));
+    assert_eq!(ask(&mut till, &booking("540,5,540,600,0,0", &[1, 2, 3], &steps)), Done(4));
     assert_eq!(ask(&mut till, "tally,65535,540"), Counted(0, 0, 1));
     assert_eq!(ask(&mut till, "tally,255,540"), Counted(0, 0, 0));
 }
 
 #[test]
 fn tally_leaves_standing_coupons_out() {
-    let mut till = till_after(&["word,a,1,7", "word,a,2,7", "word,l,0,1", "issue,r,2,0,9", "issue,s,0,0,9"]);
+    let words = ["word,a,1,7", "word,a,2,7", "word,l,0,1"];
+    let mut till = till_after(&[&words[..], &["issue,r,2,0,9,0,0", "issue,s,0,0,9,0,0"]].concat());
     assert_eq!(ask(&mut till, "tally,7,0"), Counted(1, 0, 0));
     assert_eq!(ask(&mut till, "withdraw,1"), Done(1));
     assert_eq!(ask(&mut till, "tally,7,0"), Counted(1, 0, 0));
@@ -253,31 +256,31 @@ fn tally_of_an_empty_till_is_zero() {
 
 #[test]
 fn a_booking_spends_singles_keeps_standing_and_gives_the_goal() {
-    let mut till = till_after(&["word,a,9,7", "word,o", "issue,r,1,0,0", "issue,s,0,0,9"]);
-    let book = |hold| booking("3,0,2,4", &[1, hold], &["cp,0", "ol,2", "ax,1"]);
+    let mut till = till_after(&["word,a,9,7", "word,o", "issue,r,1,0,0,0,0", "issue,s,0,0,9,0,0"]);
+    let book = |hold| booking("3,0,2,4,0,0", &[1, hold], &["cp,0", "ol,2", "ax,1"]);
     assert_eq!(ask(&mut till, &book(2)), Done(3));
     assert_eq!(ask(&mut till, &book(2)), Refused(24, 0));
     assert_eq!(ask(&mut till, &book(3)), Done(4));
     // the goal's own window is the new coupon's
-    assert_eq!(ask(&mut till, &booking("3,0,1,4", &[4], &["ax,0"])), Refused(40, 1));
+    assert_eq!(ask(&mut till, &booking("3,0,1,4,0,0", &[4], &["ax,0"])), Refused(40, 1));
     assert_eq!(ask(&mut till, "withdraw,1"), Done(1));
 }
 
 #[test]
 fn a_refused_booking_moves_nothing() {
-    let mut till = till_after(&["word,a,1,7", "issue,s,0,0,9"]);
+    let mut till = till_after(&["word,a,1,7", "issue,s,0,0,9,0,0"]);
     for steps in [&["or"][..], &["ax,0", "ax,0"], &["ax,1"]] {
-        assert!(matches!(ask(&mut till, &booking("0,0,0,9", &[1], steps)), Refused(40..=42, _)));
+        assert!(matches!(ask(&mut till, &booking("0,0,0,9,0,0", &[1], steps)), Refused(40..=42, _)));
         assert_eq!(ask(&mut till, "tally,7,0"), Counted(1, 0, 0));
     }
-    assert_eq!(ask(&mut till, &booking("0,0,0,9", &[1], &["ax,0"])), Done(2));
+    assert_eq!(ask(&mut till, &booking("0,0,0,9,0,0", &[1], &["ax,0"])), Done(2));
 }
 
 /// One standing coupon (serial 1) and 511 singles, all of the free atom 0.
 fn full() -> Till {
-    let mut till = till_after(&["word,a,9,7", "word,a,1,7", "issue,r,0,0,9"]);
+    let mut till = till_after(&["word,a,9,7", "word,a,1,7", "issue,r,0,0,9,0,0"]);
     for serial in 2..=512 {
-        assert_eq!(ask(&mut till, "issue,s,0,0,9"), Done(serial));
+        assert_eq!(ask(&mut till, "issue,s,0,0,9,0,0"), Done(serial));
     }
     till
 }
@@ -285,34 +288,35 @@ fn full() -> Till {
 #[test]
 fn refusal_22_at_512_live_less_singles_held() {
     let mut till = full();
-    assert_eq!(ask(&mut till, "issue,s,0,0,9"), Refused(22, 0));
-    assert_eq!(ask(&mut till, "issue,r,0,0,9"), Refused(22, 0));
+    assert_eq!(ask(&mut till, "issue,s,0,0,9,0,0"), Refused(22, 0));
+    assert_eq!(ask(&mut till, "issue,r,0,0,9,0,0"), Refused(22, 0));
+    assert_eq!(ask(&mut till, "issue,r,0,0,9,0,9"), Refused(43, 0));
     let copy = ["cp,0", "ax,1"];
-    assert_eq!(ask(&mut till, &booking("0,0,0,9", &[1], &copy)), Refused(22, 0));
-    assert_eq!(ask(&mut till, &booking("0,0,0,9", &[2], &["ax,0"])), Done(513));
+    assert_eq!(ask(&mut till, &booking("0,0,0,9,0,0", &[1], &copy)), Refused(22, 0));
+    assert_eq!(ask(&mut till, &booking("0,0,0,9,0,0", &[2], &["ax,0"])), Done(513));
     assert_eq!(ask(&mut till, "withdraw,100"), Done(100));
-    assert_eq!(ask(&mut till, &booking("0,0,0,9", &[1], &copy)), Done(514));
-    assert_eq!(ask(&mut till, &booking("0,0,0,9", &[1], &copy)), Refused(22, 0));
+    assert_eq!(ask(&mut till, &booking("0,0,0,9,0,0", &[1], &copy)), Done(514));
+    assert_eq!(ask(&mut till, &booking("0,0,0,9,0,0", &[1], &copy)), Refused(22, 0));
 }
 
 #[test]
 fn refusals_20_21_24_31_40_42_come_before_22() {
     let mut till = full();
     assert_eq!(ask(&mut till, "word,o"), Done(2));
-    assert_eq!(ask(&mut till, "issue,s,2,0,9"), Refused(20, 0));
-    assert_eq!(ask(&mut till, "issue,r,1,0,9"), Refused(21, 0));
-    assert_eq!(ask(&mut till, &booking("0,0,0,9", &[513], &["ax,0"])), Refused(24, 0));
-    assert_eq!(ask(&mut till, &booking("0,0,0,9", &[1, 1], &["ax,0"])), Refused(31, 0));
-    assert_eq!(ask(&mut till, &booking("0,0,0,9", &[1], &["ax,0"])), Refused(40, 1));
-    assert_eq!(ask(&mut till, &booking("0,0,0,9", &[1], &["cp,0"])), Refused(42, 2));
+    assert_eq!(ask(&mut till, "issue,s,2,0,9,0,0"), Refused(20, 0));
+    assert_eq!(ask(&mut till, "issue,r,1,0,9,0,0"), Refused(21, 0));
+    assert_eq!(ask(&mut till, &booking("0,0,0,9,0,0", &[513], &["ax,0"])), Refused(24, 0));
+    assert_eq!(ask(&mut till, &booking("0,0,0,9,0,0", &[1, 1], &["ax,0"])), Refused(31, 0));
+    assert_eq!(ask(&mut till, &booking("0,0,0,9,0,0", &[1], &["ax,0"])), Refused(40, 1));
+    assert_eq!(ask(&mut till, &booking("0,0,0,9,0,0", &[1], &["cp,0"])), Refused(42, 2));
 }
 
 #[test]
 fn refusal_23_after_serial_999_999_and_after_22() {
-    let mut till = till_after(&["word,a,9,7", "issue,r,0,0,9"]);
+    let mut till = till_after(&["word,a,9,7", "issue,r,0,0,9,0,0"]);
     let mut withdraw = String::new();
     for serial in 2..=999_999 {
-        assert_eq!(till.call(b"issue,s,0,0,9\n"), Done(serial));
+        assert_eq!(till.call(b"issue,s,0,0,9,0,0\n"), Done(serial));
         if serial < 999_990 {
             use std::fmt::Write;
             withdraw.clear();
@@ -320,26 +324,26 @@ fn refusal_23_after_serial_999_999_and_after_22() {
             assert_eq!(till.call(withdraw.as_bytes()), Done(serial));
         }
     }
-    assert_eq!(ask(&mut till, "issue,s,0,0,9"), Refused(23, 0));
-    let book = |hold| booking("0,0,0,9", &[hold], &["ax,0"]);
+    assert_eq!(ask(&mut till, "issue,s,0,0,9,0,0"), Refused(23, 0));
+    let book = |hold| booking("0,0,0,9,0,0", &[hold], &["ax,0"]);
     assert_eq!(ask(&mut till, &book(999_999)), Refused(23, 0));
     assert_eq!(ask(&mut till, &book(999_989)), Refused(24, 0));
-    assert_eq!(ask(&mut till, &booking("0,0,0,9", &[1], &["ax,0"])), Refused(40, 1));
+    assert_eq!(ask(&mut till, &booking("0,0,0,9,0,0", &[1], &["ax,0"])), Refused(40, 1));
     assert_eq!(ask(&mut till, "withdraw,999999"), Done(999_999));
-    assert_eq!(ask(&mut till, "issue,s,0,0,9"), Refused(23, 0));
+    assert_eq!(ask(&mut till, "issue,s,0,0,9,0,0"), Refused(23, 0));
 }
 
 #[test]
 fn refusal_22_comes_before_23() {
     let mut till = full();
     for serial in 513..=999_999 {
-        let sheet = format!("book,0,0,0,9,1,1\nhold,{}\nax,0\n", serial - 1);
+        let sheet = format!("book,0,0,0,9,0,0,1,1\nhold,{}\nax,0\n", serial - 1);
         assert_eq!(till.call(sheet.as_bytes()), Done(serial));
     }
-    assert_eq!(ask(&mut till, "issue,s,0,0,9"), Refused(22, 0));
-    assert_eq!(ask(&mut till, &booking("0,0,0,9", &[999_999], &["ax,0"])), Refused(23, 0));
+    assert_eq!(ask(&mut till, "issue,s,0,0,9,0,0"), Refused(22, 0));
+    assert_eq!(ask(&mut till, &booking("0,0,0,9,0,0", &[999_999], &["ax,0"])), Refused(23, 0));
     assert_eq!(ask(&mut till, "withdraw,3"), Done(3));
-    assert_eq!(ask(&mut till, "issue,s,0,0,9"), Refused(23, 0));
+    assert_eq!(ask(&mut till, "issue,s,0,0,9,0,0"), Refused(23, 0));
 }
 
 /// A small generator of numbers (xorshift), the same at every run.
@@ -364,7 +368,7 @@ fn live_serials_are_found_as_in_a_plain_list() {
         let issues = if turn / 3000 % 2 == 0 { 6 } else { 4 };
         if numbers.below(10) < issues {
             let wanted = if live.len() < 512 { Done(last + 1) } else { Refused(22, 0) };
-            assert_eq!(ask(&mut till, "issue,s,0,0,9"), wanted);
+            assert_eq!(ask(&mut till, "issue,s,0,0,9,0,0"), wanted);
             if let Done(serial) = wanted {
                 live.push(serial);
                 last = serial;
@@ -466,9 +470,9 @@ fn balance_and_tally_are_those_of_a_plain_recursion() {
                 SESSIONS.iter().all(|&session| holds(&lines, id, session as usize))
             };
             let balanced = all(even) && all(|lines, id, session| weight(lines, id, session) == 0);
-            let accepted = matches!(ask(&mut till, &format!("issue,r,{id},0,9")), Done(_));
+            let accepted = matches!(ask(&mut till, &format!("issue,r,{id},0,9,0,0")), Done(_));
             assert_eq!(accepted, balanced, "{id} of {lines:?}");
-            if matches!(ask(&mut till, &format!("issue,s,{id},0,9")), Done(_)) {
+            if matches!(ask(&mut till, &format!("issue,s,{id},0,9,0,0")), Done(_)) {
                 singles.push(id);
             }
         }
@@ -484,12 +488,12 @@ fn balance_and_tally_are_those_of_a_plain_recursion() {
 
 #[test]
 fn no_bytes_make_the_call_panic() {
-    let steps = "cp,0\nll,3,0000000000000006,540,600\ntr,0000000000000002\nsr\nsl,1\naf\n".to_string()
-        + "ax,4\nwr\npl,1\nul,0,1,2\n";
+    let steps = "cp,0\nll,3,0000000000000006,540,600,0,0\ntr,0000000000000002\nsr\nsl,1\naf\n".to_string()
+        + "ax,4\nwr\npl,1\nul,0,1,2,0,0\n";
     let seeds = [
-        "word,a,1,7\n", "word,t,0,0\n", "word,g,0,9,1,2\n", "word,h,0,0,9\n", "issue,s,0,0,9\n",
-        "issue,r,1,0,9\n", "withdraw,1\n", "tally,7,540\n",
-        &format!("book,0,0,0,9,2,10\nhold,1\nhold,2\n{steps}"),
+        "word,a,1,7\n", "word,t,0,0\n", "word,g,0,9,0,0,1,2,0,0\n", "word,h,0,0,9,3,4\n",
+        "issue,s,0,0,9,5,7\n", "issue,r,1,0,9,0,0\n", "withdraw,1\n", "tally,7,540\n",
+        &format!("book,0,0,0,9,0,0,2,10\nhold,1\nhold,2\n{steps}"),
     ];
     let alphabet = b"0123456789abcdefghijklmnopqrstuvwxyz,\n\r \0\xff-";
     let mut numbers = Numbers(99);

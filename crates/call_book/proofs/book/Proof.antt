@@ -9,7 +9,7 @@ use borrow.Author.Needs.{needs}
 use native.Mathlib.Omega.{arith}
 use Rattle.call_checks.proofs.Verdicts.{by-verdict}
 use Rattle.call_book_laws.proofs.AfterHead.{holds-asked, steps-asked, ReadHolds, holds-broken, no-bytes, steps-broken}
-use Rattle.call_book_laws.proofs.AfterHead.{ReadSteps, lines-reversed, lines-read, lines-handled}
+use Rattle.call_book_laws.proofs.AfterHead.{ReadSteps, lines-reversed, lines-broken, lines-read, lines-handled}
 use Rattle.call_book.proofs.book.Statement.{statement}
 use Rattle.call_book.proofs.book.Tie as tie
 
@@ -34,7 +34,7 @@ holds-read c =
       lines = rw (c .held .given .1) at (read .ensures .0);
     }
 
--- where the steps have been read too: where the holds had been, the rows, whether an interval is reversed
+-- where the steps have been read too: where the holds had been, the rows, whether an interval is reversed, or broken
 abbrev holds : tie.After-read → tie.After-held
 holds c = c .before .before .before .before .before .before .before .before .before
 
@@ -44,9 +44,13 @@ rows c = c .before .before .read-steps .last .1 .1 .0
 abbrev backward : tie.After-read → Bool
 backward c = c .read .given .0 .0
 
+abbrev broken : tie.After-read → Bool
+broken c = c .read .given .0 .1 .0
+
 steps-read : (c : tie.After-read) →
     let a = begun (holds c) .args in
     ReadSteps (now (a .store)) (now (a .sheet)) (a .head) (serials (holds c)) (rows c) (end (holds c)) (backward c)
+    (broken c)
 steps-read c = record {
   holds = holds-read (holds c);
   steps = rw (c .read .given .1) at (c .before .before .read-steps .ensures);
@@ -91,16 +95,27 @@ returns-4 c =
     lines-reversed (steps-read (ordered .before .before)) (ordered .check-lines-ordered .ensures)
     (c .enum-told6 .given .1)
 
-book-read-requires : tie.Need-book-read-requires
-book-read-requires c κs =
-    let passed = c .before .before .before in
-    let ordered = passed .before .before in
-    lines-read (steps-read (ordered .before .before)) (ordered .check-lines-ordered .ensures)
-    (passed .enum-told5 .given .1)
-
 returns-5 : tie.Need-returns-5
 returns-5 c =
-    let ordered = c .before .before .before .before .before .before in
+    let unbroken = c .before .before in
+    let passed = unbroken .before in
+    let ordered = passed .before .before in
+    lines-broken (steps-read (ordered .before .before)) (ordered .check-lines-ordered .ensures)
+    (passed .enum-told5 .given .1) (unbroken .check-lines-unbroken .ensures) (c .enum-told8 .given .1)
+
+book-read-requires : tie.Need-book-read-requires
+book-read-requires c κs =
+    let formed = c .before .before .before in
+    let unbroken = formed .before .before in
+    let passed = unbroken .before in
+    let ordered = passed .before .before in
+    lines-read (steps-read (ordered .before .before)) (ordered .check-lines-ordered .ensures)
+    (passed .enum-told5 .given .1) (unbroken .check-lines-unbroken .ensures) (formed .enum-told7 .given .1)
+
+returns-6 : tie.Need-returns-6
+returns-6 c =
+    let unbroken = c .before .before .before .before .before .before in
+    let ordered = unbroken .before .before .before in
     lines-handled (steps-read (ordered .before .before)) (c .book-read .ensures)
 
 pub book-spec : {M : Type 1} → statement M
@@ -127,5 +142,9 @@ book-spec =
     (λ c. search needs)
     (λ c. search needs)
     returns-4
+    (λ c κs. search needs)
+    (λ c. search needs)
+    (λ c. search needs)
+    returns-5
     book-read-requires
-    returns-5)
+    returns-6)

@@ -9,10 +9,10 @@ use Rattle.read_rest.proofs.read_steps.Statement.{statement}
 use Rattle.read_rest.proofs.read_steps.Tie as tie
 
 abbrev Inv-loop : tie.InvT-loop
-Inv-loop s count rows₀ at₀ k₀ n₀ rows at k n = Reading s count rows at k n
+Inv-loop s count rows₀ at₀ k₀ n₀ x₀ rows at k n x = Reading s count rows at k n x
 
 abbrev μ-loop : tie.MeasureT-loop
-μ-loop s count rows₀ at₀ k₀ n₀ rows at k n = count - k
+μ-loop s count rows₀ at₀ k₀ n₀ x₀ rows at k n x = count - k
 
 pub read-steps-spec : {M : Type 1} → statement M
 read-steps-spec =
@@ -32,13 +32,16 @@ read-steps-spec =
     (λ c. search needs)
     (λ c κs. search needs)
     (λ c. search needs)
+    (λ c κs. search needs)
     (λ c. search needs)
-    (λ c. let d = c .before .before .before .before in
+    (λ c. search needs)
+    (λ c. let e = c .before .before in
+    let d = e .before .before .before in
     let l = d .before .before .before in
-    next-reading (l .before .loop .inv) _ _ _ _ (l .loop-test .taken)
+    next-reading (l .before .loop .inv) _ _ _ _ _ (l .loop-test .taken)
     (l .before .before .before .before .before .pre .few)
     (seen (stepLineOf _) (d .before .before .read-step .ensures) (d .line .given .1)) (c .put-step .ensures)
-    (c .before .before .turns .ensures .0) (c .before .before .turns .ensures .1)
+    (e .before .turns .ensures) (e .breaks .ensures)
     (search needs))
     (λ c. search needs)
     (λ c. more-bytes (c .before .before .loop .inv) (c .before .loop-test .left) (c .if1 .taken))

@@ -2,12 +2,12 @@
 use mathlib.Core.Path.{sym, _∙_}
 use borrow.Author.Needs.{needs}
 use borrow.Author.Tests.{lt-ltb, le-ltb}
-use Rattle.read_rest.specs.LinesRead.{rowReversed}
+use Rattle.read_rest.specs.LinesRead.{rowFails}
 use Rattle.read_rest.proofs.turns.Statement.{statement}
 use Rattle.read_rest.proofs.turns.Tie as tie
 
 pub turns-spec : {M : Type 1} → statement M
-unfolding rowReversed
+unfolding rowFails
 turns-spec =
     tie.close
     (tie.spec

@@ -24,8 +24,35 @@ interval-spec =
       seen (decimalOf _) (d .before .before .number .ensures) (d .f .given .1),
       seen (decimalOf _) (c .before .before .number2 .ensures) (c .enum-told2 .given .1),
     ))
+    (λ c κs. search needs)
+    (λ c. search needs)
+    (λ c. search needs)
     (λ c. let d = c .before .before .before .before in
+    let e = d .before .before .before .before in
     simp (
-      seen (decimalOf _) (d .before .before .before .number .ensures) (d .before .f .given .1),
-      seen (decimalOf _) (c .before .before .before .number2 .ensures) (c .before .g .given .1),
+      seen (decimalOf _) (e .before .before .number .ensures) (e .f .given .1),
+      seen (decimalOf _) (d .before .before .number2 .ensures) (d .g .given .1),
+      seen (decimalOf _) (c .before .before .number3 .ensures) (c .enum-told3 .given .1),
+    ))
+    (λ c κs. search needs)
+    (λ c. search needs)
+    (λ c. search needs)
+    (λ c. let d = c .before .before .before .before in
+    let e = d .before .before .before .before in
+    let f = e .before .before .before .before in
+    simp (
+      seen (decimalOf _) (f .before .before .number .ensures) (f .f .given .1),
+      seen (decimalOf _) (e .before .before .number2 .ensures) (e .g .given .1),
+      seen (decimalOf _) (d .before .before .number3 .ensures) (d .h .given .1),
+      seen (decimalOf _) (c .before .before .number4 .ensures) (c .enum-told4 .given .1),
+    ))
+    (λ c. let b = c .before in
+    let d = b .before .before .before .before in
+    let e = d .before .before .before .before in
+    let f = e .before .before .before .before in
+    simp (
+      seen (decimalOf _) (f .before .before .number .ensures) (f .f .given .1),
+      seen (decimalOf _) (e .before .before .number2 .ensures) (e .g .given .1),
+      seen (decimalOf _) (d .before .before .number3 .ensures) (d .h .given .1),
+      seen (decimalOf _) (b .before .before .number4 .ensures) (b .l .given .1),
     )))

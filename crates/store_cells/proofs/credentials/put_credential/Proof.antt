@@ -1,4 +1,4 @@
--- `put_credential` meets its contract: five stores are the row.
+-- `put_credential` meets its contract: seven stores are the row.
 use native.Mathlib.Numerals.{towards-suc}
 use Rattle.store_cells.specs.Layout.{putRow, putCredential}
 use borrow.Author.Needs.{needs}
@@ -12,22 +12,8 @@ returns c = rw (c .before .kind-number .ensures) (simp towards-suc)
 pub put-credential-spec : {M : Type 1} → statement M
 put-credential-spec =
     tie.close
-    (tie.spec
-    (λ c κs. search needs)
-    (λ c. search needs)
-    (λ c. search needs)
-    (λ c. search needs)
-    (λ c. search needs)
-    (λ c. search needs)
-    (λ c. search needs)
-    (λ c. search needs)
-    (λ c. search needs)
-    (λ c. search needs)
-    (λ c. search needs)
-    (λ c. search needs)
-    (λ c. search needs)
-    (λ c. search needs)
-    (λ c. search needs)
-    (λ c. search needs)
-    (λ c. search needs)
-    returns)
+    (tie.spec (λ c κs. search needs) (λ c. search needs) (λ c. search needs) (λ c. search needs)
+    (λ c. search needs) (λ c. search needs) (λ c. search needs) (λ c. search needs) (λ c. search needs)
+    (λ c. search needs) (λ c. search needs) (λ c. search needs) (λ c. search needs) (λ c. search needs)
+    (λ c. search needs) (λ c. search needs) (λ c. search needs) (λ c. search needs) (λ c. search needs)
+    (λ c. search needs) (λ c. search needs) (λ c. search needs) (λ c. search needs) returns)

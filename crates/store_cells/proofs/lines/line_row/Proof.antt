@@ -1,4 +1,4 @@
--- `line_row` meets its contract: seven reads are the row.
+-- `line_row` meets its contract: eleven reads are the row.
 use native.Mathlib.Nat.{add-zero}
 use Rattle.store_cells.specs.Layout.{cell, lineCell}
 use borrow.Author.Needs.{needs}
@@ -12,8 +12,10 @@ returns c = simp add-zero
 pub line-row-spec : {M : Type 1} → statement M
 line-row-spec =
     tie.close
-    (tie.spec (λ c. search needs) (λ c. search needs) (λ c. search needs) (λ c. search needs) (λ c. search needs)
+    (tie.spec (λ c. search needs) (λ c. search needs) (λ c. search needs) (λ c. search needs)
     (λ c. search needs) (λ c. search needs) (λ c. search needs) (λ c. search needs) (λ c. search needs)
     (λ c. search needs) (λ c. search needs) (λ c. search needs) (λ c. search needs) (λ c. search needs)
     (λ c. search needs) (λ c. search needs) (λ c. search needs) (λ c. search needs) (λ c. search needs)
-    (λ c. search needs) (λ c. search needs) returns)
+    (λ c. search needs) (λ c. search needs) (λ c. search needs) (λ c. search needs) (λ c. search needs)
+    (λ c. search needs) (λ c. search needs) (λ c. search needs) (λ c. search needs) (λ c. search needs)
+    (λ c. search needs) (λ c. search needs) (λ c. search needs) (λ c. search needs) (λ c. search needs) returns)

@@ -1,15 +1,19 @@
--- `put_line` meets its contract: ten stores are the row.
-use native.Mathlib.Numerals.{towards-suc}
-use Rattle.store_cells.specs.Layout.{putRow, putLine}
+-- `put_line` meets its contract: fourteen stores are the row.
+use Rattle.store_cells.specs.Layout.{lineBase, lineWidth, lineCells, putRow, putLine}
+use Prim.Native.Nat.{_+_, _*_}
+use lib.ListN.{drop}
 use borrow.Author.Needs.{needs}
-use Rattle.store_cells.proofs.Cells.{add-nine}
+use Rattle.store_cells.proofs.Cells.{row-stored}
 use Rattle.store_cells.proofs.lines.put_line.Statement.{statement}
 use Rattle.store_cells.proofs.lines.put_line.Tie as tie
 
 returns : tie.Need-returns
 unfolding putLine putRow
 returns c =
-    rw (c .before .before .before .bit-of .ensures, c .before .before .bit-of2 .ensures) (simp (towards-suc, add-nine))
+    let a = c .before .before .before .before .args in
+    rw (c .before .before .before .bit-of .ensures, c .before .before .bit-of2 .ensures)
+    (row-stored (a .store .now) (lineBase + a .i * lineWidth) (a .row .letter)
+    (drop 1 (lineCells (a .row) (a .size) (a .plain) (a .balanced))))
 
 pub put-line-spec : {M : Type 1} → statement M
 put-line-spec =
@@ -20,4 +24,7 @@ put-line-spec =
     (λ c. search needs) (λ c. search needs) (λ c. search needs) (λ c. search needs) (λ c. search needs)
     (λ c. search needs) (λ c. search needs) (λ c. search needs) (λ c. search needs) (λ c. search needs)
     (λ c. search needs) (λ c. search needs) (λ c. search needs) (λ c. search needs) (λ c. search needs)
-    (λ c. search needs) (λ c. search needs) (λ c. search needs) (λ c. search needs) returns)
+    (λ c. search needs) (λ c. search needs) (λ c. search needs) (λ c. search needs) (λ c. search needs)
+    (λ c. search needs) (λ c. search needs) (λ c. search needs) (λ c. search needs) (λ c. search needs)
+    (λ c. search needs) (λ c. search needs) (λ c. search needs) (λ c. search needs) (λ c. search needs)
+    (λ c. search needs) returns)
