@@ -4,12 +4,15 @@ A slip is a file crates/NAME/slips/LABEL.edit:
 
     # what is wrong
     # refused: FUNCTION FUNCTION ..
+    # at: LAW LAW ..
     file: src/lib.rt
     old: text that stands in the file just once, in one line
     new: what takes its place
 
 The functions are named as a check prints them, without the crate: `book_steps`, `formulas::interval`. A slip of a
-definition that only laws for other crates rest on names such a law: `Rows.stays-credential`, of proofs/Rows.antt.
+definition that only laws for other crates rest on names such a law: `Rows.stays-credential`, of proofs/Rows.antt. The
+line '# at:' may be left out. It names a law in the proof file of each of the functions, in their order, at which the
+slip is refused; such a law is looked at even where a function that this one calls is not proved.
 """
 import glob
 import os
@@ -101,6 +104,23 @@ class Crate:
             return re.search(rf"^ *(?:pub )?(?:abbrev )?{re.escape(law)} :", read(path), re.M) is not None
         return name in self.functions
 
+    def using(self, file, k):
+        """The functions that use what line k of a file brings in, `use crate::NAME;`; none if it is used elsewhere."""
+        name = re.fullmatch(r"use crate::(\w+);", self.lines(file)[k])
+        if not name:
+            return []
+        uses = {n for n, line in enumerate(self.lines(file)) if n != k and re.search(rf"\b{name[1]}\b", line)}
+        found = [f for f in self.functions.values() if f.file == file and uses & set(range(f.body, f.end + 1))]
+        return found if uses == {n for n in uses for f in found if f.body <= n <= f.end} else []
+
+    def proof(self, function):
+        """The folder of the proof file of a function, its own or that of the cycle it is in; '' where it has none."""
+        path, name = function.replace("::", "/"), function.split("::")[-1]
+        if os.path.isfile(f"{self.folder}/proofs/{path}/Proof.antt"):
+            return path
+        cycles = glob.glob(f"{self.folder}/proofs/**/+*", recursive=True)
+        return next((cycle for cycle in cycles if name in os.path.basename(cycle).split("+")[1:]), "")
+
     def slips(self):
         return [Slip(self, path) for path in sorted(glob.glob(f"{self.folder}/slips/*.edit"))]
 
@@ -119,11 +139,13 @@ def replaced(text, pairs):
 class Slip:
     def __init__(self, crate, path):
         self.crate, self.label = crate, os.path.basename(path)[: -len(".edit")]
-        self.says, self.refused, self.pairs, self.body = "", [], [], []
+        self.says, self.refused, self.at, self.pairs, self.body = "", [], [], [], []
         file = old = ""
         for line in read(path).splitlines():
             if line.startswith("# refused:"):
                 self.refused = line[len("# refused:") :].split()
+            elif line.startswith("# at:"):
+                self.at = line[len("# at:") :].split()
             elif line.startswith("#"):
                 self.says = self.says or line[1:].strip()
             else:
@@ -159,6 +181,7 @@ class Slip:
                 if before != now:
                     changes[file, k] = now
                     found = [f for f in self.crate.functions.values() if f.file == file and f.body <= k <= f.end]
+                    found = found or self.crate.using(file, k)
                     touched.update(f.name for f in found)
                     alone = alone or not found
         return changes, touched, alone
@@ -168,13 +191,24 @@ class Slip:
         unknown = [name for name in self.refused if not self.crate.has(name)]
         if unknown or not self.refused:
             raise self.fault("'# refused:' names no function of the crate: " + " ".join(unknown))
+        if self.at and (len(self.at) != len(self.refused) or self.alone):
+            raise self.fault("'# at:' names a law for each of the functions, of a slip of bodies")
         if not self.alone and set(self.refused) != self.touched:
             raise self.fault("'# refused:' must name the functions that it changes: " + " ".join(sorted(self.touched)))
 
+    def rests(self, other):
+        """Whether what refuses this slip may rest on what the other changes: one proof, or a body that is called."""
+        crate = self.crate
+        for a in self.touched:
+            for b in other.touched:
+                if a == b or (crate.proof(a) and crate.proof(a) == crate.proof(b)):
+                    return True
+                if not self.at and b in crate.reached[a]:
+                    return True
+        return False
+
     def meets(self, other):
-        """Whether the two touch one function, or one touches a function that the other's call, inside the crate."""
-        reached = self.crate.reached
-        return any(a == b or b in reached[a] or a in reached[b] for a in self.touched for b in other.touched)
+        return self.rests(other) or other.rests(self)
 
 
 def fit(slips):
@@ -233,21 +267,23 @@ class Log:
             if folder == path or name in folder.split("/")[-1].split("+")[1:]:
                 yield declaration, said
 
-    def code_fault(self, function):
-        """Why the function is not refused at a fact of its own; None where it is."""
+    def code_fault(self, function, law):
+        """Why the function is not refused at a fact of its own, at the law if one is named; None where it is."""
         state, more = self.states.get(function, ("not in the log", ""))
         if state not in ("not proved", "no proof"):
             return f"{function} is {state}"
-        if "; it calls" in more:
-            return f"{function} is refused only because{more[1:]}"
         own = list(self.own(function))
         for _, said in own:
             if self.SHAPE.search(said):
                 return f"{function}: the proof does not fit the code: {said[:200]}"
+        if law and all(self.FOLLOWS.match(said) for name, said in own if name == law):
+            return f"{function}: no error of its own at {law}"
+        if "; it calls" in more and not law:
+            return f"{function} is refused only because{more[1:]}"
         if state == "no proof":
             return None if "does not close" in more and not self.SHAPE.search(more) else f"{function}: no proof{more}"
         if all(self.FOLLOWS.match(said) for _, said in own):
-            return f"{function}: no error of its own"
+            return f"{function}: no error of its own{more}"
         return None
 
     def definition_fault(self, function):
@@ -266,5 +302,8 @@ class Log:
     def faults(self, slip):
         if "logic=not-proved" not in self.text:
             return ["NOT REFUSED" if "logic=proved" in self.text else "the prover was not reached"]
-        fault = self.definition_fault if slip.defines else self.code_fault
-        return [why for why in map(fault, slip.refused) if why]
+        if slip.defines:
+            found = map(self.definition_fault, slip.refused)
+        else:
+            found = map(self.code_fault, slip.refused, slip.at or [""] * len(slip.refused))
+        return [why for why in found if why]

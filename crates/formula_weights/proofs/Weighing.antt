@@ -1,5 +1,5 @@
 -- A row's weight and its sessions, from those of its parts.
-use mathlib.Core.Path.{_≡_, refl, sym, ap, subst, _∙_}
+use mathlib.Core.Path.{_≡_, refl, sym, ap, subst, fun-ext, _∙_}
 use mathlib.Core.List.{List, [], _∷_, _++_, map}
 use mathlib.Core.Bool.{Bool, true, false, _&&_, _||_, and-true}
 use Prim.Native.Nat.{ℕ, _+_, _≤_, _<_}
@@ -7,13 +7,13 @@ use Prim.Native.Char.{code}
 use native.Mathlib.Omega.{arith}
 use lib.Dec.{eqb}
 use lib.ListN.{length}
-use borrow.Author.Tests.{eq-eqb, ne-eqb}
+use borrow.Author.Tests.{eqb-true, eq-eqb, ne-eqb}
 use Rattle.logic.specs.Choice.{pick}
 use Rattle.logic.specs.Formula.{Formula, atom, one, tensor, with, plus, lolli, implies, bang, at, says, superset}
 use Rattle.logic.specs.Formula.{size}
-use Rattle.logic.specs.Counts.{up, down, even, sessionsOf, allOf}
+use Rattle.logic.specs.Counts.{up, down, even, level, sessionsOf, allOf, balanced}
 use Rattle.logic.specs.Multiset.{sum, Every}
-use Rattle.logic.proofs.Tests.{bit-le}
+use Rattle.logic.proofs.Tests.{bit-le, no-truth}
 use Rattle.request.specs.Request.{Line}
 use Rattle.steps.specs.declared.Row.{Row}
 use Rattle.ledger.specs.Table.{form, names, rowOf}
@@ -28,7 +28,9 @@ use Rattle.formula_parts.specs.Parts.{partsOf, numbers}
 use Rattle.formula_facts.specs.Facts.{Formable}
 use Rattle.formula_facts.proofs.Named.{parts-are, parts-there, parts-size}
 use Rattle.formula_weights.specs.declared.Weight.{Weight}
+use Rattle.formula_weights.specs.declared.Tried.{Tried}
 use Rattle.formula_weights.specs.RowWeights.{weightOf, aloneWeight, underWeight, joinedWeight, Light}
+use Rattle.formula_weights.specs.RowWeights.{Sure, Tries}
 
 -- by the parts' weights, and by their sessions
 abbrev pub weighed : ℕ → Row → List Weight → Weight
@@ -41,7 +43,36 @@ gathered r [] = pick (eqb (r .letter) (code "a")) (r .b ∷ []) []
 gathered r (x ∷ []) = x
 gathered r (x ∷ y ∷ zs) = x ++ y
 
+-- b is what the test says of the part, where there is one
+abbrev Alike : (ℕ → Bool) → List ℕ → Bool → Type 0
+Alike f [] b = Unit {0}
+Alike f (k ∷ []) b = f k ≡ b
+Alike f (k ∷ j ∷ ns) b = Unit {0}
+
+-- !, @ and ⟨K⟩ are balanced if their part is
+bang-balanced : (a : Formula) → balanced a ≡ balanced (bang a)
+unfolding balanced sessionsOf up even
+bang-balanced a = ap (λ (f : ℕ → Bool). allOf f (sessionsOf a)) (fun-ext (λ s. twice (level s a) (even s a)))
+  where
+    twice : (x e : Bool) → (x && e) ≡ (x && (e && x))
+    twice true e = sym (and-true e)
+    twice false e = refl
+
 module _ (T : ℕ → Formula) where
+  balance-row : (l : Line) → Alike (λ k. balanced (T k)) (partsOf (rowOf l)) (balanced (form T l))
+  unfolding partsOf balanced sessionsOf up even
+  balance-row (Line.atom p t) = tt
+  balance-row Line.one = tt
+  balance-row (Line.tensor i j) = tt
+  balance-row (Line.with i j) = tt
+  balance-row (Line.plus i j) = tt
+  balance-row (Line.lolli i j) = tt
+  balance-row (Line.implies i j) = tt
+  balance-row (Line.bang i) = bang-balanced (T i)
+  balance-row (Line.at i w) = refl
+  balance-row (Line.says k i) = refl
+  balance-row (Line.superset v w) = tt
+
   weight-row : (s : ℕ) (l : Line)
       → weighed s (rowOf l) (map (λ k. weightOf s (T k)) (partsOf (rowOf l))) ≡ weightOf s (form T l)
   unfolding partsOf aloneWeight underWeight joinedWeight up even
@@ -91,6 +122,7 @@ pub record Parted (l : List ℕ) (r : Row) (t : ℕ) (ns : List ℕ) : Type 0 wh
       ≡ weightOf s (form (formula (ledgerOf l)) (lineOf r))
   pub sessions : gathered r (map (λ k. sessionsOf (formula (ledgerOf l) k)) ns)
       ≡ sessionsOf (form (formula (ledgerOf l)) (lineOf r))
+  pub balance : Alike (λ k. balanced (formula (ledgerOf l) k)) ns (balanced (form (formula (ledgerOf l)) (lineOf r)))
 
 module _ (r : Row) (p : Parts) (e : numbers p ≡ partsOf r) (l : List ℕ) (f : Formable l r) where
   pub parted : {t : ℕ} → size (form (formula (ledgerOf l)) (lineOf r)) ≡ t → {q : Parts} → p ≡ q
@@ -103,6 +135,10 @@ module _ (r : Row) (p : Parts) (e : numbers p ≡ partsOf r) (l : List ℕ) (f :
     sessions =
         at-parts (λ x ns. gathered x (map (λ k. sessionsOf (formula (ledgerOf l) k)) ns))
         ∙ sessions-row (formula (ledgerOf l)) (lineOf r);
+    balance =
+        subst (λ (ns : List ℕ). Alike (λ k. balanced (formula (ledgerOf l) k)) ns
+        (balanced (form (formula (ledgerOf l)) (lineOf r)))) (sym (at-parts (λ x ns. ns)))
+        (balance-row (formula (ledgerOf l)) (lineOf r));
   }
     where
       at-parts : {A : Type 0} (h : Row → List ℕ → A)
@@ -154,9 +190,9 @@ module _ {l : List ℕ} {t n : ℕ} (p : Part l t n) {r : Row} (e : r ≡ rowAt 
       let m = p .there .0 .bounded .sizes n in
       subst Light (sym (part-weight s h)) (record { up = omega (arith, b, m); down = omega (arith, b, m) })
 
-  pub part-sessions : (f : ℕ → Bool) {b : Bool} → b ≡ allOf f (sessionsOf (form (formula (ledgerOf l)) (lineOf r)))
-      → b ≡ allOf f (sessionsOf (formula (ledgerOf l) n))
-  part-sessions f h = h ∙ ap (λ (a : Formula). allOf f (sessionsOf a)) part-is
+  pub part-tries : (f : ℕ → Bool) {x : Tried} → Tries f (sessionsOf (form (formula (ledgerOf l)) (lineOf r))) x
+      → Tries f (sessionsOf (formula (ledgerOf l) n)) x
+  part-tries f {x} h = subst (λ (a : Formula). Tries f (sessionsOf a) x) part-is h
 
 -- a test of the sessions, from its answers for the parts'
 module _ (f : ℕ → Bool) where
@@ -170,17 +206,39 @@ module _ (f : ℕ → Bool) where
       go true e = e
       go false e = refl
 
-  pub all-atom : (r : Row) → r .letter ≡ code "a" → f (r .b) ≡ allOf f (gathered r [])
+  pub tries-at : {ss zs : List ℕ} {x : Tried} → ss ≡ zs → Tries f ss x → Tries f zs x
+  tries-at {x = x} e h = subst (λ (xs : List ℕ). Tries f xs x) e h
+
+  -- the session was tried before, or it is tried
+  pub tries-known : (x : Tried) (s : ℕ) → Sure f x → (x .sure && eqb (x .session) s) ≡ true
+      → Tries f (s ∷ []) (record { all = true; sure = true; session = s })
   unfolding allOf
-  all-atom r e = rw (eq-eqb _ _ e) (sym (and-true (f (r .b))))
+  tries-known x s h e =
+      let y = both (x .sure) (eqb (x .session) s) e in
+      let z : f s ≡ true = ap f (sym (eqb-true (x .session) s (y .1))) ∙ h (y .0) in
+      record { all = sym (and-true (f s) ∙ z); sure = λ q. z }
+    where
+      both : (a b : Bool) → (a && b) ≡ true → (a ≡ true) × (b ≡ true)
+      both true b q = (refl, q)
+      both false b q = absurd (no-truth q)
 
-  pub all-other : (r : Row) → (r .letter ≡ code "a" → ⊥) → true ≡ allOf f (gathered r [])
+  pub tries-new : (s : ℕ) {b : Bool} → b ≡ f s → Tries f (s ∷ []) (record { all = b; sure = b; session = s })
   unfolding allOf
-  all-other r n = rw (ne-eqb _ _ n) refl
+  tries-new s h = record { all = h ∙ sym (and-true (f s)); sure = λ q. sym h ∙ q }
 
-  module _ (xs ys : List ℕ) {x : Bool} (e : x ≡ allOf f xs) where
-    pub all-left : x ≡ false → false ≡ allOf f (xs ++ ys)
-    all-left q = sym (all-append xs ys ∙ rw (sym e, q))
+  -- of a row without parts
+  pub tries-atom : (r : Row) {x : Tried} → r .letter ≡ code "a" → Tries f (r .b ∷ []) x → Tries f (gathered r []) x
+  tries-atom r e h = rw (eq-eqb _ _ e) h
 
-    pub all-right : x ≡ true → {y : Bool} → y ≡ allOf f ys → y ≡ allOf f (xs ++ ys)
-    all-right q h = h ∙ sym (all-append xs ys ∙ rw (sym e, q))
+  pub tries-other : (r : Row) (x : Tried) → (r .letter ≡ code "a" → ⊥) → Sure f x
+      → Tries f (gathered r []) (record { all = true; sure = x .sure; session = x .session })
+  unfolding allOf
+  tries-other r x n h = rw (ne-eqb _ _ n) (record { all = refl; sure = h })
+
+  -- of two parts: what the left one is not, both are not; if it is, the right one decides
+  module _ (xs ys : List ℕ) {x : Tried} (h : Tries f xs x) where
+    pub tries-left : x .all ≡ false → Tries f (xs ++ ys) x
+    tries-left q = record { all = q ∙ sym (all-append xs ys ∙ rw (sym (h .all), q)); sure = h .sure }
+
+    pub tries-right : x .all ≡ true → {y : Tried} → Tries f ys y → Tries f (xs ++ ys) y
+    tries-right q k = record { all = k .all ∙ sym (all-append xs ys ∙ rw (sym (h .all), q)); sure = k .sure }

@@ -1,4 +1,6 @@
 -- A formula's weight by its row, from the weights of its parts.
+use mathlib.Core.Path.{_≡_}
+use mathlib.Core.List.{List}
 use mathlib.Core.Bool.{Bool, true, _&&_}
 use Prim.Native.Nat.{ℕ, _+_, _≤_}
 use Prim.Native.Char.{code}
@@ -6,10 +8,11 @@ use lib.Dec.{eqb}
 use Rattle.logic.specs.Choice.{pick}
 use Rattle.logic.specs.Formula.{Formula}
 use Rattle.logic.specs.Weight.{counted}
-use Rattle.logic.specs.Counts.{up, down, even, level}
+use Rattle.logic.specs.Counts.{up, down, even, level, allOf}
 use Rattle.steps.specs.declared.Row.{Row}
 use Rattle.ledger.specs.Checks.{maxSize}
 use Rattle.formula_weights.specs.declared.Weight.{Weight}
+use Rattle.formula_weights.specs.declared.Tried.{Tried}
 
 abbrev pub weightOf : ℕ → Formula → Weight
 weightOf s a = record { up = up s a; down = down s a; even = even s a }
@@ -50,3 +53,12 @@ joinedWeight c x y =
 pub record Light (x : Weight) : Type 0 where
   pub up : x .up ≤ maxSize
   pub down : x .down ≤ maxSize
+
+-- where it is said to be sure, the test holds of the session
+abbrev pub Sure : (ℕ → Bool) → Tried → Type 0
+Sure f x = x .sure ≡ true → f (x .session) ≡ true
+
+-- whether the test holds of all these sessions
+pub record Tries (f : ℕ → Bool) (ss : List ℕ) (x : Tried) : Type 0 where
+  pub all : x .all ≡ allOf f ss
+  pub sure : Sure f x

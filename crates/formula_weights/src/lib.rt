@@ -5,14 +5,15 @@ use steps::Row;
 use steps::letters;
 use store::Store;
 ghost use mathlib.Core.Path.{_≡_};
+ghost use mathlib.Core.List.{[], _∷_};
 ghost use Rattle.logic.specs.Weight.{counted};
-ghost use Rattle.logic.specs.Counts.{allOf, sessionsOf, balanced};
+ghost use Rattle.logic.specs.Counts.{sessionsOf, balanced};
 ghost use Rattle.ledger.specs.Table.{form};
 ghost use Rattle.ledger.specs.Ledger.{formula};
 ghost use Rattle.store.specs.Store.{lineOf, ledgerOf};
 ghost use Rattle.formula_facts.specs.Facts.{Formable};
 ghost use Rattle.formula_weights.specs.RowWeights.{weightOf, neutralFor, aloneWeight, underWeight, joinedWeight};
-ghost use Rattle.formula_weights.specs.RowWeights.{Light};
+ghost use Rattle.formula_weights.specs.RowWeights.{Light, Sure, Tries};
 
 // A formula's weight for a session: what it adds (up) and what it takes away (down); and whether it is well weighed.
 struct Weight {
@@ -129,33 +130,78 @@ fn neutral(store: &Store, row: Row, session: u32) -> bool
     (w.up == w.down) & w.even
 }
 
-// Whether the formula of `row` does so for every session that stands in the formula of `part`.
-fn neutral_within(store: &Store, row: Row, part: Row) -> bool
-    requires { ⌜ Formable (now store) row × Formable (now store) part ⌝ }
-    ensures { λ r. ⌜ r ≡ allOf (neutralFor (form (formula (ledgerOf (now (store .entry)))) (lineOf row)))
-        (sessionsOf (form (formula (ledgerOf (now (store .entry)))) (lineOf part))) ⌝ }
+// What was found of sessions: whether the formula is neutral for all that were asked, and, where it is `sure`, one for
+// which it is. Most formulas are of one session, which is weighed once.
+struct Tried {
+    all: bool,
+    sure: bool,
+    session: u32,
+}
+
+// Whether the row's formula is neutral for the session; `last` is what was found before.
+fn neutral_for(store: &Store, row: Row, session: u32, last: Tried) -> Tried
+    requires { ⌜ Formable (now store) row
+        × Sure (neutralFor (form (formula (ledgerOf (now store))) (lineOf row))) last ⌝ }
+    ensures { λ r. ⌜ Tries (neutralFor (form (formula (ledgerOf (now (store .entry)))) (lineOf row)))
+        (session ∷ []) r ⌝ }
+{
+    if last.sure & (last.session == session) {
+        return Tried {
+            all: true,
+            sure: true,
+            session,
+        };
+    }
+    let all = neutral(store, row, session);
+    Tried {
+        all,
+        sure: all,
+        session,
+    }
+}
+
+// Whether the formula of `row` is so for every session that stands in the formula of `part`.
+fn neutral_within(store: &Store, row: Row, part: Row, last: Tried) -> Tried
+    requires { ⌜ Formable (now store) row × Formable (now store) part
+        × Sure (neutralFor (form (formula (ledgerOf (now store))) (lineOf row))) last ⌝ }
+    ensures { λ r. ⌜ Tries (neutralFor (form (formula (ledgerOf (now (store .entry)))) (lineOf row)))
+        (sessionsOf (form (formula (ledgerOf (now (store .entry)))) (lineOf part))) r ⌝ }
 {
     match formula_parts::parts_of(part) {
         Parts::Nothing => {
             if part.letter == letters::ATOM {
-                return neutral(store, row, part.b);
+                return neutral_for(store, row, part.b, last);
             }
-            true
+            Tried {
+                all: true,
+                sure: last.sure,
+                session: last.session,
+            }
         }
-        Parts::One(i) => neutral_within(store, row, store::line_at(store, i)),
+        Parts::One(i) => neutral_within(store, row, store::line_at(store, i), last),
         Parts::Two(i, j) => {
-            if !neutral_within(store, row, store::line_at(store, i)) {
-                return false;
+            let left = neutral_within(store, row, store::line_at(store, i), last);
+            if !left.all {
+                return left;
             }
-            neutral_within(store, row, store::line_at(store, j))
+            neutral_within(store, row, store::line_at(store, j), left)
         }
     }
 }
 
-// Whether the row's formula is balanced.
+// Whether the row's formula is balanced. A formula of one part is if that is, and its row keeps it.
 pub fn row_balanced(store: &Store, row: Row) -> bool
     requires { ⌜ Formable (now store) row ⌝ }
     ensures { λ r. ⌜ r ≡ balanced (form (formula (ledgerOf (now (store .entry)))) (lineOf row)) ⌝ }
 {
-    neutral_within(store, row, row)
+    if let Parts::One(i) = formula_parts::parts_of(row) {
+        return store::balanced_at(store, i);
+    }
+    let none = Tried {
+        all: true,
+        sure: false,
+        session: 0,
+    };
+    let tried = neutral_within(store, row, row, none);
+    tried.all
 }

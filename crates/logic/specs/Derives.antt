@@ -4,7 +4,7 @@ use mathlib.Core.List.{List, [], _∷_, _++_, List·Memᴰ}
 use Prim.Native.Nat.{ℕ, _+_}
 use lib.ListN.{length}
 use Rattle.logic.specs.declared.Interval.{Interval}
-use Rattle.logic.specs.Interval.{_⊇_, WellFormed}
+use Rattle.logic.specs.Interval.{Window, _⊇_, WellFormed}
 use Rattle.logic.specs.Formula.{Formula, atom, one, tensor, with, plus, lolli, implies, bang, at, says}
 use Rattle.logic.specs.Formula.{superset}
 use Rattle.logic.specs.Multiset.{Perm}
@@ -12,16 +12,16 @@ use Rattle.logic.specs.Multiset.{Perm}
 -- a hypothesis A[I]
 pub record Hyp : Type 0 where
   pub formula : Formula
-  pub interval : Interval
+  pub interval : Window
 
 infix 90 _⟦_⟧
-abbrev pub _⟦_⟧ : Formula → Interval → Hyp
+abbrev pub _⟦_⟧ : Formula → Window → Hyp
 _⟦_⟧ a i = record { formula = a; interval = i }
 
 -- The right side of a sequent (document 01: a goal): "A at I", or "K affirms A at I".
 pub data Judgment : Type 0 where
-  holds : Formula → Interval → Judgment
-  affirms : ℕ → Formula → Interval → Judgment
+  holds : Formula → Window → Judgment
+  affirms : ℕ → Formula → Window → Judgment
 
 -- Derives R D g: g from the unrestricted hypotheses R (document 01: standing), used as often as wanted, and the linear
 -- hypotheses D (single-use), each used just once. `same` leaves the order of hypotheses free and is no use of a rule.
@@ -29,48 +29,49 @@ pub data Judgment : Type 0 where
 -- strictly inside.
 pub data Derives : List Hyp → List Hyp → Judgment → Type 0 where
   same : {R S D E : List Hyp} {g : Judgment} → Perm R S → Perm D E → Derives R D g → Derives S E g
-  ax : {R : List Hyp} {p s : ℕ} {i j : Interval} → i ⊇ j → Derives R (atom p s ⟦ i ⟧ ∷ []) (holds (atom p s) j)
+  ax : {R : List Hyp} {p s : ℕ} {i j : Window} → i ⊇ j → Derives R (atom p s ⟦ i ⟧ ∷ []) (holds (atom p s) j)
   cp : {R D : List Hyp} {h : Hyp} {g : Judgment} → List·Memᴰ h R → Derives R (h ∷ D) g → Derives R D g
-  tr : {R D E : List Hyp} {a b : Formula} {i : Interval}
+  tr : {R D E : List Hyp} {a b : Formula} {i : Window}
       → Derives R D (holds a i) → Derives R E (holds b i) → Derives R (D ++ E) (holds (tensor a b) i)
-  tl : {R D : List Hyp} {a b : Formula} {i : Interval} {g : Judgment}
+  tl : {R D : List Hyp} {a b : Formula} {i : Window} {g : Judgment}
       → Derives R (a ⟦ i ⟧ ∷ b ⟦ i ⟧ ∷ D) g → Derives R (tensor a b ⟦ i ⟧ ∷ D) g
-  or : {R : List Hyp} {i : Interval} → Derives R [] (holds one i)
-  ol : {R D : List Hyp} {i : Interval} {g : Judgment} → Derives R D g → Derives R (one ⟦ i ⟧ ∷ D) g
-  wr : {R D : List Hyp} {a b : Formula} {i : Interval}
+  or : {R : List Hyp} {i : Window} → Derives R [] (holds one i)
+  ol : {R D : List Hyp} {i : Window} {g : Judgment} → Derives R D g → Derives R (one ⟦ i ⟧ ∷ D) g
+  wr : {R D : List Hyp} {a b : Formula} {i : Window}
       → Derives R D (holds a i) → Derives R D (holds b i) → Derives R D (holds (with a b) i)
-  w1 : {R D : List Hyp} {a b : Formula} {i : Interval} {g : Judgment}
+  w1 : {R D : List Hyp} {a b : Formula} {i : Window} {g : Judgment}
       → Derives R (a ⟦ i ⟧ ∷ D) g → Derives R (with a b ⟦ i ⟧ ∷ D) g
-  w2 : {R D : List Hyp} {a b : Formula} {i : Interval} {g : Judgment}
+  w2 : {R D : List Hyp} {a b : Formula} {i : Window} {g : Judgment}
       → Derives R (b ⟦ i ⟧ ∷ D) g → Derives R (with a b ⟦ i ⟧ ∷ D) g
-  p1 : {R D : List Hyp} {a b : Formula} {i : Interval} → Derives R D (holds a i) → Derives R D (holds (plus a b) i)
-  p2 : {R D : List Hyp} {a b : Formula} {i : Interval} → Derives R D (holds b i) → Derives R D (holds (plus a b) i)
-  pl : {R D : List Hyp} {a b : Formula} {i : Interval} {g : Judgment}
+  p1 : {R D : List Hyp} {a b : Formula} {i : Window} → Derives R D (holds a i) → Derives R D (holds (plus a b) i)
+  p2 : {R D : List Hyp} {a b : Formula} {i : Window} → Derives R D (holds b i) → Derives R D (holds (plus a b) i)
+  pl : {R D : List Hyp} {a b : Formula} {i : Window} {g : Judgment}
       → Derives R (a ⟦ i ⟧ ∷ D) g → Derives R (b ⟦ i ⟧ ∷ D) g → Derives R (plus a b ⟦ i ⟧ ∷ D) g
-  ll : {R D E : List Hyp} {a b : Formula} {i j : Interval} {g : Judgment}
+  ll : {R D E : List Hyp} {a b : Formula} {i j : Window} {g : Judgment}
       → WellFormed j → i ⊇ j → Derives R D (holds a j) → Derives R (b ⟦ j ⟧ ∷ E) g
       → Derives R (lolli a b ⟦ i ⟧ ∷ (D ++ E)) g
-  ul : {R D : List Hyp} {a b : Formula} {i j : Interval} {g : Judgment}
+  ul : {R D : List Hyp} {a b : Formula} {i j : Window} {g : Judgment}
       → WellFormed j → i ⊇ j → Derives R [] (holds a j) → Derives R (b ⟦ j ⟧ ∷ D) g
       → Derives R (implies a b ⟦ i ⟧ ∷ D) g
-  br : {R : List Hyp} {a : Formula} {i : Interval} → Derives R [] (holds a i) → Derives R [] (holds (bang a) i)
-  bl : {R D : List Hyp} {a : Formula} {i : Interval} {g : Judgment}
+  br : {R : List Hyp} {a : Formula} {i : Window} → Derives R [] (holds a i) → Derives R [] (holds (bang a) i)
+  bl : {R D : List Hyp} {a : Formula} {i : Window} {g : Judgment}
       → Derives (a ⟦ i ⟧ ∷ R) D g → Derives R (bang a ⟦ i ⟧ ∷ D) g
-  hr : {R D : List Hyp} {a : Formula} {i j : Interval} → Derives R D (holds a j) → Derives R D (holds (at a j) i)
-  hl : {R D : List Hyp} {a : Formula} {i j : Interval} {g : Judgment}
+  hr : {R D : List Hyp} {a : Formula} {i : Window} {j : Interval}
+      → Derives R D (holds a j) → Derives R D (holds (at a j) i)
+  hl : {R D : List Hyp} {a : Formula} {i : Window} {j : Interval} {g : Judgment}
       → Derives R (a ⟦ j ⟧ ∷ D) g → Derives R (at a j ⟦ i ⟧ ∷ D) g
-  sr : {R D : List Hyp} {k : ℕ} {a : Formula} {i : Interval}
+  sr : {R D : List Hyp} {k : ℕ} {a : Formula} {i : Window}
       → Derives R D (affirms k a i) → Derives R D (holds (says k a) i)
-  af : {R D : List Hyp} {k : ℕ} {a : Formula} {i : Interval}
+  af : {R D : List Hyp} {k : ℕ} {a : Formula} {i : Window}
       → Derives R D (holds a i) → Derives R D (affirms k a i)
-  sl : {R D : List Hyp} {k : ℕ} {a b : Formula} {i j : Interval}
+  sl : {R D : List Hyp} {k : ℕ} {a b : Formula} {i j : Window}
       → i ⊇ j → Derives R (a ⟦ i ⟧ ∷ D) (affirms k b j) → Derives R (says k a ⟦ i ⟧ ∷ D) (affirms k b j)
-  gr : {R : List Hyp} {i j k : Interval} → i ⊇ j → Derives R [] (holds (superset i j) k)
+  gr : {R : List Hyp} {i j : Interval} {k : Window} → i ⊇ j → Derives R [] (holds (superset i j) k)
 
 -- The rules by their step letters; `ll` and `ul` with the interval J that they choose.
 pub data Letter : Type 0 where
   ax cp tr tl or ol wr w1 w2 p1 p2 pl : Letter
-  ll ul : Interval → Letter
+  ll ul : Window → Letter
   br bl hr hl sr af sl gr : Letter
 
 -- The rules that a derivation uses, in the order of step lines: "first comes the whole of the first premise, then the

@@ -12,6 +12,10 @@ use Rattle.logic.specs.Choice.{pick}
 abbrev pub span : ℕ → ℕ → ℕ → ℕ → Interval
 span i j p q = record { from = i; to = j; first = p; last = q }
 
+-- when a hypothesis or a goal holds, and what `ll` and `ul` choose; other intervals are those that lines write
+abbrev pub Window : Type 0
+Window = Interval
+
 -- what stands where there is no interval
 abbrev pub noInterval : Interval
 noInterval = span 0 0 0 0

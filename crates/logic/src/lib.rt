@@ -10,6 +10,9 @@ pub struct Interval {
     pub last: u32,
 }
 
+// When a label's formula or a goal holds, and what `ll` and `ul` choose; other intervals are those that lines write.
+pub type Window = Interval;
+
 // What is proved of the logic. Each function does nothing: its `ensures` is the statement, of specs/Statements.antt and
 // specs/Examples.antt.
 

@@ -2,6 +2,7 @@
 use Prim.Native.Nat.{ℕ}
 use mathlib.Core.List.{List, [], _∷_, _++_}
 use Rattle.logic.specs.declared.Interval.{Interval}
+use Rattle.logic.specs.Interval.{Window}
 use Rattle.request.specs.declared.Kind.{Kind}
 
 -- A formula line (document 01: a wording line), in the paper's order; parts are the numbers of earlier formulas.
@@ -25,8 +26,8 @@ pub data Step : Type 0 where
   w1 w2 : ℕ → Step
   p1 p2 : Step
   pl : ℕ → Step
-  ll : ℕ → ℕ → Interval → Step
-  ul : ℕ → Interval → Step
+  ll : ℕ → ℕ → Window → Step
+  ul : ℕ → Window → Step
   br : Step
   bl : ℕ → Step
   hr : Step

@@ -1,5 +1,5 @@
 // One match over the step's number: what a step does at a sequent, as a plan. Nothing here calls itself.
-use logic::Interval;
+use logic::Window;
 use request::ranges;
 use step_rows::LabelRows;
 use step_rows::StepRow;
@@ -19,7 +19,7 @@ ghost use Rattle.step_rows.specs.LabelRows.{labelAt};
 ghost use Rattle.step_rows.specs.StepRows.{stepOf};
 
 // The right steps and `ax`, at the goal of formula n at i.
-fn at_right(store: &Store, table: &LabelRows, q: Sequent, n: u32, i: Interval, s: StepRow) -> Plan
+fn at_right(store: &Store, table: &LabelRows, q: Sequent, n: u32, i: Window, s: StepRow) -> Plan
     requires { ⌜ (1 ≤ s .op) × (s .op ≤ 10) ⌝ }
     ensures { λ r. ⌜ r ≡ planOf (rowAt (now (store .entry))) (labelAt (now (table .entry))) (q .unrestricted)
         (q .linear) (Goal.Holds n i) (stepOf s) ⌝ }

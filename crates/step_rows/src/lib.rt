@@ -31,5 +31,5 @@ pub struct StepRow {
     pub label: u32,
     pub high: u32,
     pub low: u32,
-    pub interval: logic::Interval,
+    pub interval: logic::Window,
 }

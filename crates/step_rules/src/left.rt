@@ -1,6 +1,6 @@
 // `cp`, and the left steps: d is D without the step's label, which stands for the formula of the row x at i; g is the
 // goal.
-use logic::Interval;
+use logic::Window;
 use step_rows::LabelRows;
 use step_rows::label_rows;
 use steps::Fresh;
@@ -42,20 +42,20 @@ pub fn ol(d: u64, g: Goal, x: Row) -> Plan
 }
 
 // "that arm"
-pub fn w1(d: u64, g: Goal, x: Row, i: Interval) -> Plan
+pub fn w1(d: u64, g: Goal, x: Row, i: Window) -> Plan
     ensures { λ r. ⌜ r ≡ when (is x "w") (Plan.One (premise d g (Fresh.Linear ((x .a) over i)))) ⌝ }
 {
     step_plans::linear(x.letter == letters::WITH, d, g, x.a, i)
 }
 
-pub fn w2(d: u64, g: Goal, x: Row, i: Interval) -> Plan
+pub fn w2(d: u64, g: Goal, x: Row, i: Window) -> Plan
     ensures { λ r. ⌜ r ≡ when (is x "w") (Plan.One (premise d g (Fresh.Linear ((x .b) over i)))) ⌝ }
 {
     step_plans::linear(x.letter == letters::WITH, d, g, x.b, i)
 }
 
 // "the part joins R"
-pub fn bl(d: u64, g: Goal, x: Row, i: Interval) -> Plan
+pub fn bl(d: u64, g: Goal, x: Row, i: Window) -> Plan
     ensures { λ r. ⌜ r ≡ when (is x "b") (Plan.One (premise d g (Fresh.Unrestricted ((x .a) over i)))) ⌝ }
 {
     step_plans::unrestricted(x.letter == letters::BANG, d, g, x.a, i)
@@ -70,7 +70,7 @@ pub fn hl(d: u64, g: Goal, x: Row) -> Plan
 }
 
 // "L is ⟨K⟩A and the goal K affirms B, same K; L's window ⊇ goal's." The goal is affirmed by k, at j.
-pub fn sl(d: u64, g: Goal, x: Row, i: Interval, k: u32, j: Interval) -> Plan
+pub fn sl(d: u64, g: Goal, x: Row, i: Window, k: u32, j: Window) -> Plan
     ensures { λ r. ⌜ r ≡ when (is x "s") (when (eqb (x .a) k && contains i j)
         (Plan.One (premise d g (Fresh.Linear ((x .b) over i))))) ⌝ }
 {
@@ -84,14 +84,14 @@ pub fn sl(d: u64, g: Goal, x: Row, i: Interval, k: u32, j: Interval) -> Plan
 }
 
 // "both parts"
-pub fn tl(d: u64, g: Goal, x: Row, i: Interval) -> Plan
+pub fn tl(d: u64, g: Goal, x: Row, i: Window) -> Plan
     ensures { λ r. ⌜ r ≡ when (is x "t") (Plan.One (premise d g (Fresh.Both ((x .a) over i) ((x .b) over i)))) ⌝ }
 {
     step_plans::both(x.letter == letters::TENSOR, d, g, x.a, x.b, i)
 }
 
 // "a premise for each arm"
-pub fn pl(d: u64, g: Goal, x: Row, i: Interval) -> Plan
+pub fn pl(d: u64, g: Goal, x: Row, i: Window) -> Plan
     ensures { λ r. ⌜ r ≡ when (is x "p") (Plan.Two (premise d g (Fresh.Linear ((x .a) over i)))
         (premise d g (Fresh.Linear ((x .b) over i)))) ⌝ }
 {
@@ -100,7 +100,7 @@ pub fn pl(d: u64, g: Goal, x: Row, i: Interval) -> Plan
 
 // "A ⊸ B; L's window ⊇ J = from..to; A at J from the share, which must not have L; then the goal from the rest with
 // B at J for L."
-pub fn ll(d: u64, g: Goal, x: Row, i: Interval, share: u64, j: Interval) -> Plan
+pub fn ll(d: u64, g: Goal, x: Row, i: Window, share: u64, j: Window) -> Plan
     ensures { λ r. ⌜ r ≡ when (is x "l") (when (contains i j && subset share d)
         (Plan.Two (premise share (Goal.Holds (x .a) j) Fresh.Nothing)
         (premise (without d share) g (Fresh.Linear ((x .b) over j))))) ⌝ }
@@ -118,7 +118,7 @@ pub fn ll(d: u64, g: Goal, x: Row, i: Interval, share: u64, j: Interval) -> Plan
 }
 
 // "A ⊃ B; the same, but A from an empty D."
-pub fn ul(d: u64, g: Goal, x: Row, i: Interval, j: Interval) -> Plan
+pub fn ul(d: u64, g: Goal, x: Row, i: Window, j: Window) -> Plan
     ensures { λ r. ⌜ r ≡ when (is x "u") (when (contains i j)
         (Plan.Two (premise 0 (Goal.Holds (x .a) j) Fresh.Nothing)
         (premise d g (Fresh.Linear ((x .b) over j))))) ⌝ }

@@ -1,5 +1,5 @@
 // The right steps and `ax`, at the linear labels d and a goal whose row is x, at i.
-use logic::Interval;
+use logic::Window;
 use steps::Fresh;
 use steps::Goal;
 use steps::Hypothesis;
@@ -38,20 +38,20 @@ pub fn gr(d: u64, x: Row) -> Plan
 }
 
 // "⊕, that arm."
-pub fn p1(d: u64, x: Row, i: Interval) -> Plan
+pub fn p1(d: u64, x: Row, i: Window) -> Plan
     ensures { λ r. ⌜ r ≡ when (is x "p") (Plan.One (premise d (Goal.Holds (x .a) i) Fresh.Nothing)) ⌝ }
 {
     step_plans::goal(x.letter == letters::PLUS, d, x.a, i)
 }
 
-pub fn p2(d: u64, x: Row, i: Interval) -> Plan
+pub fn p2(d: u64, x: Row, i: Window) -> Plan
     ensures { λ r. ⌜ r ≡ when (is x "p") (Plan.One (premise d (Goal.Holds (x .b) i) Fresh.Nothing)) ⌝ }
 {
     step_plans::goal(x.letter == letters::PLUS, d, x.b, i)
 }
 
 // "!, D empty, then the part."
-pub fn br(d: u64, x: Row, i: Interval) -> Plan
+pub fn br(d: u64, x: Row, i: Window) -> Plan
     ensures { λ r. ⌜ r ≡ when (is x "b") (when (isEmpty d)
         (Plan.One (premise d (Goal.Holds (x .a) i) Fresh.Nothing))) ⌝ }
 {
@@ -67,7 +67,7 @@ pub fn hr(d: u64, x: Row) -> Plan
 }
 
 // "⟨K⟩A becomes K affirms A."
-pub fn sr(d: u64, x: Row, i: Interval) -> Plan
+pub fn sr(d: u64, x: Row, i: Window) -> Plan
     ensures { λ r. ⌜ r ≡ when (is x "s") (Plan.One (premise d (Goal.Affirms (x .b) i (x .a)) Fresh.Nothing)) ⌝ }
 {
     step_plans::one(
@@ -79,7 +79,7 @@ pub fn sr(d: u64, x: Row, i: Interval) -> Plan
 }
 
 // "&, both arms, each from all of D."
-pub fn wr(d: u64, x: Row, i: Interval) -> Plan
+pub fn wr(d: u64, x: Row, i: Window) -> Plan
     ensures { λ r. ⌜ r ≡ when (is x "w") (Plan.Two (premise d (Goal.Holds (x .a) i) Fresh.Nothing)
         (premise d (Goal.Holds (x .b) i) Fresh.Nothing)) ⌝ }
 {
@@ -87,7 +87,7 @@ pub fn wr(d: u64, x: Row, i: Interval) -> Plan
 }
 
 // "⊗; left from the share, right from the rest of D."
-pub fn tr(d: u64, x: Row, i: Interval, share: u64) -> Plan
+pub fn tr(d: u64, x: Row, i: Window, share: u64) -> Plan
     ensures { λ r. ⌜ r ≡ when (is x "t") (when (subset share d)
         (Plan.Two (premise share (Goal.Holds (x .a) i) Fresh.Nothing)
         (premise (without d share) (Goal.Holds (x .b) i) Fresh.Nothing))) ⌝ }
@@ -104,7 +104,7 @@ pub fn tr(d: u64, x: Row, i: Interval, share: u64) -> Plan
 }
 
 // "D holds just L, an atom equal to the goal; L's window ⊇ goal's. Closes." Label k stands for h, whose row is y.
-pub fn ax(d: u64, x: Row, i: Interval, k: u32, h: Hypothesis, y: Row) -> Plan
+pub fn ax(d: u64, x: Row, i: Window, k: u32, h: Hypothesis, y: Row) -> Plan
     requires { ⌜ k < labelCount ⌝ }
     ensures { λ r. ⌜ r ≡ when (is x "a") (when (isJust d k
         && ((is y "a" && (eqb (y .a) (x .a) && eqb (y .b) (x .b))) && contains (h .interval) i)) Plan.Closed) ⌝ }

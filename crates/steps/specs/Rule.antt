@@ -4,7 +4,7 @@ use mathlib.Core.Path.{_≡_}
 use mathlib.Core.List.{List, [], _∷_}
 use Prim.Native.Nat.{ℕ, _^_}
 use Rattle.logic.specs.declared.Interval.{Interval}
-use Rattle.logic.specs.Interval.{_⊇_}
+use Rattle.logic.specs.Interval.{Window, _⊇_}
 use Rattle.logic.specs.Formula.{Formula, atom, one, tensor, with, plus, lolli, implies, bang, at, says, superset}
 use Rattle.logic.specs.Derives.{Hyp, _⟦_⟧, Judgment, holds, affirms}
 use Rattle.request.specs.Request.{Step}
@@ -35,65 +35,66 @@ pub data Leaves : Type 0 where
 -- this goal, where `label` tells what a label stands for; and it leaves what is said.
 pub data Rule (label : ℕ → Hyp) (R D : ℕ) : Step → Judgment → Leaves → Type 0 where
   -- "D holds just L, an atom equal to the goal; L's window ⊇ goal's. Closes."
-  ax : {l p s : ℕ} {i j : Interval}
+  ax : {l p s : ℕ} {i j : Window}
       → D ≡ 2 ^ l → label l ≡ atom p s ⟦ i ⟧ → i ⊇ j → Rule label R D (Step.ax l) (holds (atom p s) j) nothing
   -- "L in R; a new single label of the same wording and window."
   cp : {l : ℕ} {g : Judgment} → R ∋ l → Rule label R D (Step.cp l) g (premise (from D g (label l ∷ [])))
   -- "⊗; left from the share, right from the rest of D."
-  tr : {s : ℕ} {a b : Formula} {i : Interval} → s ⊑ D
+  tr : {s : ℕ} {a b : Formula} {i : Window} → s ⊑ D
       → Rule label R D (Step.tr s) (holds (tensor a b) i)
       (premises (from s (holds a i) []) (from (without D s) (holds b i) []))
   -- "both parts"
-  tl : {l : ℕ} {a b : Formula} {i : Interval} {g : Judgment} → D ∋ l → label l ≡ tensor a b ⟦ i ⟧
+  tl : {l : ℕ} {a b : Formula} {i : Window} {g : Judgment} → D ∋ l → label l ≡ tensor a b ⟦ i ⟧
       → Rule label R D (Step.tl l) g (premise (from (remove D l) g (a ⟦ i ⟧ ∷ b ⟦ i ⟧ ∷ [])))
   -- "1, D empty; closes."
-  or : {i : Interval} → D ≡ 0 → Rule label R D Step.or (holds one i) nothing
+  or : {i : Window} → D ≡ 0 → Rule label R D Step.or (holds one i) nothing
   -- "drops L, a 1."
-  ol : {l : ℕ} {i : Interval} {g : Judgment} → D ∋ l → label l ≡ one ⟦ i ⟧
+  ol : {l : ℕ} {i : Window} {g : Judgment} → D ∋ l → label l ≡ one ⟦ i ⟧
       → Rule label R D (Step.ol l) g (premise (from (remove D l) g []))
   -- "&, both arms, each from all of D."
-  wr : {a b : Formula} {i : Interval}
+  wr : {a b : Formula} {i : Window}
       → Rule label R D Step.wr (holds (with a b) i) (premises (from D (holds a i) []) (from D (holds b i) []))
   -- "that arm"
-  w1 : {l : ℕ} {a b : Formula} {i : Interval} {g : Judgment} → D ∋ l → label l ≡ with a b ⟦ i ⟧
+  w1 : {l : ℕ} {a b : Formula} {i : Window} {g : Judgment} → D ∋ l → label l ≡ with a b ⟦ i ⟧
       → Rule label R D (Step.w1 l) g (premise (from (remove D l) g (a ⟦ i ⟧ ∷ [])))
-  w2 : {l : ℕ} {a b : Formula} {i : Interval} {g : Judgment} → D ∋ l → label l ≡ with a b ⟦ i ⟧
+  w2 : {l : ℕ} {a b : Formula} {i : Window} {g : Judgment} → D ∋ l → label l ≡ with a b ⟦ i ⟧
       → Rule label R D (Step.w2 l) g (premise (from (remove D l) g (b ⟦ i ⟧ ∷ [])))
   -- "⊕, that arm."
-  p1 : {a b : Formula} {i : Interval} → Rule label R D Step.p1 (holds (plus a b) i) (premise (from D (holds a i) []))
-  p2 : {a b : Formula} {i : Interval} → Rule label R D Step.p2 (holds (plus a b) i) (premise (from D (holds b i) []))
+  p1 : {a b : Formula} {i : Window} → Rule label R D Step.p1 (holds (plus a b) i) (premise (from D (holds a i) []))
+  p2 : {a b : Formula} {i : Window} → Rule label R D Step.p2 (holds (plus a b) i) (premise (from D (holds b i) []))
   -- "a premise for each arm"
-  pl : {l : ℕ} {a b : Formula} {i : Interval} {g : Judgment} → D ∋ l → label l ≡ plus a b ⟦ i ⟧
+  pl : {l : ℕ} {a b : Formula} {i : Window} {g : Judgment} → D ∋ l → label l ≡ plus a b ⟦ i ⟧
       → Rule label R D (Step.pl l) g
       (premises (from (remove D l) g (a ⟦ i ⟧ ∷ [])) (from (remove D l) g (b ⟦ i ⟧ ∷ [])))
   -- "A ⊸ B; L's window ⊇ J = from..to; A at J from the share, which must not have L; then the goal from the rest with
   -- B at J for L."
-  ll : {l s : ℕ} {a b : Formula} {i j : Interval} {g : Judgment}
+  ll : {l s : ℕ} {a b : Formula} {i j : Window} {g : Judgment}
       → D ∋ l → label l ≡ lolli a b ⟦ i ⟧ → i ⊇ j → s ⊑ remove D l
       → Rule label R D (Step.ll l s j) g
       (premises (from s (holds a j) []) (from (without (remove D l) s) g (b ⟦ j ⟧ ∷ [])))
   -- "A ⊃ B; the same, but A from an empty D."
-  ul : {l : ℕ} {a b : Formula} {i j : Interval} {g : Judgment} → D ∋ l → label l ≡ implies a b ⟦ i ⟧ → i ⊇ j
+  ul : {l : ℕ} {a b : Formula} {i j : Window} {g : Judgment} → D ∋ l → label l ≡ implies a b ⟦ i ⟧ → i ⊇ j
       → Rule label R D (Step.ul l j) g (premises (from 0 (holds a j) []) (from (remove D l) g (b ⟦ j ⟧ ∷ [])))
   -- "!, D empty, then the part."
-  br : {a : Formula} {i : Interval} → D ≡ 0
+  br : {a : Formula} {i : Window} → D ≡ 0
       → Rule label R D Step.br (holds (bang a) i) (premise (from D (holds a i) []))
   -- "the part joins R"
-  bl : {l : ℕ} {a : Formula} {i : Interval} {g : Judgment} → D ∋ l → label l ≡ bang a ⟦ i ⟧
+  bl : {l : ℕ} {a : Formula} {i : Window} {g : Judgment} → D ∋ l → label l ≡ bang a ⟦ i ⟧
       → Rule label R D (Step.bl l) g (premise (joining (remove D l) g (a ⟦ i ⟧)))
   -- "A@J becomes A at J."
-  hr : {a : Formula} {i j : Interval} → Rule label R D Step.hr (holds (at a j) i) (premise (from D (holds a j) []))
+  hr : {a : Formula} {i : Window} {j : Interval}
+      → Rule label R D Step.hr (holds (at a j) i) (premise (from D (holds a j) []))
   -- "likewise for L"
-  hl : {l : ℕ} {a : Formula} {i j : Interval} {g : Judgment} → D ∋ l → label l ≡ at a j ⟦ i ⟧
+  hl : {l : ℕ} {a : Formula} {i : Window} {j : Interval} {g : Judgment} → D ∋ l → label l ≡ at a j ⟦ i ⟧
       → Rule label R D (Step.hl l) g (premise (from (remove D l) g (a ⟦ j ⟧ ∷ [])))
   -- "⟨K⟩A becomes K affirms A."
-  sr : {k : ℕ} {a : Formula} {i : Interval}
+  sr : {k : ℕ} {a : Formula} {i : Window}
       → Rule label R D Step.sr (holds (says k a) i) (premise (from D (affirms k a i) []))
   -- "K affirms A becomes A."
-  af : {k : ℕ} {a : Formula} {i : Interval}
+  af : {k : ℕ} {a : Formula} {i : Window}
       → Rule label R D Step.af (affirms k a i) (premise (from D (holds a i) []))
   -- "L is ⟨K⟩A and the goal K affirms B, same K; L's window ⊇ goal's."
-  sl : {l k : ℕ} {a b : Formula} {i j : Interval} → D ∋ l → label l ≡ says k a ⟦ i ⟧ → i ⊇ j
+  sl : {l k : ℕ} {a b : Formula} {i j : Window} → D ∋ l → label l ≡ says k a ⟦ i ⟧ → i ⊇ j
       → Rule label R D (Step.sl l) (affirms k b j) (premise (from (remove D l) (affirms k b j) (a ⟦ i ⟧ ∷ [])))
   -- "⊇ that holds, D empty; closes."
-  gr : {i j k : Interval} → D ≡ 0 → i ⊇ j → Rule label R D Step.gr (holds (superset i j) k) nothing
+  gr : {i j : Interval} {k : Window} → D ≡ 0 → i ⊇ j → Rule label R D Step.gr (holds (superset i j) k) nothing

@@ -14,13 +14,13 @@ pub struct Row {
 // A formula, by its number, at an interval: what a label stands for.
 pub struct Hypothesis {
     pub formula: u32,
-    pub interval: logic::Interval,
+    pub interval: logic::Window,
 }
 
 // "A at I", or "K affirms A at I"; K comes last, so that A and I stand in one place.
 pub enum Goal {
-    Holds(u32, logic::Interval),
-    Affirms(u32, logic::Interval, u32),
+    Holds(u32, logic::Window),
+    Affirms(u32, logic::Window, u32),
 }
 
 // A sequent (document 01: a judged line): the unrestricted labels (standing, R), the linear ones (single-use, D) and
