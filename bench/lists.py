@@ -1,5 +1,6 @@
 #!/usr/bin/env python3
 """Writes the lists of bench/run to a folder, one a file: sheets as tillrun reads them, those before a line `---` untimed.
+Those for the whole program, NAME.in, have no such line.
 bench/lists.py FOLDER
 """
 import os
@@ -38,11 +39,23 @@ def full_till():
 
 
 def tallies():
-    """200 wordings, 512 coupons."""
-    atoms = [f"a,{1 + n % 3},{n // 3}" for n in range(150)]
+    """200 wordings of 50 sessions and 512 coupons over all of them, of which each minute is in one fewer than the last.
+    A session has a seat, the same under ⟨1⟩, so that half of the seats are the house's, and a place or an atom that
+    counts nothing; 50 wordings are pairs of neighbours."""
+    sessions = [[f"a,1,{n}", f"s,1,{3 * n}", f"a,{2 + n % 2},{n}"] for n in range(50)]
     pairs = [f"t,{n},{n + 1}" for n in range(50)]
-    begin = words(atoms + pairs) + [f"issue,s,{n % 200},0,{n},0,0" for n in range(512)]
+    begin = words(sum(sessions, []) + pairs) + [f"issue,s,{n % 200},0,{n},0,0" for n in range(512)]
     return begin, [f"tally,{n % 50},{n}" for n in range(200)]
+
+
+def three_live(rounds):
+    """M1's booking, a tally and a withdrawal over and over: a seat and a token are issued, tallied and booked with the
+    offer, and the place is withdrawn. Three coupons are live at the tally, and each round three come and go."""
+    turns = []
+    for seat in range(2, 2 + 3 * rounds, 3):
+        turns += ["issue,s,3,0,600,0,0", "issue,s,4,0,600,0,0", "tally,7,540"]
+        turns += [book("540,5,540,600,0,0", [1, seat, seat + 1], M1_STEPS), f"withdraw,{seat + 2}"]
+    return words(M1) + ["issue,r,7,0,9999,0,0"], turns
 
 
 def booked_15():
@@ -96,7 +109,15 @@ LISTS = {
     "tallies": tallies,
     "bookings_15_steps": booked_15,
     "bookings_256_steps": booked_256,
+    "three_live": lambda: three_live(2000),
 }
+
+# for the whole program: a million sheets
+PROGRAM = {"three_live": lambda: three_live(200000)}
+
+
+def stream(sheets):
+    return "".join(sheet + "\n\n" for sheet in sheets)
 
 
 def main():
@@ -106,8 +127,10 @@ def main():
     lists |= {f"refused_{number}": (begin, bad * 100) for number, (begin, bad) in refused().items()}
     for name, (begin, timed) in lists.items():
         with open(os.path.join(folder, name), "w", encoding="ascii") as out:
-            out.write("".join(sheet + "\n\n" for sheet in begin) + "---\n")
-            out.write("".join(sheet + "\n\n" for sheet in timed))
+            out.write(stream(begin) + "---\n" + stream(timed))
+    for name, make in PROGRAM.items():
+        with open(os.path.join(folder, name + ".in"), "w", encoding="ascii") as out:
+            out.write("".join(map(stream, make())))
 
 
 main()

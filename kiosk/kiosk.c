@@ -1,6 +1,7 @@
 /* A kiosk to touch: keeps one till, hands it the sheets that are typed or stand in a file, and shows each answer and a
  * panel for a session and a minute. The panel's open, shut and placed are the till's tally; issued and withdrawn are
- * the kiosk's own count (recount.h), so that nothing hides: open + shut + placed + withdrawn = issued.
+ * the kiosk's own count (recount.h), so that nothing hides: open + shut + placed + withdrawn = issued. Open are the
+ * house's seats in their minutes, shut all other seats; the kiosk counts these too, and marks a tally that differs.
  *
  * On a terminal the panel stands at the top. Without one each answer is a line, in tillrun's form and then in words. */
 #define _POSIX_C_SOURCE 200809L
@@ -39,6 +40,7 @@ struct Input {
 struct Panel {
     uint32_t open, shut, placed, withdrawn, issued;
     int good;
+    const char *verdict;
 };
 
 /* One line, to the screen's list or to standard output. */
@@ -97,10 +99,11 @@ static void hand_over(struct Kiosk *kiosk, const uint8_t *sheet, size_t length) 
     call(kiosk, sheet, length, a);
     if (a[0] == 0) kiosk->refused++;
     else kiosk->accepted++;
-    if (!history_note(kiosk->history, sheet, length, a)) say(kiosk, "this kiosk cannot read the next, accepted sheet");
+    if (!history_note(kiosk->history, sheet, length, a)) say(kiosk, "the next answer is not as this kiosk counts");
     int word = length > 4 && memcmp(sheet, "word", 4) == 0;
     if (a[0] == 0) say_refusal(kiosk, a[1], a[2]);
-    else if (a[0] == 3) say(kiosk, "ok,%u,%u,%u open %u, shut %u, placed %u", a[1], a[2], a[3], a[1], a[2], a[3]);
+    else if (a[0] == 3)
+        say(kiosk, "ok,%u,%u,%u open %u (house seats), shut %u, placed %u", a[1], a[2], a[3], a[1], a[2], a[3]);
     else say(kiosk, "ok,%u %s %u", a[1], word ? "wording" : "serial", a[1]);
 }
 
@@ -111,19 +114,20 @@ static struct Panel panel_of(struct Kiosk *kiosk) {
     uint32_t a[4];
     int length = snprintf(sheet, sizeof sheet, "tally,%u,%u\n", kiosk->session, kiosk->minute);
     call(kiosk, (const uint8_t *)sheet, (size_t)length, a);
-    struct Counted counted = history_count(kiosk->history, kiosk->session);
-    struct Panel p = {a[1], a[2], a[3], counted.withdrawn, counted.issued, 0};
+    struct Counted counted = history_count(kiosk->history, kiosk->session, kiosk->minute);
+    struct Panel p = {a[1], a[2], a[3], counted.withdrawn, counted.issued, 0, "adds up"};
     uint64_t sum = (uint64_t)p.open + p.shut + p.placed + p.withdrawn;
-    p.good = a[0] == 3 && sum == p.issued && kiosk->history->unread == 0;
+    if (a[0] != 3 || sum != p.issued) p.verdict = "DOES NOT ADD UP";
+    else if (!history_agrees(&counted, a) || kiosk->history->unread > 0) p.verdict = "IS NOT AS COUNTED";
+    else p.good = 1;
     if (!p.good) kiosk->wrong = 1;
     return p;
 }
 
 static void say_panel(struct Kiosk *kiosk) {
     struct Panel p = panel_of(kiosk);
-    say(kiosk, "panel session %u minute %u: open %u + shut %u + placed %u + withdrawn %u = issued %u, %s",
-        kiosk->session, kiosk->minute, p.open, p.shut, p.placed, p.withdrawn, p.issued,
-        p.good ? "adds up" : "DOES NOT ADD UP");
+    say(kiosk, "panel session %u minute %u: open %u (house seats) + shut %u + placed %u + withdrawn %u = issued %u, %s",
+        kiosk->session, kiosk->minute, p.open, p.shut, p.placed, p.withdrawn, p.issued, p.verdict);
 }
 
 /* The whole screen: the panel, what was said last, and a place to type. */
@@ -134,7 +138,8 @@ static void draw(struct Kiosk *kiosk, const struct Input *input) {
     puts("------------------------------------------------------------------------");
     printf("%9s   %9s   %9s   %9s   %9s\n", "open", "shut", "placed", "withdrawn", "issued");
     printf("%9u + %9u + %9u + %9u = %9u  ", p.open, p.shut, p.placed, p.withdrawn, p.issued);
-    puts(p.good ? "adds up" : "\033[7m DOES NOT ADD UP \033[0m");
+    printf(p.good ? "%s\n" : "\033[7m %s \033[0m\n", p.verdict);
+    puts("open: house seats (principal 1) in their minutes; shut: all others");
     puts("------------------------------------------------------------------------");
     printf("%u sheets accepted, %u refused. An empty line ends a sheet; :help\n\n", kiosk->accepted, kiosk->refused);
     unsigned first = kiosk->lines > SHOWN ? kiosk->lines - SHOWN : 0;

@@ -2,7 +2,7 @@
 #include <stdlib.h>
 #include <string.h>
 
-enum { FIELDS = 10, STANDING = 1, SINGLE = 2 };
+enum { FIELDS = 10, MOST_HOLDS = 32, STANDING = 1, SINGLE = 2 };
 
 struct Field {
     const uint8_t *at;
@@ -61,21 +61,63 @@ static int add_part(struct History *history, struct Wording *to, struct Field fi
 static int set_atom(struct Wording *to, const struct Field *fields) {
     uint32_t predicate;
     if (!number(fields[2], LAST_PREDICATE, &predicate) || !number(fields[3], LAST_SESSION, &to->session)) return 0;
-    to->seats = predicate == 1 || predicate == 2;
+    to->seats = predicate == 1;
+    to->places = predicate == 2;
     return 1;
 }
 
-struct Counted history_count(const struct History *history, uint32_t session) {
-    struct Counted sum = {0, 0};
-    uint32_t seats[WORDINGS];
+static int set_says(struct History *history, struct Wording *to, const struct Field *fields) {
+    to->says = 1;
+    return number(fields[2], LAST_PRINCIPAL, &to->principal) && add_part(history, to, fields[3]);
+}
+
+/* What a wording holds of a session. Of its seats those are the house's whose nearest <K> is <1>: so many are it where
+ * <1> is the nearest above the whole wording (`under`), and where another or none is (`house`). */
+struct Held {
+    uint32_t seats, places, house, under;
+};
+
+static struct Held held(const struct Wording *w, const struct Held *of, uint32_t session) {
+    uint32_t own = w->session == session;
+    struct Held sum = {own ? w->seats : 0, own ? w->places : 0, 0, own ? w->seats : 0};
+    for (uint32_t k = 0; k < w->parts; k++) {
+        const struct Held *part = &of[w->part[k]];
+        sum.seats += part->seats;
+        sum.places += part->places;
+        sum.house += part->house;
+        sum.under += part->under;
+    }
+    if (w->says && w->principal == HOUSE) sum.house = sum.under;
+    if (w->says) sum.under = sum.house;
+    return sum;
+}
+
+static int has(const struct Single *single, uint32_t minute) {
+    int paused = single->last > 0 && single->first <= minute && minute <= single->last;
+    return single->from <= minute && minute <= single->to && !paused;
+}
+
+struct Counted history_count(const struct History *history, uint32_t session, uint32_t minute) {
+    struct Counted sum = {0, 0, 0, 0, 0};
+    struct Held of[WORDINGS];
     for (uint32_t n = 0; n < history->wordings; n++) {
         const struct Wording *w = &history->wording[n];
-        seats[n] = w->session == session ? w->seats : 0;
-        for (uint32_t k = 0; k < w->parts; k++) seats[n] += seats[w->part[k]];
-        sum.issued += w->issued * seats[n];
-        sum.withdrawn += w->withdrawn * seats[n];
+        of[n] = held(w, of, session);
+        sum.issued += w->issued * (of[n].seats + of[n].places);
+        sum.withdrawn += w->withdrawn * (of[n].seats + of[n].places);
+    }
+    for (uint32_t k = 0; k < history->singles; k++) {
+        const struct Held *single = &of[history->single[k].wording];
+        uint32_t open = has(&history->single[k], minute) ? single->house : 0;
+        sum.open += open;
+        sum.shut += single->seats - open;
+        sum.placed += single->places;
     }
     return sum;
+}
+
+int history_agrees(const struct Counted *counted, const uint32_t answer[4]) {
+    return answer[1] == counted->open && answer[2] == counted->shut && answer[3] == counted->placed;
 }
 
 static int note_word(struct History *history, const struct Field *fields, size_t count, uint32_t answer) {
@@ -92,7 +134,7 @@ static int note_word(struct History *history, const struct Field *fields, size_t
         break;
     case 'b': good = count == 3 && add_part(history, to, fields[2]); break;
     case 'h': good = count == 7 && add_part(history, to, fields[2]); break;
-    case 's': good = count == 4 && add_part(history, to, fields[3]); break;
+    case 's': good = count == 4 && set_says(history, to, fields); break;
     default: good = 0;
     }
     history->wordings++;
@@ -107,38 +149,83 @@ static int give(struct History *history, uint32_t serial, uint32_t kind) {
     return 1;
 }
 
+/* A live single with a new serial; its window's four fields. */
+static int give_single(struct History *history, uint32_t serial, uint32_t n, const struct Field *window) {
+    struct Single single = {.serial = serial, .wording = n};
+    uint32_t *const MINUTES[] = {&single.from, &single.to, &single.first, &single.last};
+    for (int k = 0; k < 4; k++)
+        if (!number(window[k], LAST_MINUTE, MINUTES[k])) return 0;
+    if (history->singles == MOST_LIVE || !give(history, serial, SINGLE + n)) return 0;
+    history->single[history->singles++] = single;
+    return 1;
+}
+
+/* A coupon is withdrawn or held by a booking: a single has to be live, and is so no longer. */
+static int take(struct History *history, uint32_t serial) {
+    uint32_t k = 0;
+    if (history->coupon[serial] < SINGLE) return history->coupon[serial] == STANDING;
+    while (k < history->singles && history->single[k].serial != serial) k++;
+    if (k == history->singles) return 0;
+    history->single[k] = history->single[--history->singles];
+    return 1;
+}
+
 static int note_issue(struct History *history, const struct Field *fields, size_t count, uint32_t answer) {
     uint32_t n;
     int single = is(fields[1], "s");
     if (count != 7 || (!single && !is(fields[1], "r")) || !wording(history, fields[2], &n)) return 0;
-    if (!give(history, answer, single ? SINGLE + n : STANDING)) return 0;
-    history->wording[n].issued += (uint32_t)single;
+    if (!single) return give(history, answer, STANDING);
+    history->wording[n].issued++;
+    return give_single(history, answer, n, fields + 3);
+}
+
+/* The coupons of the lines `hold,serial` that follow the first line. */
+static int take_holds(struct History *history, const uint8_t *sheet, size_t length, uint32_t holds) {
+    struct Field fields[FIELDS];
+    for (; holds > 0; holds--) {
+        uint32_t serial;
+        const uint8_t *end = memchr(sheet, '\n', length);
+        if (!end) return 0;
+        length -= (size_t)(end + 1 - sheet);
+        sheet = end + 1;
+        if (split(sheet, length, fields) != 2 || !is(fields[0], "hold")) return 0;
+        if (!number(fields[1], LAST_SERIAL, &serial) || !take(history, serial)) return 0;
+    }
     return 1;
 }
 
-static int note_book(struct History *history, const struct Field *fields, size_t count, uint32_t answer) {
-    uint32_t n;
-    return count == 9 && wording(history, fields[2], &n) && give(history, answer, SINGLE + n);
+static int note_book(struct History *history, const struct Field *fields, size_t count, uint32_t answer,
+                     const uint8_t *sheet, size_t length) {
+    uint32_t n, holds;
+    return count == 9 && wording(history, fields[2], &n) && number(fields[7], MOST_HOLDS, &holds) &&
+           take_holds(history, sheet, length, holds) && give_single(history, answer, n, fields + 3);
 }
 
 static int note_withdraw(struct History *history, const struct Field *fields, size_t count, uint32_t answer) {
     uint32_t serial;
     if (count != 2 || !number(fields[1], LAST_SERIAL, &serial) || serial != answer) return 0;
     uint32_t coupon = history->coupon[serial];
-    if (coupon == 0) return 0;
     if (coupon >= SINGLE) history->wording[coupon - SINGLE].withdrawn++;
-    return 1;
+    return take(history, serial);
+}
+
+static int note_tally(struct History *history, const struct Field *fields, size_t count, const uint32_t answer[4]) {
+    uint32_t session, minute;
+    if (count != 3 || !number(fields[1], LAST_SESSION, &session) || !number(fields[2], LAST_MINUTE, &minute)) return 0;
+    struct Counted counted = history_count(history, session, minute);
+    return history_agrees(&counted, answer);
 }
 
 int history_note(struct History *history, const uint8_t *sheet, size_t length, const uint32_t answer[4]) {
     struct Field fields[FIELDS];
     int good = 0;
-    if (answer[0] != 1) return 1;
+    if (answer[0] == 0) return 1;
     size_t count = split(sheet, length, fields);
     if (count < 2) good = 0;
+    else if (answer[0] == 3) good = is(fields[0], "tally") && note_tally(history, fields, count, answer);
     else if (is(fields[0], "word")) good = note_word(history, fields, count, answer[1]);
     else if (is(fields[0], "issue")) good = note_issue(history, fields, count, answer[1]);
-    else if (is(fields[0], "book")) good = note_book(history, fields, count, answer[1]);
+    else if (is(fields[0], "book")) good = note_book(history, fields, count, answer[1], sheet, length);
     else if (is(fields[0], "withdraw")) good = note_withdraw(history, fields, count, answer[1]);
     if (!good) history->unread++;
     return good;

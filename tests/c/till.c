@@ -183,30 +183,35 @@ static void sessions(void) {
     ask(&block, "word,a,1,65536\n", 0, 2, 0, 0);
     ask(&block, "issue,r,3,0,9,0,0\n", 0, 21, 0, 0);
     ask(&block, "issue,r,4,0,9,0,0\n", 1, 1, 0, 0);
-    ask(&block, "issue,s,0,0,9,0,0\n", 1, 2, 0, 0);
+    ask(&block, "word,s,1,0\n", 1, 5, 0, 0);
+    ask(&block, "word,s,1,1\n", 1, 6, 0, 0);
+    ask(&block, "issue,s,5,0,9,0,0\n", 1, 2, 0, 0);
     ask(&block, "tally,255,5\n", 3, 0, 0, 0);
-    ask(&block, "issue,s,1,0,9,0,0\n", 1, 3, 0, 0);
+    ask(&block, "issue,s,6,0,9,0,0\n", 1, 3, 0, 0);
     ask(&block, "tally,65535,5\n", 3, 1, 0, 0);
     ask(&block, "tally,255,5\n", 3, 1, 0, 0);
     ask(&block, "tally,65536,5\n", 0, 2, 0, 0);
-    ask(&block, "book,5,0,0,9,0,0,1,1\nhold,3\nax,0\n", 0, 40, 1, 0);
-    ask(&block, "book,5,1,0,9,0,0,1,1\nhold,2\nax,0\n", 0, 40, 1, 0);
-    ask(&block, "book,5,0,0,9,0,0,1,1\nhold,2\nax,0\n", 1, 4, 0, 0);
+    ask(&block, "book,5,5,0,9,0,0,1,4\nhold,3\nsr\nsl,0\naf\nax,1\n", 0, 40, 4, 0);
+    ask(&block, "book,5,6,0,9,0,0,1,4\nhold,2\nsr\nsl,0\naf\nax,1\n", 0, 40, 4, 0);
+    ask(&block, "book,5,5,0,9,0,0,1,4\nhold,2\nsr\nsl,0\naf\nax,1\n", 1, 4, 0, 0);
     ask(&block, "withdraw,3\n", 1, 3, 0, 0);
     ask(&block, "tally,255,5\n", 3, 0, 0, 0);
     ask(&block, "tally,65535,5\n", 3, 1, 0, 0);
 }
 
-/* A seat with a break from 3 to 5: the minutes in it and beside it, goals with breaks; 43 in a goal and in a step. */
+/* Two seats, the house's and a bare one, with a break from 3 to 5: the minutes in it and beside it, goals with breaks;
+ * 43 in a goal and in a step. */
 static void breaks(void) {
     static struct Block block;
     begin(&block);
     ask(&block, "word,a,1,7\n", 1, 0, 0, 0);
+    ask(&block, "word,s,1,0\n", 1, 1, 0, 0);
     ask(&block, "issue,s,0,0,9,3,5\n", 1, 1, 0, 0);
-    ask(&block, "tally,7,2\n", 3, 1, 0, 0);
-    ask(&block, "tally,7,3\n", 3, 0, 1, 0);
-    ask(&block, "tally,7,5\n", 3, 0, 1, 0);
-    ask(&block, "tally,7,6\n", 3, 1, 0, 0);
+    ask(&block, "issue,s,1,0,9,3,5\n", 1, 2, 0, 0);
+    ask(&block, "tally,7,2\n", 3, 1, 1, 0);
+    ask(&block, "tally,7,3\n", 3, 0, 2, 0);
+    ask(&block, "tally,7,5\n", 3, 0, 2, 0);
+    ask(&block, "tally,7,6\n", 3, 1, 1, 0);
     ask(&block, "book,4,0,0,9,3,5,1,1\nhold,1\nax,0\n", 0, 30, 0, 0);
     ask(&block, "book,2,0,0,9,0,0,1,1\nhold,1\nax,0\n", 0, 40, 1, 0);
     ask(&block, "book,2,0,0,9,4,5,1,1\nhold,1\nax,0\n", 0, 40, 1, 0);
@@ -215,17 +220,47 @@ static void breaks(void) {
     ask(&block, "book,2,0,0,9,3,5,1,2\nhold,1\nax,0\nul,0,0,9,0,5\n", 0, 43, 0, 0);
     ask(&block, "book,2,0,0,9,3,9,1,2\nhold,1\nax,0\nul,0,9,8,0,0\n", 0, 3, 0, 0);
     ask(&block, "book,2,0,0,9,2,6,1,1\nhold,1\nax,0\n", 0, 30, 0, 0);
-    ask(&block, "book,1,0,0,9,2,6,1,1\nhold,1\nax,0\n", 1, 2, 0, 0);
-    ask(&block, "book,7,0,7,9,0,0,1,1\nhold,2\nax,0\n", 1, 3, 0, 0);
+    ask(&block, "book,1,0,0,9,2,6,1,1\nhold,1\nax,0\n", 1, 3, 0, 0);
+    ask(&block, "book,7,0,7,9,0,0,1,1\nhold,3\nax,0\n", 1, 4, 0, 0);
+}
+
+/* The nearest <K> says whose a seat is: issued one after the other with a break at 4, then booked into one another. */
+static void houses(void) {
+    static struct Block block;
+    static const struct {
+        const char *word;
+        uint32_t open, shut; /* at minute 5, with those before it */
+    } SEATS[] = {{"word,a,1,7\n", 0, 1},  {"word,s,1,0\n", 1, 1}, {"word,s,2,0\n", 1, 2}, {"word,s,1,2\n", 1, 3},
+                 {"word,s,2,1\n", 2, 3},  {"word,t,0,2\n", 2, 5}, {"word,s,1,5\n", 3, 6}, {"word,t,1,0\n", 4, 7},
+                 {"word,s,0,0\n", 4, 8},  {"word,s,255,0\n", 4, 9}, {"word,t,0,0\n", 4, 11}, {"word,s,1,10\n", 6, 11},
+                 {"word,s,2,10\n", 6, 13}, {"word,t,11,12\n", 8, 15}};
+    char sheet[40];
+    begin(&block);
+    for (uint32_t n = 0; n < sizeof SEATS / sizeof *SEATS; n++) {
+        ask(&block, SEATS[n].word, 1, n, 0, 0);
+        snprintf(sheet, sizeof sheet, "issue,s,%u,0,9,4,4\n", n);
+        ask(&block, sheet, 1, n + 1, 0, 0);
+        ask(&block, "tally,7,5\n", 3, SEATS[n].open, SEATS[n].shut, 0);
+        ask(&block, "tally,7,4\n", 3, 0, SEATS[n].open + SEATS[n].shut, 0);
+    }
+    ask(&block, "tally,7,10\n", 3, 0, 23, 0);
+    ask(&block, "book,5,1,0,9,4,4,1,3\nhold,1\nsr\naf\nax,0\n", 1, 15, 0, 0); /* seat to <1>seat */
+    ask(&block, "tally,7,5\n", 3, 9, 14, 0);
+    ask(&block, "book,5,2,0,9,4,4,1,4\nhold,2\nsr\nsl,0\naf\nax,1\n", 0, 40, 2, 0); /* <1>seat to <2>seat */
+    ask(&block, "book,5,3,0,9,4,4,1,6\nhold,2\nsr\nsl,0\naf\nsr\naf\nax,1\n", 1, 16, 0, 0); /* to <1><2>seat */
+    ask(&block, "tally,7,5\n", 3, 8, 15, 0);
+    ask(&block, "withdraw,12\n", 1, 12, 0, 0);
+    ask(&block, "tally,7,5\n", 3, 6, 15, 0);
 }
 
 /* 512 live credentials, and the place that a withdrawn one makes. */
 static void full(void) {
     static struct Block block;
     words(&block);
-    for (uint32_t i = 1; i <= 512; i++) ask(&block, "issue,s,0,0,9,0,0\n", 1, i, 0, 0);
+    for (uint32_t i = 1; i <= 512; i++) ask(&block, "issue,s,3,0,9,0,0\n", 1, i, 0, 0);
     ask(&block, "issue,s,0,0,9,0,0\n", 0, 22, 0, 0);
     ask(&block, "tally,7,9\n", 3, 512, 0, 0);
+    ask(&block, "tally,7,10\n", 3, 0, 512, 0);
     ask(&block, "withdraw,100\n", 1, 100, 0, 0);
     ask(&block, "issue,s,0,0,9,0,0\n", 1, 513, 0, 0);
     ask(&block, "issue,s,0,0,9,0,0\n", 0, 22, 0, 0);
@@ -250,7 +285,7 @@ static void serials(void) {
     check(good, "a serial up to the last", sheet);
     ask(&block, "issue,s,0,0,9,0,0\n", 0, 23, 0, 0);
     ask(&block, "book,5,0,0,9,0,0,1,1\nhold,999999\nax,0\n", 0, 23, 0, 0);
-    ask(&block, "tally,7,9\n", 3, 500, 0, 0);
+    ask(&block, "tally,7,9\n", 3, 0, 500, 0);
     ask(&block, "withdraw,999999\n", 1, 999999, 0, 0);
     ask(&block, "issue,s,0,0,9,0,0\n", 0, 23, 0, 0);
 }
@@ -261,7 +296,7 @@ static void two(void) {
     words(&one);
     begin(&other);
     ask(&other, "word,a,1,7\n", 1, 0, 0, 0);
-    ask(&one, "issue,s,0,0,9,0,0\n", 1, 1, 0, 0);
+    ask(&one, "issue,s,3,0,9,0,0\n", 1, 1, 0, 0);
     ask(&other, "tally,7,0\n", 3, 0, 0, 0);
     ask(&one, "tally,7,0\n", 3, 1, 0, 0);
     ask(&other, "withdraw,1\n", 0, 24, 0, 0);
@@ -393,8 +428,8 @@ static const struct Group {
     const char *name;
     void (*play)(void);
 } GROUPS[] = {{"calls", calls},   {"refusals", refusals}, {"lengths", lengths}, {"sessions", sessions},
-              {"breaks", breaks}, {"full", full},         {"serials", serials}, {"two", two},
-              {"bookings", bookings}, {"stack", stack}};
+              {"breaks", breaks}, {"houses", houses},     {"full", full},       {"serials", serials},
+              {"two", two},       {"bookings", bookings}, {"stack", stack}};
 
 int main(int count, char **names) {
     open_pages();

@@ -176,7 +176,7 @@ static const char *tried(struct Fuzz *fuzz, struct Till *till, struct Block *old
 
 /* ---- Sums ---- */
 
-/* open + shut + placed + withdrawn = issued. */
+/* open + shut + placed + withdrawn = issued, and the first three are as counted. */
 static void sum(struct Fuzz *fuzz, struct Till *till, uint32_t session, uint32_t minute) {
     char sheet[40];
     uint32_t a[4];
@@ -184,10 +184,11 @@ static void sum(struct Fuzz *fuzz, struct Till *till, uint32_t session, uint32_t
     size_t length = (size_t)snprintf(sheet, sizeof sheet, "tally,%u,%u\n", session, minute);
     fuzz->tallies++;
     const char *wrong = tried(fuzz, till, &old, (const uint8_t *)sheet, length, a);
-    struct Counted counted = history_count(till->history, session);
+    struct Counted counted = history_count(till->history, session, minute);
     uint64_t total = (uint64_t)a[1] + a[2] + a[3] + counted.withdrawn;
     if (!wrong && a[0] != 3) wrong = "no tally";
     if (!wrong && total != counted.issued) wrong = "open + shut + placed + withdrawn is not issued";
+    if (!wrong && !history_agrees(&counted, a)) wrong = "open, shut or placed is not as counted";
     verdict(fuzz, wrong, (const uint8_t *)sheet, length, a);
 }
 

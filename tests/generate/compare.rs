@@ -9,7 +9,7 @@ use generate::coverage::Coverage;
 use generate::model::Answer;
 use generate::session::{Case, Session};
 use generate::Wish;
-use recount::{Heard, Recount};
+use recount::Recount;
 use till::Till;
 
 /// The till's answer in the generator's terms.
@@ -18,14 +18,6 @@ fn said(answer: till::Answer) -> Answer {
         till::Answer::Done(n) => Answer::Done(n),
         till::Answer::Counted(open, shut, placed) => Answer::Counted(open, shut, placed),
         till::Answer::Refused(number, step) => Answer::Refused(number, step),
-    }
-}
-
-fn heard(answer: Answer) -> Heard {
-    match answer {
-        Answer::Done(n) => Heard::Number(n),
-        Answer::Counted(open, shut, placed) => Heard::Figures(open, shut, placed),
-        Answer::Refused(..) => Heard::Refusal,
     }
 }
 
@@ -67,7 +59,7 @@ fn play(session: &Session, number: usize, totals: &mut Totals) {
     let mut history = Recount::default();
     for (index, case) in session.cases.iter().enumerate() {
         let got = ask(&mut till, &case.sheet);
-        history.note(&case.sheet, got.map_or(Heard::Refusal, heard));
+        got.iter().for_each(|answer| history.note(&case.sheet, *answer));
         if got.is_none() || (case.expected.is_some() && case.expected != got) {
             totals.failed += 1;
             report(session, number, index, case, got);
@@ -79,7 +71,7 @@ fn play(session: &Session, number: usize, totals: &mut Totals) {
     }
     let mut tally = |session: u32, minute: u32| {
         let sheet = format!("tally,{session},{minute}\n");
-        ask(&mut till, sheet.as_bytes()).map_or(Heard::Refusal, heard)
+        ask(&mut till, sheet.as_bytes())
     };
     let (made, wrong) = history.check(&mut tally);
     totals.tallies += made;

@@ -1,5 +1,5 @@
 //! Seeded sessions of sheets for the booking till, with the answers that document 01 demands, and document 02 so far as
-//! it has landed (asks 1 and 2).
+//! it has landed (asks 1 to 3).
 
 pub mod balance;
 pub mod booking;
@@ -13,6 +13,7 @@ pub mod form;
 pub mod full;
 pub mod grid;
 pub mod grow;
+pub mod house;
 pub mod late;
 pub mod life;
 pub mod long;
@@ -67,6 +68,7 @@ fn fixed(seed: u64, seen: &mut Seen) -> Vec<Session> {
     all.extend(tour::sessions());
     all.extend(midday::sessions());
     all.extend(grid::sessions());
+    all.extend(house::sessions(seed));
     all.push(full::session(seed));
     all.extend([life::fixed(), life::many(seed), life::session(seed, 120), balance::random(seed)]);
     all.extend(spans::sessions(seed));
@@ -90,6 +92,9 @@ pub fn sessions(wish: &Wish) -> Vec<Session> {
             6 => damage::random(seed),
             _ => life::bookings(seed, &mut seen, 4, 12),
         });
+        if n % 8 == 5 {
+            all.push(house::random(seed));
+        }
     }
     if wish.long {
         all.push(long::session());

@@ -1,106 +1,182 @@
-//! Counts issued and withdrawn from the accepted sheets and their answers alone, as the section
-//! "Booking, tally" words it, and holds them against the till's own tallies.
+//! Counts again, from the accepted sheets and their answers alone: issued and withdrawn as the section "Booking, tally"
+//! words it, and open, shut and placed as document 02, ask 3, divides them. All of it is held against the till's
+//! tallies.
 
+use crate::generate::model::Answer;
 use std::collections::{BTreeMap, BTreeSet};
 
-/// An answer as the history has it.
-#[derive(Clone, Copy, PartialEq, Eq, Debug)]
-pub enum Heard {
-    Number(u32),
-    Figures(u32, u32, u32),
-    Refusal,
+/// A seat or place where it stands in a wording, and the principal of the nearest ⟨K⟩ above it there.
+#[derive(Clone, Copy)]
+struct Leaf {
+    seat: bool,
+    session: u32,
+    nearest: Option<u32>,
+}
+
+/// A live single-use coupon: its wording, and from, to, break first, break last.
+struct Single {
+    wording: u32,
+    window: [u32; 4],
 }
 
 /// The history: wording n is the line that was answered n; a serial's coupon (η-logic's credential)
 /// is the one issued, or the goal booked, by the sheet that answered that serial.
 #[derive(Default)]
 pub struct Recount {
-    lines: BTreeMap<u32, String>,
-    /// Serial to wording, for single-use coupons (η-logic's linear).
+    wordings: BTreeMap<u32, Vec<Leaf>>,
+    /// The session numbers that occur in an atom.
+    sessions: BTreeSet<u32>,
+    /// Serial to wording, for single-use coupons (η-logic's linear), live or not.
     singles: BTreeMap<u32, u32>,
+    live: BTreeMap<u32, Single>,
+    /// The serials of live standing coupons.
+    standing: BTreeSet<u32>,
     issued: Vec<u32>,
     withdrawn: Vec<u32>,
     minutes: BTreeSet<u32>,
-    strange: Vec<String>,
+    wrong: Vec<String>,
 }
 
 fn number(fields: &[&str], place: usize) -> Option<u32> {
     fields.get(place)?.parse().ok()
 }
 
+/// A window has the minute: its break, where it has one, begins after minute 0.
+fn has([from, to, first, last]: [u32; 4], minute: u32) -> bool {
+    from <= minute && minute <= to && (last == 0 || minute < first || last < minute)
+}
+
 impl Recount {
-    /// One sheet of the list with its answer.
-    pub fn note(&mut self, sheet: &[u8], heard: Heard) {
-        let Heard::Number(answer) = heard else { return };
+    /// One sheet of the list with its answer. A tally must give what is counted here.
+    pub fn note(&mut self, sheet: &[u8], heard: Answer) {
         let text = String::from_utf8_lossy(sheet).into_owned();
-        if self.accepted(text.lines().next().unwrap_or(""), answer).is_none() {
-            self.strange.push(format!("accepted, but fits no form: {text:?}"));
+        let lines: Vec<&str> = text.lines().collect();
+        let read = match heard {
+            Answer::Refused(..) => Some(()),
+            Answer::Done(n) => self.accepted(&lines, n),
+            Answer::Counted(..) => self.tallied(&lines, heard),
+        };
+        if read.is_none() {
+            self.wrong.push(format!("accepted, but fits no form or names what is not there: {text:?}"));
         }
     }
 
-    fn accepted(&mut self, head: &str, answer: u32) -> Option<()> {
-        let fields: Vec<&str> = head.split(',').collect();
+    /// What was found wrong so far.
+    pub fn wrong(&self) -> &[String] {
+        &self.wrong
+    }
+
+    fn accepted(&mut self, lines: &[&str], answer: u32) -> Option<()> {
+        let fields: Vec<&str> = lines.first()?.split(',').collect();
         match fields[0] {
             "word" => {
-                self.lines.insert(answer, head.strip_prefix("word,")?.to_string());
+                let leaves = self.leaves(&fields[1..])?;
+                self.wordings.insert(answer, leaves);
             }
             "issue" => {
-                let wording = number(&fields, 2)?;
-                self.window(&fields[3..])?;
+                let (wording, window) = (number(&fields, 2)?, self.window(&fields[3..])?);
                 if fields[1] == "s" {
                     self.issued.push(wording);
-                    self.singles.insert(answer, wording);
+                    self.single(answer, wording, window);
+                } else {
+                    self.standing.insert(answer);
                 }
             }
             "book" => {
-                self.window(&fields[3..])?;
-                self.singles.insert(answer, number(&fields, 2)?);
+                let (wording, window) = (number(&fields, 2)?, self.window(&fields[3..])?);
+                for hold in lines.get(1..=number(&fields, 7)? as usize)? {
+                    let serial = hold.strip_prefix("hold,")?.parse().ok()?;
+                    (self.live.remove(&serial).is_some() || self.standing.contains(&serial)).then_some(())?;
+                }
+                self.single(answer, wording, window);
             }
             "withdraw" => {
                 let serial = number(&fields, 1)?;
                 self.withdrawn.extend(self.singles.get(&serial));
+                (self.live.remove(&serial).is_some() || self.standing.remove(&serial)).then_some(())?;
             }
             _ => return None,
         }
         Some(())
     }
 
-    /// Notes the ends of a window and of its break.
-    fn window(&mut self, fields: &[&str]) -> Option<()> {
+    fn single(&mut self, serial: u32, wording: u32, window: [u32; 4]) {
+        self.singles.insert(serial, wording);
+        self.live.insert(serial, Single { wording, window });
+    }
+
+    /// The four fields of a window; its ends and those of its break are noted.
+    fn window(&mut self, fields: &[&str]) -> Option<[u32; 4]> {
         let [from, to, first, last] = [0, 1, 2, 3].map(|place| number(fields, place));
-        self.minutes.extend([from?, to?, to?.saturating_add(1).min(9_999_999)]);
-        if (first?, last?) != (0, 0) {
-            self.minutes.extend([first?.saturating_sub(1), first?, last?, last?.saturating_add(1).min(9_999_999)]);
+        let window @ [from, to, first, last] = [from?, to?, first?, last?];
+        self.minutes.extend([from, to, to.saturating_add(1).min(9_999_999)]);
+        if (first, last) != (0, 0) {
+            self.minutes.extend([first.saturating_sub(1), first, last, last.saturating_add(1).min(9_999_999)]);
+        }
+        Some(window)
+    }
+
+    /// The seats and places of a wording, every part as often as it stands there. A ⟨K⟩ is the nearest for those that
+    /// have none within it.
+    fn leaves(&mut self, fields: &[&str]) -> Option<Vec<Leaf>> {
+        let part = |place: usize| self.wordings.get(&number(fields, place)?).cloned();
+        Some(match fields[0] {
+            "a" => {
+                let (predicate, session) = (number(fields, 1)?, number(fields, 2)?);
+                self.sessions.insert(session);
+                let leaf = Leaf { seat: predicate == 1, session, nearest: None };
+                if predicate == 1 || predicate == 2 { vec![leaf] } else { vec![] }
+            }
+            "t" | "w" | "p" | "l" | "u" => [part(1)?, part(2)?].concat(),
+            "b" | "h" => part(1)?,
+            "s" => {
+                let principal = number(fields, 1);
+                let near = |leaf: &Leaf| Leaf { nearest: leaf.nearest.or(principal), ..*leaf };
+                part(2)?.iter().map(near).collect()
+            }
+            "o" | "g" => vec![],
+            _ => return None,
+        })
+    }
+
+    /// Seats and places of the session in a wording.
+    fn count(&self, wording: u32, session: u32) -> u32 {
+        let leaves = self.wordings.get(&wording).into_iter().flatten();
+        leaves.filter(|leaf| leaf.session == session).count() as u32
+    }
+
+    /// Open, shut and placed: open are the seats whose nearest ⟨K⟩ is ⟨1⟩, in a window that has the minute.
+    fn figures(&self, session: u32, minute: u32) -> Answer {
+        let (mut open, mut shut, mut placed) = (0, 0, 0);
+        for single in self.live.values() {
+            for leaf in self.wordings[&single.wording].iter().filter(|leaf| leaf.session == session) {
+                match (leaf.seat, leaf.nearest) {
+                    (false, _) => placed += 1,
+                    (true, Some(1)) if has(single.window, minute) => open += 1,
+                    _ => shut += 1,
+                }
+            }
+        }
+        Answer::Counted(open, shut, placed)
+    }
+
+    fn tallied(&mut self, lines: &[&str], heard: Answer) -> Option<()> {
+        let [line] = lines else { return None };
+        let fields: Vec<&str> = line.strip_prefix("tally,")?.split(',').collect();
+        let (session, minute) = (number(&fields, 0)?, number(&fields, 1)?);
+        let counted = self.figures(session, minute);
+        if counted != heard {
+            self.wrong.push(format!("session {session}, minute {minute}: counted {counted:?}, tally {heard:?}"));
         }
         Some(())
     }
 
-    /// Seats and places of the session in a wording, every part as often as it stands there.
-    fn count(&self, wording: u32, session: u32) -> u32 {
-        let Some(line) = self.lines.get(&wording) else { return 0 };
-        let fields: Vec<&str> = line.split(',').collect();
-        let part = |place: usize| number(&fields, place).map_or(0, |n| self.count(n, session));
-        match fields[0] {
-            "a" => u32::from(matches!(fields[1], "1" | "2") && number(&fields, 2) == Some(session)),
-            "t" | "w" | "p" | "l" | "u" => part(1) + part(2),
-            "b" | "h" => part(1),
-            "s" => part(2),
-            _ => 0,
-        }
-    }
-
-    /// The session numbers that occur in an atom.
-    fn sessions(&self) -> BTreeSet<u32> {
-        let atoms = self.lines.values().filter_map(|l| l.strip_prefix("a,"));
-        atoms.filter_map(|l| l.split(',').nth(1)?.parse().ok()).collect()
-    }
-
-    /// Those, and some that may not: both ends of the range, and for each the number that a byte keeps of it and two
-    /// that a byte takes for it.
+    /// The sessions that occur in an atom, and some that may not: both ends of the range, and for each the number that
+    /// a byte keeps of it and two that a byte takes for it.
     fn asked(&self) -> BTreeSet<u32> {
         let mut all: BTreeSet<u32> = [0, 200, 255, 256, 65_535].into();
-        for session in self.sessions() {
-            all.extend([session, session % 256, session ^ 256, session ^ 65_280]);
+        for session in &self.sessions {
+            all.extend([*session, session % 256, session ^ 256, session ^ 65_280]);
         }
         all
     }
@@ -113,21 +189,21 @@ impl Recount {
         some
     }
 
-    /// open + shut + placed + withdrawn = issued, for every session that occurs (and some that may not).
-    /// Gives the number of tallies made and what was found wrong.
-    pub fn check(&self, tally: &mut dyn FnMut(u32, u32) -> Heard) -> (u32, Vec<String>) {
-        let mut wrong = self.strange.clone();
+    /// For every session that occurs (and some that may not): the three figures are those counted here, and
+    /// open + shut + placed + withdrawn = issued. Gives the number of tallies made and what was found wrong.
+    pub fn check(&self, tally: &mut dyn FnMut(u32, u32) -> Option<Answer>) -> (u32, Vec<String>) {
+        let mut wrong = self.wrong().to_vec();
         let mut made = 0;
         for session in self.asked() {
             let total = |list: &[u32]| list.iter().map(|w| self.count(*w, session)).sum::<u32>();
             let (issued, withdrawn) = (total(&self.issued), total(&self.withdrawn));
             for minute in self.minutes() {
                 made += 1;
-                let heard = tally(session, minute);
-                let right = matches!(heard, Heard::Figures(open, shut, placed)
+                let (heard, counted) = (tally(session, minute), self.figures(session, minute));
+                let sum = matches!(heard, Some(Answer::Counted(open, shut, placed))
                     if open + shut + placed + withdrawn == issued);
-                if !right {
-                    let what = format!("withdrawn {withdrawn}, issued {issued}, tally {heard:?}");
+                if !sum || heard != Some(counted) {
+                    let what = format!("withdrawn {withdrawn}, issued {issued}, counted {counted:?}, tally {heard:?}");
                     wrong.push(format!("session {session}, minute {minute}: {what}"));
                 }
             }

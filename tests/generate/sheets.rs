@@ -1,11 +1,15 @@
 //! Writes sessions to a folder: `sheets [SEED [SESSIONS [FOLDER]]] [--long]`.
 //! `NNNN.in` is `tillrun`'s standard input, `NNNN.out` the answers due, `?` where unknown.
 
+#![allow(dead_code)]
+
 mod generate;
+mod recount;
 
 use generate::coverage::Coverage;
 use generate::session::Session;
 use generate::Wish;
+use recount::Recount;
 use std::path::Path;
 
 /// Whether the sheet, followed by an empty line, is read back as it is.
@@ -42,15 +46,28 @@ fn files(session: &Session, number: usize) -> (Vec<u8>, String) {
     (input, answers)
 }
 
+/// The answers due, counted again up to the first that is not known: what the recount finds wrong with their tallies.
+fn recounted(session: &Session) -> Vec<String> {
+    let mut history = Recount::default();
+    for (case, answer) in session.cases.iter().map_while(|c| c.expected.map(|answer| (c, answer))) {
+        history.note(&case.sheet, answer);
+    }
+    history.wrong().to_vec()
+}
+
 fn main() {
     let (wish, rest) = Wish::of(std::env::args().skip(1));
     let folder = rest.first().map_or("sessions", |s| s.as_str());
     std::fs::create_dir_all(folder).expect("the folder can be made");
     let sessions = generate::sessions(&wish);
     let mut coverage = Coverage::default();
-    let mut index = String::new();
+    let (mut index, mut wrong) = (String::new(), 0);
     for (number, session) in sessions.iter().enumerate() {
         session.cases.iter().for_each(|c| coverage.note(c));
+        for line in recounted(session) {
+            println!("RECOUNT FAILED: session {number} \"{}\", seed {}: {line}", session.name, session.seed);
+            wrong += 1;
+        }
         let (input, answers) = files(session, number);
         let path = |end: &str| Path::new(folder).join(format!("{number:04}.{end}"));
         std::fs::write(path("in"), input).expect("the input can be written");
@@ -61,5 +78,5 @@ fn main() {
     std::fs::write(Path::new(folder).join("index.txt"), index).expect("the index can be written");
     let missing = coverage.report(wish.long);
     println!("{} sessions written to {folder}, {missing} required things not reached", sessions.len());
-    std::process::exit(i32::from(missing > 0));
+    std::process::exit(i32::from(missing > 0 || wrong > 0));
 }

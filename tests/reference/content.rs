@@ -5,19 +5,25 @@
 const SEAT: u8 = 1;
 /// Predicate of a place.
 const PLACE: u8 = 2;
+/// The principal whose seats are the house's.
+const HOUSE: u8 = 1;
 
 /// The most sessions in one formula: each needs an atom, and n atoms make a size of at least
 /// 2n - 1, which is at most 64.
 const MAX_SESSIONS: usize = 32;
 
 /// How many seats and places of one session stand in a formula.
-#[derive(Clone, Copy, PartialEq, Eq)]
+#[derive(Clone, Copy)]
 pub struct Atoms {
     pub seats: u8,
+    /// Of the seats, those with no ⟨K⟩ above them in the formula.
+    pub bare: u8,
+    /// Of the seats, those whose nearest ⟨K⟩ above them is the house's.
+    pub house: u8,
     pub places: u8,
 }
 
-pub const NO_ATOMS: Atoms = Atoms { seats: 0, places: 0 };
+pub const NO_ATOMS: Atoms = Atoms { seats: 0, bare: 0, house: 0, places: 0 };
 
 /// What a formula has of one session; the size bound keeps the weight within -32 to 32.
 #[derive(Clone, Copy)]
@@ -43,13 +49,25 @@ impl Content {
     /// The content of a formula in which no session stands.
     pub const EMPTY: Content = Content { count: 0, shares: [nothing(0); MAX_SESSIONS] };
 
-    /// The content of an atom; a seat or place weighs 1.
+    /// The content of an atom; a seat or place weighs 1, and a seat is bare.
     pub fn atom(predicate: u8, session: u16) -> Content {
         let weight = i8::from(matches!(predicate, SEAT | PLACE));
         let seats = u8::from(predicate == SEAT);
         let places = u8::from(predicate == PLACE);
         let mut content = Content::EMPTY;
-        content.push(Share { session, weight, atoms: Atoms { seats, places } });
+        content.push(Share { session, weight, atoms: Atoms { seats, bare: seats, house: 0, places } });
+        content
+    }
+
+    /// The content of ⟨K⟩ around a formula: K is now the nearest above its bare seats, and those that
+    /// had one before keep it.
+    pub fn said_by(&self, principal: u8) -> Content {
+        let mut content = Content::EMPTY;
+        for share in self.shares() {
+            let Atoms { seats, bare, house, places } = share.atoms;
+            let house = if principal == HOUSE { house + bare } else { house };
+            content.push(Share { atoms: Atoms { seats, bare: 0, house, places }, ..*share });
+        }
         content
     }
 
@@ -62,8 +80,10 @@ impl Content {
             let (l, r) = (take(&mut lefts, session), take(&mut rights, session));
             let weight = weigh(l.weight, r.weight);
             let seats = l.atoms.seats + r.atoms.seats;
+            let bare = l.atoms.bare + r.atoms.bare;
+            let house = l.atoms.house + r.atoms.house;
             let places = l.atoms.places + r.atoms.places;
-            content.push(Share { session, weight, atoms: Atoms { seats, places } });
+            content.push(Share { session, weight, atoms: Atoms { seats, bare, house, places } });
         }
         content
     }

@@ -1,6 +1,6 @@
 //! The live credentials, found by serial.
 
-use super::content::{Atoms, NO_ATOMS};
+use super::content::Atoms;
 use super::form::MAX_SERIAL;
 use super::formulas::MAX_FORMULAS;
 use super::logic::{FormulaId, Interval};
@@ -91,18 +91,19 @@ impl Credentials {
         Some(serial)
     }
 
-    /// Open, shut and placed over the live linear credentials; `atoms` are the session's.
+    /// Open, shut and placed over the live linear credentials; `atoms` are the session's. Open are
+    /// the house's seats where the interval has the minute, shut all others.
     pub fn tally(&self, minute: u32, atoms: &[Atoms; MAX_FORMULAS]) -> (u32, u32, u32) {
         let (mut seats, mut open, mut placed) = (0, 0, 0);
         for credential in self.live[..self.count].iter().filter(|credential| credential.linear) {
             let found = atoms[credential.formula as usize];
             // most have nothing of the session
-            if found == NO_ATOMS {
+            if found.seats == 0 && found.places == 0 {
                 continue;
             }
             seats += u32::from(found.seats);
             placed += u32::from(found.places);
-            open += if credential.interval.has(minute) { u32::from(found.seats) } else { 0 };
+            open += if credential.interval.has(minute) { u32::from(found.house) } else { 0 };
         }
         (open, seats - open, placed)
     }

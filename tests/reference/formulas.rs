@@ -123,7 +123,8 @@ impl Formulas {
             Formula::Lolli(i, j) => self.join(i, j, |left, right| right - left),
             Formula::With(i, j) | Formula::Plus(i, j) => self.join(i, j, |left, _| left),
             Formula::Implies(i, j) => self.join(i, j, |_, right| right),
-            Formula::Bang(i) | Formula::At(i, _) | Formula::Says(_, i) => *self.content(i),
+            Formula::Bang(i) | Formula::At(i, _) => *self.content(i),
+            Formula::Says(principal, i) => self.content(i).said_by(principal),
         }
     }
 

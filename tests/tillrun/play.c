@@ -1,6 +1,7 @@
 /* Plays the sheets of standard input through the static library and prints the answers as tillrun does; then counts
  * again: at each of some minutes, for every session that occurs and some more, open + shut + placed + withdrawn = issued,
- * the last two counted from the accepted sheets and their answers alone. Exit status 1 where a sum does not hold. */
+ * the last two counted from the accepted sheets and their answers alone. So are open, shut and placed, for these
+ * tallies and those of the input. Exit status 1 where a sum does not hold or a tally is not as counted. */
 #include "oysterbrim.h"
 #include "recount.h"
 #include <stdio.h>
@@ -37,16 +38,17 @@ static void play(const uint8_t *sheet, size_t length) {
     }
 }
 
-/* Whether the sum of a session at a minute holds. */
+/* Whether the sum of a session at a minute holds, and the tally is as counted. */
 static int holds(unsigned session, unsigned minute) {
     char sheet[40];
     uint32_t answer[4];
     int length = snprintf(sheet, sizeof sheet, "tally,%u,%u\n", session, minute);
     till_call(till, (const uint8_t *)sheet, (size_t)length, scratch, answer);
-    struct Counted counted = history_count(history, session);
+    struct Counted counted = history_count(history, session, minute);
     uint32_t sum = answer[1] + answer[2] + answer[3] + counted.withdrawn;
-    if (answer[0] == 3 && sum == counted.issued) return 1;
-    fprintf(stderr, "session %u, minute %u: the sum is %u, issued %u\n", session, minute, sum, counted.issued);
+    if (answer[0] == 3 && sum == counted.issued && history_agrees(&counted, answer)) return 1;
+    fprintf(stderr, "session %u, minute %u: the sum is %u, issued %u; open %u, counted %u\n", session, minute, sum,
+            counted.issued, answer[1], counted.open);
     return 0;
 }
 
@@ -76,6 +78,6 @@ int main(void) {
     }
     if (from < count) play(bytes + from, count - from);
     for (size_t m = 0; m < sizeof minutes / sizeof *minutes; m++) good &= hold_all(minutes[m]);
-    if (history->unread) fprintf(stderr, "%u accepted sheets cannot be read\n", history->unread);
+    if (history->unread) fprintf(stderr, "%u sheets were accepted, and not as counted\n", history->unread);
     return good && !history->unread ? 0 : 1;
 }

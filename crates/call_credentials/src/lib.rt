@@ -62,7 +62,7 @@ pub fn withdraw(store: &mut Store, serial: u32) -> Answer
     let Found::At(at, c) = found else {
         return Answer::Refused(24, 0);
     };
-    store_credentials::remove(store, at);
+    store_credentials::withdraw(store, at);
     Answer::Accepted(serial)
 }
 

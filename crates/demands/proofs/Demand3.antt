@@ -3,13 +3,13 @@
 use mathlib.Core.Path.{_≡_, refl, ap, _∙_}
 use mathlib.Core.List.{List, [], _∷_}
 use mathlib.Core.Option.{some}
-use mathlib.Core.Bool.{true, false, not}
-use Prim.Native.Nat.{ℕ, _+_, _≤_}
+use mathlib.Core.Bool.{Bool, true, false}
+use Prim.Native.Nat.{ℕ, _+_, _-_, _≤_}
 use native.Mathlib.Omega.{arith}
 use lib.ListN.{length}
 use Rattle.logic.specs.declared.Interval.{Interval}
 use Rattle.logic.specs.Interval.{has}
-use Rattle.logic.specs.Formula.{Formula, seats, places, plain}
+use Rattle.logic.specs.Formula.{Formula, seats, places, houseSeats, plain}
 use Rattle.logic.specs.Multiset.{Every, sum}
 use Rattle.logic.specs.Derives.{Hyp, holds, Derives}
 use Rattle.logic.proofs.Multisets.{snoc-sum}
@@ -28,7 +28,8 @@ use Rattle.ledger.specs.declared.Credential.{Credential}
 use Rattle.ledger.specs.Table.{build, formulas}
 use Rattle.ledger.specs.Ledger.{Ledger, empty, formula, byKind, held, spend}
 use Rattle.ledger.specs.Checks.{steps, checks}
-use Rattle.ledger.specs.Calls.{withLive, withCredential, only, seatsOf, placesOf, openSeats, shutSeats, placed}
+use Rattle.ledger.specs.Calls.{withLive, withCredential, only, openIn, shutIn, openOf, shutOf, placesOf}
+use Rattle.ledger.specs.Calls.{openSeats, shutSeats, placed}
 use Rattle.ledger.specs.Calls.{accept}
 use Rattle.ledger.specs.Calls.{call, after}
 use Rattle.demands.specs.History.{History, note, historyOf, formulaIn, givenIn, seatsAndPlaces, issued}
@@ -36,7 +37,7 @@ use Rattle.demands.specs.History.{withdrawn}
 use Rattle.ledger.proofs.Answers.{heard}
 use Rattle.ledger.proofs.Firsts.{none-stops, handle-passes, no-intervals, call-read}
 use Rattle.ledger.proofs.Walk.{Keeps, walk}
-use Rattle.ledger.proofs.Credentials.{linearly, only-sum, splits}
+use Rattle.ledger.proofs.Credentials.{linearly, open-shut, splits}
 use Rattle.ledger.proofs.Bounds.{same-table}
 use Rattle.ledger.proofs.Passed.{FitsKind, passed-word, passed-issue, passed-withdraw, PassedBook, passed-book}
 use Rattle.demands.specs.Demands.{hyp, hypsOf, Demand3}
@@ -143,13 +144,15 @@ agrees bs = walk note Agrees note-silent accept-keeps empty [] bs empty-agrees
 
 -- The figures of a tally
 
-by-sum : (k : Kind) (x y : ℕ) → byKind k (x + y) 0 ≡ byKind k x 0 + byKind k y 0
-by-sum Linear x y = refl
-by-sum Unrestricted x y = refl
+-- what a linear credential gives to the three figures is what its formula has
+figures-sum : (inside : Bool) (k : Kind) (s : ℕ) (a : Formula)
+    → byKind k (openIn inside s a) 0 + byKind k (shutIn inside s a) 0 + byKind k (places s a) 0
+    ≡ byKind k (seatsAndPlaces s a) 0
+figures-sum inside Linear s a = omega (arith, open-shut inside s a)
+figures-sum inside Unrestricted s a = refl
 
 tally-sum : (t : Ledger) (s m : ℕ) (cs : List Credential)
-    → sum (λ c. only (has (c .interval) m) (seatsOf t s c)) cs
-    + sum (λ c. only (not (has (c .interval) m)) (seatsOf t s c)) cs + sum (placesOf t s) cs
+    → sum (openOf t s m) cs + sum (shutOf t s m) cs + sum (placesOf t s) cs
     ≡ sum (linearly (seatsAndPlacesIn t s)) cs
 unfolding sum
 tally-sum t s m [] = refl
@@ -157,8 +160,7 @@ tally-sum t s m (c ∷ cs) =
     omega (
       arith,
       tally-sum t s m cs,
-      only-sum (has (c .interval) m) (seatsOf t s c),
-      by-sum (c .kind) (seats s (formula t (c .formula))) (places s (formula t (c .formula))),
+      figures-sum (has (c .interval) m) (c .kind) s (formula t (c .formula)),
     )
 
 -- a tally is always accepted

@@ -14,6 +14,9 @@ pub const SEAT: u32 = 1;
 
 pub const PLACE: u32 = 2;
 
+// Principal 1 (document 02, ask 3): the house.
+pub const HOUSE: u32 = 1;
+
 // The formulas that a row names: the parts of its own.
 pub enum Parts {
     Nothing,

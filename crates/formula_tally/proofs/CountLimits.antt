@@ -1,13 +1,16 @@
--- No formula has more seats or places than its size.
-use mathlib.Core.Bool.{_&&_}
-use Prim.Native.Nat.{ℕ, _+_, _*_, _≤_}
+-- No formula has more seats or places than its size, so each of its counts is a byte.
+use mathlib.Core.Path.{_≡_}
+use mathlib.Core.Bool.{Bool, true, false, _&&_}
+use Prim.Native.Nat.{ℕ, _+_, _*_, _%_, _≤_}
 use native.Mathlib.Omega.{arith}
 use lib.Dec.{eqb}
 use Rattle.logic.specs.Formula.{Formula, atom, one, tensor, with, plus, lolli, implies, bang, at, says, superset}
-use Rattle.logic.specs.Formula.{size, count, seat, place}
+use Rattle.logic.specs.Formula.{size, count, seat, place, seats, places, houseUnder}
 use Rattle.logic.proofs.Tests.{bit-le}
-use Rattle.formula_tally.specs.Column.{placeUnit}
-use Rattle.formula_tally.specs.Tally.{both}
+use Rattle.logic.proofs.Houses.{house-seats}
+use Rattle.ledger.specs.Checks.{maxSize}
+use Rattle.formula_tally.specs.Column.{placeUnit, houseUnit, underUnit}
+use Rattle.formula_tally.specs.Tally.{counts, seatsIn, placesIn, houseIn, underIn}
 
 pub count-le : (q s : ℕ) (a : Formula) → count q s a ≤ size a
 unfolding count size
@@ -23,6 +26,33 @@ count-le q s (at a i) = omega (arith, count-le q s a)
 count-le q s (says k a) = omega (arith, count-le q s a)
 count-le q s (superset i j) = omega arith
 
-pub both-le : (s : ℕ) (a : Formula) → both s a ≤ (1 + placeUnit) * size a
-unfolding both
-both-le s a = omega (arith, count-le seat s a, count-le place s a)
+house-le : (under : Bool) (s : ℕ) (a : Formula) → houseUnder under s a ≤ size a
+house-le under s a = omega (arith, house-seats under s a, count-le seat s a)
+
+pub counts-le : (s : ℕ) (a : Formula) → counts s a ≤ (1 + placeUnit + houseUnit + underUnit) * size a
+unfolding counts
+counts-le s a =
+    omega (arith, count-le seat s a, count-le place s a, house-le false s a, house-le true s a)
+
+-- the four counts of a formula in its number, and the first two together
+pub record Unpacked (s : ℕ) (a : Formula) (n : ℕ) : Type 0 where
+  pub seats-in : seatsIn n ≡ seats s a
+  pub places-in : placesIn n ≡ places s a
+  pub house-in : houseIn n ≡ houseUnder false s a
+  pub under-in : underIn n ≡ houseUnder true s a
+  pub low : n % houseUnit ≡ seats s a + placeUnit * places s a
+
+pub unpacked : (s : ℕ) (a : Formula) → size a ≤ maxSize → Unpacked s a (counts s a)
+unfolding counts
+unpacked s a le =
+    let p = count-le seat s a in
+    let q = count-le place s a in
+    let u = house-le false s a in
+    let v = house-le true s a in
+    record {
+      seats-in = omega arith;
+      places-in = omega arith;
+      house-in = omega arith;
+      under-in = omega arith;
+      low = omega arith;
+    }

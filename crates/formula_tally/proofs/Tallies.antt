@@ -1,34 +1,31 @@
--- The sums of a tally, row by row: a gap reads as unrestricted, of which a tally counts nothing. Seats and places are
--- added up in one number.
+-- The sums of a tally, row by row: a gap reads as unrestricted, of which a tally counts nothing.
 use mathlib.Core.Path.{subst, _≡_, refl, sym, ap, _∙_}
 use mathlib.Core.List.{List, [], _∷_}
-use mathlib.Core.Bool.{Bool, true, false, not}
-use Prim.Native.Nat.{ℕ, _+_, _*_, _/_, _%_, _≤_}
+use mathlib.Core.Bool.{Bool, true, false}
+use Prim.Native.Nat.{ℕ, _+_, _*_, _≤_}
 use native.Mathlib.Omega.{arith}
 use native.Mathlib.Numerals.{add-one}
 use lib.ListN.{length}
 use Rattle.logic.specs.Interval.{has}
-use Rattle.logic.specs.Formula.{size, count, seat, place}
+use Rattle.logic.specs.Formula.{Formula, seats, places, houseSeats}
 use Rattle.logic.specs.Multiset.{sum}
 use Rattle.logic.proofs.Multisets.{snoc-sum}
 use Rattle.request.specs.declared.Kind.{Kind}
 use Rattle.request.specs.declared.Kind.the-variants.{Linear, Unrestricted}
 use Rattle.ledger.specs.declared.Credential.{Credential}
 use Rattle.ledger.specs.Ledger.{Ledger, formula, byKind}
-use Rattle.ledger.specs.Checks.{maxSize}
-use Rattle.ledger.specs.Calls.{only, seatsOf, placesOf, openSeats, shutSeats, placed}
+use Rattle.ledger.specs.Calls.{only, openIn, shutIn, openOf, shutOf, placesOf, openSeats, shutSeats, placed}
+use Rattle.ledger.proofs.Credentials.{open-shut}
 use Rattle.store_cells.specs.Layout.{rowCount, credentialAt}
 use Rattle.store.specs.Tab.{tab}
 use Rattle.store.specs.Store.{ledgerOf, Good}
-use Rattle.store.proofs.Tabs.{length-tab, tab-snoc}
+use Rattle.store.proofs.Tabs.{tab-snoc}
 use Rattle.store.proofs.Live.{live-sum}
-use Rattle.formula_tally.specs.Column.{entry, seatsMost, placeUnit, entryMost}
-use Rattle.formula_tally.specs.Tally.{both, Counted, Adds}
+use Rattle.formula_tally.specs.Column.{entry, byte}
+use Rattle.formula_tally.specs.Tally.{counts, seatsIn, placesIn, houseIn, Counted, Adds}
 use Rattle.formula_tally.specs.declared.Addend.{Addend}
-use Rattle.ledger.proofs.Credentials.{only-sum}
 use Rattle.formula_tally.proofs.Columns.{early-all}
-use Rattle.formula_tally.proofs.CountLimits.{count-le}
-use Rattle.formula_tally.proofs.Counting.{counted-small}
+use Rattle.formula_tally.proofs.CountLimits.{Unpacked, unpacked}
 
 -- Sums
 
@@ -42,149 +39,128 @@ module _ {A : Type 0} where
   sum-plus h f g e [] = refl
   sum-plus h f g e (c ∷ cs) = omega (arith, e c, sum-plus h f g e cs)
 
-  -- two sums in one number
-  sum-both : (h f g : A → ℕ) → ((a : A) → h a ≡ f a + placeUnit * g a) → (cs : List A)
-      → sum h cs ≡ sum f cs + placeUnit * sum g cs
-  unfolding sum
-  sum-both h f g e [] = refl
-  sum-both h f g e (c ∷ cs) = omega (arith, e c, sum-both h f g e cs)
-
-  sum-le : (f : A → ℕ) (n : ℕ) → ((a : A) → f a ≤ maxSize) → (cs : List A) → length cs ≡ n → sum f cs ≤ maxSize * n
-  unfolding sum
-  sum-le f n b [] e = omega arith
-  sum-le f n b (c ∷ cs) e = omega (arith, b c, sum-le f (length cs) b cs refl, e)
-
 -- What a credential adds
 
-abbrev bothOf : Ledger → ℕ → Credential → ℕ
-bothOf t s c = byKind (c .kind) (both s (formula t (c .formula))) 0
+abbrev seatsOf : Ledger → ℕ → Credential → ℕ
+seatsOf t s c = byKind (c .kind) (seats s (formula t (c .formula))) 0
 
-abbrev insideOf : Ledger → ℕ → ℕ → Credential → ℕ
-insideOf t s m c = only (has (c .interval) m) (bothOf t s c)
+seats-shared : (t : Ledger) (s m : ℕ) (c : Credential) → seatsOf t s c ≡ openOf t s m c + shutOf t s m c
+seats-shared t s m c = go (c .kind)
+  where
+    go : (k : Kind) → byKind k (seats s (formula t (c .formula))) 0
+        ≡ byKind k (openIn (has (c .interval) m) s (formula t (c .formula))) 0
+        + byKind k (shutIn (has (c .interval) m) s (formula t (c .formula))) 0
+    go Linear = sym (open-shut (has (c .interval) m) s (formula t (c .formula)))
+    go Unrestricted = refl
 
-abbrev opened : Ledger → ℕ → ℕ → Credential → ℕ
-opened t s m c = only (has (c .interval) m) (seatsOf t s c)
+-- the figures that the counts of a formula give
+module _ (s : ℕ) (a : Formula) (u : Unpacked s a (counts s a)) where
+  adds-open : (k : Kind) (b : Bool) → only b (houseIn (byKind k (counts s a) 0)) ≡ byKind k (openIn b s a) 0
+  adds-open Linear b = ap (only b) (u .house-in)
+  adds-open Unrestricted true = refl
+  adds-open Unrestricted false = refl
 
-abbrev closed : Ledger → ℕ → ℕ → Credential → ℕ
-closed t s m c = only (not (has (c .interval) m)) (seatsOf t s c)
+  adds-seats : (k : Kind) → seatsIn (byKind k (counts s a) 0) ≡ byKind k (seats s a) 0
+  adds-seats Linear = u .seats-in
+  adds-seats Unrestricted = refl
 
-abbrev placedInside : Ledger → ℕ → ℕ → Credential → ℕ
-placedInside t s m c = only (has (c .interval) m) (placesOf t s c)
+  adds-places : (k : Kind) → placesIn (byKind k (counts s a) 0) ≡ byKind k (places s a) 0
+  adds-places Linear = u .places-in
+  adds-places Unrestricted = refl
 
-pub only-le : (b : Bool) (n : ℕ) → only b n ≤ n
-only-le true n = omega arith
-only-le false n = omega arith
+only-zero : (b : Bool) {n : ℕ} → n ≡ 0 → 0 ≡ only b n
+only-zero true e = sym e
+only-zero false e = refl
 
-only-zero : (b : Bool) → only b 0 ≡ 0
-only-zero true = refl
-only-zero false = refl
-
-only-both : (b : Bool) (x y z : ℕ) → x ≡ y + placeUnit * z → only b x ≡ only b y + placeUnit * only b z
-only-both true x y z e = e
-only-both false x y z e = omega arith
-
-module _ (t : Ledger) (s : ℕ) where
-  both-of : (c : Credential) → bothOf t s c ≡ seatsOf t s c + placeUnit * placesOf t s c
-  unfolding both
-  both-of c = go (c .kind)
-    where
-      go : (k : Kind) → byKind k (both s (formula t (c .formula))) 0
-          ≡ byKind k (count seat s (formula t (c .formula))) 0
-          + placeUnit * byKind k (count place s (formula t (c .formula))) 0
-      go Linear = refl
-      go Unrestricted = refl
-
-  seats-le : ((n : ℕ) → size (formula t n) ≤ maxSize) → (c : Credential) → seatsOf t s c ≤ maxSize
-  seats-le h c = go (c .kind)
-    where
-      go : (k : Kind) → byKind k (count seat s (formula t (c .formula))) 0 ≤ maxSize
-      go Linear = omega (arith, count-le seat s (formula t (c .formula)), h (c .formula))
-      go Unrestricted = omega arith
+only-small : (b : Bool) (n : ℕ) → n ≤ byte → only b n ≤ byte
+only-small true n h = h
+only-small false n h = omega arith
 
 -- what a credential adds, by how the code finds it
-pub shares-none : (c : Credential) (m : ℕ) {n : ℕ} → n ≡ 0 → Adds c m n (record { all = 0; inside = 0 })
-shares-none c m {n} e = record { all = none (c .kind); inside = sym (only-zero (has (c .interval) m)) }
+pub adds-none : (c : Credential) (m : ℕ) {n : ℕ} → n ≡ 0 → Adds c m n (record { «open» = 0; seats = 0; places = 0 })
+adds-none c m {n} e =
+    let z = none (c .kind) in
+    record { «open» = only-zero (has (c .interval) m) (omega arith); seats = omega arith; places = omega arith }
   where
-    none : (k : Kind) → 0 ≡ byKind k n 0
-    none Linear = sym e
+    none : (k : Kind) → byKind k n 0 ≡ 0
+    none Linear = e
     none Unrestricted = refl
 
-pub shares-some : (m n : ℕ) {c d : Credential} {v w : ℕ} → c ≡ d → v ≡ byKind (c .kind) n 0
-    → w ≡ only (has (c .interval) m) v → Adds d m n (record { all = v; inside = w })
-shares-some m n {v = v} {w = w} e p q =
-    subst (λ (x : Credential). Adds x m n (record { all = v; inside = w })) e (record { all = p; inside = q })
+pub adds-some : (m n : ℕ) {c d : Credential} {r : Addend} → c ≡ d → Adds c m n r → Adds d m n r
+adds-some m n {r = r} e h = subst (λ (x : Credential). Adds x m n r) e h
 
--- a and b are the sums over the first i rows: of all, and of those whose interval has the minute
-pub record Tallying (l : List ℕ) (s m i a b : ℕ) : Type 0 where
-  pub alls : a ≡ sum (bothOf (ledgerOf l) s) (tab i (credentialAt l))
-  pub insides : b ≡ sum (insideOf (ledgerOf l) s m) (tab i (credentialAt l))
-  pub small : (a ≤ entryMost * i) × (b ≤ entryMost * i)
+-- o, a and p are the sums over the first i rows
+pub record Tallying (l : List ℕ) (s m i o a p : ℕ) : Type 0 where
+  pub opens : o ≡ sum (openOf (ledgerOf l) s m) (tab i (credentialAt l))
+  pub seats : a ≡ sum (seatsOf (ledgerOf l) s) (tab i (credentialAt l))
+  pub places : p ≡ sum (placesOf (ledgerOf l) s) (tab i (credentialAt l))
+  pub small : (o ≤ byte * i) × (a ≤ byte * i) × (p ≤ byte * i)
 
 -- the figures in them, once all rows are passed
-pub record Summed (l : List ℕ) (s m a b : ℕ) : Type 0 where
-  pub opens : b % placeUnit ≡ openSeats (ledgerOf l) s m
-  pub seats : a % placeUnit ≡ openSeats (ledgerOf l) s m + shutSeats (ledgerOf l) s m
-  pub places : a / placeUnit ≡ placed (ledgerOf l) s
-  pub few : openSeats (ledgerOf l) s m + shutSeats (ledgerOf l) s m ≤ seatsMost
+pub record Summed (l : List ℕ) (s m o a p : ℕ) : Type 0 where
+  pub opens : o ≡ openSeats (ledgerOf l) s m
+  pub seats : a ≡ openSeats (ledgerOf l) s m + shutSeats (ledgerOf l) s m
+  pub places : p ≡ placed (ledgerOf l) s
+
+-- what a credential adds is small
+pub record Small (r : Addend) : Type 0 where
+  pub «open» : r .«open» ≤ byte
+  pub seats : r .seats ≤ byte
+  pub places : r .places ≤ byte
+
+pub adds-small : {c : Credential} {m n : ℕ} {r : Addend} → Adds c m n r → Small r
+adds-small {c} {m} {n} h = record {
+  «open» = omega (arith, h .«open», only-small (has (c .interval) m) (houseIn (byKind (c .kind) n 0)) (omega arith));
+  seats = omega (arith, h .seats);
+  places = omega (arith, h .places);
+}
 
 module _ (l : List ℕ) (s m : ℕ) where
-  pub tally-start : Tallying l s m 0 0 0
+  pub tally-start : Tallying l s m 0 0 0 0
   unfolding tab sum
-  tally-start = record { alls = refl; insides = refl; small = (omega arith, omega arith) }
+  tally-start = record { opens = refl; seats = refl; places = refl; small = (omega arith, omega arith, omega arith) }
 
   module _ (g : Good l) where
-    module _ (xs : List ℕ) (k : Counted l s (length (ledgerOf l .lines)) xs) where
-      pub entry-small : {c : Credential} {e : ℕ} {r : Addend} (n : ℕ) → e ≡ entry xs n → Adds c m e r
-          → r .all ≤ entryMost
-      entry-small {c} {e} {r} n x h = go (c .kind) (h .all)
-        where
-          go : (k : Kind) → r .all ≡ byKind k e 0 → r .all ≤ entryMost
-          go Linear y = omega (arith, counted-small l s g (length (ledgerOf l .lines)) xs (omega arith) k n)
-          go Unrestricted y = omega arith
-
-      pub tally-next : {c : Credential} {i a b e : ℕ} {r : Addend} → c ≡ credentialAt l i → e ≡ entry xs (c .formula)
-          → Adds (credentialAt l i) m e r → Tallying l s m i a b
-          → Tallying l s m (i + 1) (a + r .all) (b + r .inside)
-      tally-next {c} {i} {a} {b} {e} {r} ec ee h t =
-          let d = credentialAt l i in
-          let vs : r .all ≡ bothOf (ledgerOf l) s d =
-          h .all ∙ ap (λ (x : ℕ). byKind (d .kind) x 0) (ee ∙ k .holds (c .formula)
-          ∙ ap (both s) (early-all (ledgerOf l) (c .formula))
-          ∙ ap (λ (x : Credential). both s (formula (ledgerOf l) (x .formula))) ec) in
-          let small = entry-small (c .formula) ee h in
-          let le = only-le (has (d .interval) m) (r .all) in
-          let q = t .small in
-          record {
-            alls = sum-next (bothOf (ledgerOf l) s) (credentialAt l) i a (r .all) (t .alls) vs;
-            insides = sum-next (insideOf (ledgerOf l) s m) (credentialAt l) i b (r .inside) (t .insides)
-                (h .inside ∙ ap (only (has (d .interval) m)) vs);
-            small = (omega arith, omega (arith, h .inside));
-          }
+    pub tally-next : (xs : List ℕ) → Counted l s (length (ledgerOf l .lines)) xs
+        → {c : Credential} {i o a p e : ℕ} {r : Addend} → c ≡ credentialAt l i → e ≡ entry xs (c .formula)
+        → Adds (credentialAt l i) m e r → Tallying l s m i o a p
+        → Tallying l s m (i + 1) (o + r .«open») (a + r .seats) (p + r .places)
+    tally-next xs k {c} {i} {o} {a} {p} {e} {r} ec ee h t =
+        let t' = ledgerOf l in
+        let d = credentialAt l i in
+        let f = formula t' (d .formula) in
+        let u = unpacked s f (g .bounded .sizes (d .formula)) in
+        let n : e ≡ counts s f =
+        ee ∙ k .holds (c .formula) ∙ ap (counts s) (early-all t' (c .formula))
+        ∙ ap (λ (x : Credential). counts s (formula t' (x .formula))) ec in
+        let vo : r .«open» ≡ openOf t' s m d =
+        h .«open» ∙ ap (λ (x : ℕ). only (has (d .interval) m) (houseIn (byKind (d .kind) x 0))) n
+        ∙ adds-open s f u (d .kind) (has (d .interval) m) in
+        let vs : r .seats ≡ seatsOf t' s d =
+        h .seats ∙ ap (λ (x : ℕ). seatsIn (byKind (d .kind) x 0)) n ∙ adds-seats s f u (d .kind) in
+        let vp : r .places ≡ placesOf t' s d =
+        h .places ∙ ap (λ (x : ℕ). placesIn (byKind (d .kind) x 0)) n ∙ adds-places s f u (d .kind) in
+        let b = adds-small h in
+        let q = t .small in
+        record {
+          opens = sum-next (openOf t' s m) (credentialAt l) i o (r .«open») (t .opens) vo;
+          seats = sum-next (seatsOf t' s) (credentialAt l) i a (r .seats) (t .seats) vs;
+          places = sum-next (placesOf t' s) (credentialAt l) i p (r .places) (t .places) vp;
+          small = (omega (arith, b .«open»), omega (arith, b .seats), omega (arith, b .places));
+        }
 
     -- a tally over all rows is one over the live credentials
     rows : (f : Credential → ℕ) → ((c : Credential) → c .kind ≡ Unrestricted → f c ≡ 0)
-        → sum f (tab (rowCount l) (credentialAt l)) ≡ sum f (ledgerOf l .live)
-    rows f z = sym (live-sum f z l)
+        → {i n : ℕ} → i ≡ rowCount l → n ≡ sum f (tab i (credentialAt l)) → n ≡ sum f (ledgerOf l .live)
+    rows f z e h = h ∙ ap (λ (k : ℕ). sum f (tab k (credentialAt l))) e ∙ sym (live-sum f z l)
 
-    pub summed : {i a b : ℕ} → i ≡ rowCount l → Tallying l s m i a b → Summed l s m a b
+    pub summed : {i o a p : ℕ} → i ≡ rowCount l → Tallying l s m i o a p → Summed l s m o a p
     unfolding openSeats shutSeats placed
-    summed {i} {a} {b} e t =
+    summed e t =
         let u = ledgerOf l in
-        let cs = tab (rowCount l) (credentialAt l) in
-        let x : a ≡ sum (bothOf u s) cs = t .alls ∙ ap (λ (n : ℕ). sum (bothOf u s) (tab n (credentialAt l))) e in
-        let y : b ≡ sum (insideOf u s m) cs =
-        t .insides ∙ ap (λ (n : ℕ). sum (insideOf u s m) (tab n (credentialAt l))) e in
-        let p = sum-both (bothOf u s) (seatsOf u s) (placesOf u s) (both-of u s) cs in
-        let q =
-        sum-both (insideOf u s m) (opened u s m) (placedInside u s m)
-        (λ c. only-both (has (c .interval) m) _ _ _ (both-of u s c)) cs in
-        let r =
-        sum-plus (seatsOf u s) (opened u s m) (closed u s m)
-        (λ c. sym (only-sum (has (c .interval) m) (seatsOf u s c))) cs in
-        let small = sum-le (seatsOf u s) (rowCount l) (seats-le u s (g .bounded .sizes)) cs
-        (length-tab (rowCount l) (credentialAt l)) in
-        let few = g .ordered .few in
-        let o = rows (opened u s m) (λ c h. rw h (only-zero (has (c .interval) m))) in
-        let h = rows (closed u s m) (λ c h. rw h (only-zero (not (has (c .interval) m)))) in
-        let w = rows (placesOf u s) (λ c h. rw h) in
-        record { opens = omega arith; seats = omega arith; places = omega arith; few = omega arith }
+        record {
+          opens = rows (openOf u s m) (λ c h. rw h) e (t .opens);
+          seats = rows (seatsOf u s) (λ c h. rw h) e (t .seats)
+              ∙ sum-plus (seatsOf u s) (openOf u s m) (shutOf u s m) (seats-shared u s m) (u .live);
+          places = rows (placesOf u s) (λ c h. rw h) e (t .places);
+        }

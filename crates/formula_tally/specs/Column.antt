@@ -9,7 +9,6 @@ use Rattle.steps.specs.declared.Row.{Row}
 use Rattle.ledger.specs.Table.{nth, formulas}
 use Rattle.ledger.specs.Ledger.{Ledger}
 use Rattle.ledger.specs.Checks.{maxSize, maxFormulas}
-use Rattle.store_cells.specs.Layout.{maxRows}
 use Rattle.formula_parts.specs.Parts.{partsOf}
 
 -- the formulas of the first i lines; a later number reads as 1
@@ -24,18 +23,24 @@ pub record Column {A : Type 0} (t : Ledger) (value : Formula → A) (d : A) (i :
 abbrev pub entry : List ℕ → ℕ → ℕ
 entry xs k = getD xs k 0
 
--- seats and places are counted in one number: a place counts as twice the seats that all rows can have
-abbrev pub seatsMost : ℕ
-seatsMost = maxSize * maxRows
+-- four counts in one number, a byte each: what counts as one of the second, the third, the fourth
+abbrev pub byte : ℕ
+byte = 256
 
 abbrev pub placeUnit : ℕ
-placeUnit = 2 * seatsMost
+placeUnit = byte
 
--- what a formula can have
+abbrev pub houseUnit : ℕ
+houseUnit = byte * placeUnit
+
+abbrev pub underUnit : ℕ
+underUnit = byte * houseUnit
+
+-- what a formula can have: of each no more than its size
 abbrev pub entryMost : ℕ
-entryMost = (1 + placeUnit) * maxSize
+entryMost = (1 + placeUnit + houseUnit + underUnit) * maxSize
 
--- a column of seats and places has an entry for each of the numbers, and none above what a formula can have
+-- a column of counts has an entry for each of the numbers, and none above what a formula can have
 pub record Addable (xs ns : List ℕ) : Type 0 where
   pub long : length xs ≡ maxFormulas
   pub small : (k : ℕ) → entry xs k ≤ entryMost

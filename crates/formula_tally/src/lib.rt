@@ -1,4 +1,5 @@
-// The tally: seats and places of a session in every formula, row by row, then their sums over the live credentials.
+// The tally: seats, house seats and places of a session in every formula, row by row, then their sums over the live
+// credentials.
 mod column;
 
 use crate::column::Column;
@@ -16,20 +17,19 @@ ghost use Rattle.store_cells.specs.Layout.{rowCount, credentialAt};
 ghost use Rattle.store.specs.Store.{ledgerOf, Good};
 ghost use Rattle.formula_tally.specs.Tally.{Blank, NoneBefore, Counted, Adds, Tallied};
 
-const PLACE_UNIT: u64 = column::PLACE_UNIT as u64;
-
-// The sums of a tally: "open = seats of the session in coupons whose window has the minute, shut = the other seats,
-// placed = places", over the live linear credentials.
+// The sums of a tally over the live linear credentials: "Open now counts only seats whose nearest ⟨K⟩ above them is
+// principal 1, in a window that has the minute. All other seats, bare ones too, go to shut"; placed are the places.
 pub struct Figures {
     pub open: u32,
     pub shut: u32,
     pub placed: u32,
 }
 
-// What one credential adds: all that its formula counts, and so much of it as the interval has the minute for.
+// What one credential adds.
 struct Addend {
-    all: u32,
-    inside: u32,
+    open: u32,
+    seats: u32,
+    places: u32,
 }
 
 // The first row of an atom of the session; formulas before it have none of its seats and places.
@@ -49,7 +49,7 @@ fn first_atom(store: &Store, session: u32) -> u32
     i
 }
 
-// The seats and the places of a session in every formula, row by row.
+// The counts of a session in every formula, row by row.
 fn count_rows(store: &Store, session: u32, counts: &mut Column)
     requires { ⌜ Good (now store) × Blank (now counts) ⌝ }
     ensures { λ _. ⌜ Counted (now (store .entry)) session (length (ledgerOf (now (store .entry)) .lines))
@@ -59,8 +59,8 @@ fn count_rows(store: &Store, session: u32, counts: &mut Column)
     let mut i = first_atom(store, session);
     while i < n {
         let row = store::line_at(store, i);
-        let both = column::count_row(row, session, counts);
-        counts[i as usize] = both;
+        let counted = column::count_row(row, session, counts);
+        counts[i as usize] = counted;
         i += 1;
     }
 }
@@ -85,24 +85,37 @@ fn when_has(interval: Interval, minute: u32, n: u32) -> u32
     0
 }
 
-// What the credential of a row adds to a tally, where its formula counts `both`. Most formulas are of other sessions
-// and count nothing, so that is asked before the credential is read.
-fn addend_of(store: &Store, i: u32, minute: u32, both: u32) -> Addend
+// What the credential of a row adds to a tally, where its formula's counts are `counts`. Most formulas are of other
+// sessions and count nothing, so that is asked before the credential is read.
+fn addend_of(store: &Store, i: u32, minute: u32, counts: u32) -> Addend
     requires { ⌜ Good (now store) × (i < rowCount (now store)) ⌝ }
-    ensures { λ r. ⌜ Adds (credentialAt (now (store .entry)) i) minute both r ⌝ }
+    ensures { λ r. ⌜ Adds (credentialAt (now (store .entry)) i) minute counts r ⌝ }
 {
-    if both == 0 {
-        return Addend { all: 0, inside: 0 };
+    if counts == 0 {
+        return Addend {
+            open: 0,
+            seats: 0,
+            places: 0,
+        };
     }
     let c = store::credential_at(store, i);
     let kind = c.kind;
-    let all = when_linear(kind, both);
-    let inside = when_has(c.interval, minute, all);
-    Addend { all, inside }
+    let counts = when_linear(kind, counts);
+    let open = when_has(
+        c.interval,
+        minute,
+        counts / column::HOUSE_UNIT % column::BYTE,
+    );
+    let seats = counts % column::BYTE;
+    let places = counts / column::PLACE_UNIT % column::BYTE;
+    Addend {
+        open,
+        seats,
+        places,
+    }
 }
 
-// The tally of a session at a minute: seats and places are added up in one number, places in steps of `PLACE_UNIT`,
-// which the seats of all rows never reach.
+// The tally of a session at a minute.
 pub fn tally(store: &Store, session: u32, minute: u32) -> Figures
     requires { ⌜ Good (now store) ⌝ }
     ensures { λ r. ⌜ Tallied (now (store .entry)) session minute r ⌝ }
@@ -110,19 +123,22 @@ pub fn tally(store: &Store, session: u32, minute: u32) -> Figures
     let mut counts = [0u32; column::ENTRIES];
     count_rows(store, session, &mut counts);
     let n = store::row_count(store);
-    let mut all: u64 = 0;
-    let mut inside: u64 = 0;
+    let mut open = 0;
+    let mut seats = 0;
+    let mut placed = 0;
     let mut i = 0;
     while i < n {
         let c = store::credential_at(store, i);
-        let both = column::known(&counts, c.formula);
-        let added = addend_of(store, i, minute, both);
-        all += added.all as u64;
-        inside += added.inside as u64;
+        let counted = column::known(&counts, c.formula);
+        let added = addend_of(store, i, minute, counted);
+        open += added.open;
+        seats += added.seats;
+        placed += added.places;
         i += 1;
     }
-    let open = (inside % PLACE_UNIT) as u32;
-    let shut = (all % PLACE_UNIT) as u32 - open;
-    let placed = (all / PLACE_UNIT) as u32;
-    Figures { open, shut, placed }
+    Figures {
+        open,
+        shut: seats - open,
+        placed,
+    }
 }

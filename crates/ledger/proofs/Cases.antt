@@ -7,7 +7,7 @@ use Rattle.ledger.proofs.Compute.{played}
 
 pub cases-play : CasesPlay
 unfolding played AnsweredFrom AllAnswered
-cases-play = (refl, (refl, (refl, (refl, (refl, (refl, (refl, tt)))))))
+cases-play = (refl, (refl, (refl, (refl, (refl, (refl, (refl, (refl, tt))))))))
 
 pub step-cases-play : StepCasesPlay
 unfolding played AnsweredFrom AllAnswered times

@@ -2,7 +2,7 @@
 use mathlib.Core.List.{List, map}
 use Prim.Native.String.{String}
 use Rattle.logic.specs.Interval.{inBreak, has, covers, contains, sameInterval, reversed, broken}
-use Rattle.logic.specs.Formula.{size, count, plain}
+use Rattle.logic.specs.Formula.{size, count, houseUnder, plain}
 use Rattle.logic.specs.Multiset.{sum}
 use Rattle.logic.specs.Counts.{up, even, sessionsOf, allOf, balanced}
 use Rattle.request.specs.Text.{bytes, sameBytes, andThen, push, fields, pushLine, lines, reads, decimalDigit}
@@ -24,11 +24,11 @@ use Rattle.ledger.specs.Sessions.{ofLines}
 
 -- what a list of requests, each given by its lines, is answered from the empty ledger on
 unfoldable pub played : List (List String) → List Told
-unfolding inBreak has covers contains sameInterval reversed broken size count plain sum up even sessionsOf allOf
-    balanced bytes sameBytes andThen push fields pushLine lines reads decimalDigit hexDigit decimal numberIn labelSetIn
-    return _>>=_ next many named choose ended whole line stepsIntervals intervals number labelSet interval kind part
-    parts formulaLine labelled stepLine holdLine bookLine firstLine rest requestLines requestOf when right affirmed left
-    planOf maxLabels begin judged onward follow premiseOf finished checkOf build formulas find withoutSerial held
-    linearCount spend _if_ first anyOf sameRow twice labelsOf verdict steps checks checksOf openSeats shutSeats placed
-    accept decide call answers ofLines
+unfolding inBreak has covers contains sameInterval reversed broken size count houseUnder plain sum up even sessionsOf
+    allOf balanced bytes sameBytes andThen push fields pushLine lines reads decimalDigit hexDigit decimal numberIn
+    labelSetIn return _>>=_ next many named choose ended whole line stepsIntervals intervals number labelSet interval
+    kind part parts formulaLine labelled stepLine holdLine bookLine firstLine rest requestLines requestOf when right
+    affirmed left planOf maxLabels begin judged onward follow premiseOf finished checkOf build formulas find
+    withoutSerial held linearCount spend _if_ first anyOf sameRow twice labelsOf verdict steps checks checksOf
+    openSeats shutSeats placed accept decide call answers ofLines
 played rs = map told (answers empty (map ofLines rs))

@@ -2,21 +2,23 @@
 use mathlib.Core.Path.{_≡_, refl, sym, ap, subst, _∙_}
 use mathlib.Core.List.{List, [], _∷_}
 use mathlib.Core.Option.{Option, none, some}
-use mathlib.Core.Bool.{Bool, true, false, _||_, not}
+use mathlib.Core.Bool.{Bool, true, false, _||_}
 use Prim.Native.Nat.{ℕ, suc, _+_, _≤_}
 use native.Mathlib.Omega.{arith}
 use lib.Dec.{eqb}
 use lib.ListN.{length}
 use borrow.Author.Tests.{eqb-true, eqb-false}
+use Rattle.logic.specs.Formula.{Formula, seats}
 use Rattle.logic.specs.Multiset.{Ins, here, there, Every, sum}
 use Rattle.logic.proofs.Tests.{no-truth}
 use Rattle.logic.proofs.Multisets.{ins-length, ins-sum, every-out}
+use Rattle.logic.proofs.Houses.{house-seats}
 use Rattle.request.specs.declared.Kind.{Kind}
 use Rattle.request.specs.declared.Kind.the-variants.{Linear, Unrestricted}
 use Rattle.ledger.specs.declared.Credential.{Credential}
 use Rattle.ledger.specs.Ledger.{Ledger, byKind, find, withoutSerial, isNone, consSome, held, linearCount, spend}
 use Rattle.ledger.specs.Checks.{anyOf, dead, twice}
-use Rattle.ledger.specs.Calls.{only}
+use Rattle.ledger.specs.Calls.{openIn, shutIn}
 use Rattle.ledger.proofs.Answers.{some-none, some-inj}
 
 -- What is found can be taken out.
@@ -116,10 +118,10 @@ held-all cs (n ∷ ns) a = go (find cs n) (a .0) (held-all cs ns (a .1))
 abbrev pub linearly : (Credential → ℕ) → Credential → ℕ
 linearly f c = byKind (c .kind) (f c) 0
 
--- what counts where the test holds, and where it does not, is all of it
-pub only-sum : (b : Bool) (n : ℕ) → only b n + only (not b) n ≡ n
-only-sum true n = omega arith
-only-sum false n = omega arith
+-- what is open and what is shut of a formula's seats is all of them
+pub open-shut : (inside : Bool) (s : ℕ) (a : Formula) → openIn inside s a + shutIn inside s a ≡ seats s a
+open-shut true s a = omega (arith, house-seats false s a)
+open-shut false s a = omega arith
 
 -- what is left of the credentials once c is held
 abbrev left : Credential → List Credential → List Credential

@@ -1,12 +1,12 @@
 -- What an accepted request does and answers, the one call that tells requests apart, and lists of calls.
 use mathlib.Core.List.{List, [], _∷_, _++_}
 use mathlib.Core.Option.{Option, none, some}
-use mathlib.Core.Bool.{Bool, true, false, not}
-use Prim.Native.Nat.{ℕ, _+_}
+use mathlib.Core.Bool.{Bool, true, false}
+use Prim.Native.Nat.{ℕ, _+_, _-_}
 use lib.ListN.{length}
 use Rattle.logic.specs.declared.Interval.{Interval}
 use Rattle.logic.specs.Interval.{has}
-use Rattle.logic.specs.Formula.{seats, places}
+use Rattle.logic.specs.Formula.{Formula, seats, places, houseSeats}
 use Rattle.logic.specs.Multiset.{sum}
 use Rattle.request.specs.declared.Kind.{Kind}
 use Rattle.request.specs.declared.Kind.the-variants.{Linear}
@@ -57,20 +57,31 @@ abbrev pub only : Bool → ℕ → ℕ
 only true n = n
 only false n = 0
 
--- the seats and the places of a session in a linear credential
-abbrev pub seatsOf : Ledger → ℕ → Credential → ℕ
-seatsOf t s c = byKind (c .kind) (seats s (formula t (c .formula))) 0
+-- What a linear credential of formula a gives to the figures of a tally, and whether its interval has the minute.
+-- "Open now counts only seats whose nearest ⟨K⟩ above them is principal 1, in a window that has the minute. All other
+-- seats, bare ones too, go to shut." Places are placed.
+abbrev pub openIn : Bool → ℕ → Formula → ℕ
+openIn inside s a = only inside (houseSeats s a)
+
+abbrev pub shutIn : Bool → ℕ → Formula → ℕ
+shutIn inside s a = seats s a - openIn inside s a
+
+-- the figures of a credential: an unrestricted one gives nothing
+abbrev pub openOf : Ledger → ℕ → ℕ → Credential → ℕ
+openOf t s m c = byKind (c .kind) (openIn (has (c .interval) m) s (formula t (c .formula))) 0
+
+abbrev pub shutOf : Ledger → ℕ → ℕ → Credential → ℕ
+shutOf t s m c = byKind (c .kind) (shutIn (has (c .interval) m) s (formula t (c .formula))) 0
 
 abbrev pub placesOf : Ledger → ℕ → Credential → ℕ
 placesOf t s c = byKind (c .kind) (places s (formula t (c .formula))) 0
 
--- "Tally: over live singles, open = seats of the session in coupons whose window has the minute, shut = the other
--- seats, placed = places."
+-- "Tally: over live singles"
 unfoldable pub openSeats : Ledger → ℕ → ℕ → ℕ
-openSeats t s m = sum (λ c. only (has (c .interval) m) (seatsOf t s c)) (t .live)
+openSeats t s m = sum (openOf t s m) (t .live)
 
 unfoldable pub shutSeats : Ledger → ℕ → ℕ → ℕ
-shutSeats t s m = sum (λ c. only (not (has (c .interval) m)) (seatsOf t s c)) (t .live)
+shutSeats t s m = sum (shutOf t s m) (t .live)
 
 unfoldable pub placed : Ledger → ℕ → ℕ
 placed t s = sum (placesOf t s) (t .live)

@@ -108,17 +108,18 @@ bookings =
     (("book,5,3,0,9,0,0,1,4" ∷ "hold,2" ∷ "sr" ∷ "sl,0" ∷ "af" ∷ "ax,1" ∷ []) ⇛ Told.no 40 2) ∷
     (("book,5,2,0,9,0,0,1,4" ∷ "hold,2" ∷ "sr" ∷ "sl,0" ∷ "af" ∷ "ax,1" ∷ []) ⇛ accepted 4) ∷ []
 
--- "open = seats of the session in coupons whose window has the minute": both ends are in; an unrestricted credential
+-- "in a window that has the minute": both ends are in; an unrestricted credential
 -- counts nothing; a part counts as often as it stands there. A booking makes the seat a place, and the credential that
 -- it gave can be withdrawn.
 abbrev pub tallies : List Turn
 tallies =
     ("word,a,1,7\n" ⇒ accepted 0) ∷
     ("word,a,2,7\n" ⇒ accepted 1) ∷
-    ("word,t,0,0\n" ⇒ accepted 2) ∷
-    ("word,l,0,1\n" ⇒ accepted 3) ∷
-    ("issue,r,3,0,9,0,0\n" ⇒ accepted 1) ∷
-    ("issue,s,2,5,9,0,0\n" ⇒ accepted 2) ∷
+    ("word,s,1,0\n" ⇒ accepted 2) ∷
+    ("word,t,2,2\n" ⇒ accepted 3) ∷
+    ("word,l,2,1\n" ⇒ accepted 4) ∷
+    ("issue,r,4,0,9,0,0\n" ⇒ accepted 1) ∷
+    ("issue,s,3,5,9,0,0\n" ⇒ accepted 2) ∷
     ("issue,s,1,5,9,0,0\n" ⇒ accepted 3) ∷
     ("tally,7,4\n" ⇒ ok (0 ∷ 2 ∷ 1 ∷ [])) ∷
     ("tally,7,5\n" ⇒ ok (2 ∷ 0 ∷ 1 ∷ [])) ∷
@@ -129,11 +130,11 @@ tallies =
     ("withdraw,2\n" ⇒ accepted 2) ∷
     ("withdraw,2\n" ⇒ refused 24) ∷
     ("tally,7,5\n" ⇒ ok (0 ∷ 0 ∷ 1 ∷ [])) ∷
-    ("issue,r,3,0,9,0,0\n" ⇒ accepted 4) ∷
-    ("issue,s,0,0,9,0,0\n" ⇒ accepted 5) ∷
+    ("issue,r,4,0,9,0,0\n" ⇒ accepted 4) ∷
+    ("issue,s,2,0,9,0,0\n" ⇒ accepted 5) ∷
     ("tally,7,5\n" ⇒ ok (1 ∷ 0 ∷ 1 ∷ [])) ∷
-    (("book,5,1,0,9,0,0,2,4" ∷ "hold,4" ∷ "hold,5" ∷ "cp,0" ∷ "ll,2,0000000000000002,0,9,0,0" ∷ "ax,1" ∷ "ax,3"
-    ∷ []) ⇛ accepted 6) ∷
+    (("book,5,1,0,9,0,0,2,7" ∷ "hold,4" ∷ "hold,5" ∷ "cp,0" ∷ "ll,2,0000000000000002,0,9,0,0" ∷ "sr" ∷ "sl,1" ∷ "af"
+    ∷ "ax,3" ∷ "ax,4" ∷ []) ⇛ accepted 6) ∷
     ("tally,7,5\n" ⇒ ok (0 ∷ 0 ∷ 2 ∷ [])) ∷
     ("withdraw,6\n" ⇒ accepted 6) ∷
     ("tally,7,5\n" ⇒ ok (0 ∷ 0 ∷ 1 ∷ [])) ∷
@@ -152,11 +153,11 @@ sessions =
     ("issue,r,3,0,9,0,0\n" ⇒ refused 21) ∷
     ("issue,r,4,0,9,0,0\n" ⇒ accepted 1) ∷
     ("issue,s,0,0,9,0,0\n" ⇒ accepted 2) ∷
-    ("tally,65535,5\n" ⇒ ok (1 ∷ 0 ∷ 0 ∷ [])) ∷
+    ("tally,65535,5\n" ⇒ ok (0 ∷ 1 ∷ 0 ∷ [])) ∷
     ("tally,255,5\n" ⇒ ok (0 ∷ 0 ∷ 0 ∷ [])) ∷
     ("issue,s,1,0,9,0,0\n" ⇒ accepted 3) ∷
-    ("tally,65535,5\n" ⇒ ok (1 ∷ 0 ∷ 0 ∷ [])) ∷
-    ("tally,255,5\n" ⇒ ok (1 ∷ 0 ∷ 0 ∷ [])) ∷
+    ("tally,65535,5\n" ⇒ ok (0 ∷ 1 ∷ 0 ∷ [])) ∷
+    ("tally,255,5\n" ⇒ ok (0 ∷ 1 ∷ 0 ∷ [])) ∷
     ("tally,65279,5\n" ⇒ ok (0 ∷ 0 ∷ 0 ∷ [])) ∷
     (("book,5,0,0,9,0,0,1,1" ∷ "hold,3" ∷ "ax,0" ∷ []) ⇛ Told.no 40 1) ∷
     (("book,5,1,0,9,0,0,1,1" ∷ "hold,2" ∷ "ax,0" ∷ []) ⇛ Told.no 40 1) ∷
@@ -201,23 +202,84 @@ breakOrder =
 abbrev pub breaks : List Turn
 breaks =
     ("word,a,1,7\n" ⇒ accepted 0) ∷
-    ("issue,s,0,0,99,40,59\n" ⇒ accepted 1) ∷
+    ("word,s,1,0\n" ⇒ accepted 1) ∷
+    ("issue,s,1,0,99,40,59\n" ⇒ accepted 1) ∷
     ("tally,7,39\n" ⇒ ok (1 ∷ 0 ∷ 0 ∷ [])) ∷
     ("tally,7,40\n" ⇒ ok (0 ∷ 1 ∷ 0 ∷ [])) ∷
     ("tally,7,59\n" ⇒ ok (0 ∷ 1 ∷ 0 ∷ [])) ∷
     ("tally,7,60\n" ⇒ ok (1 ∷ 0 ∷ 0 ∷ [])) ∷
-    (("book,50,0,0,99,40,59,1,1" ∷ "hold,1" ∷ "ax,0" ∷ []) ⇛ refused 30) ∷
-    (("book,5,0,0,99,0,0,1,1" ∷ "hold,1" ∷ "ax,0" ∷ []) ⇛ Told.no 40 1) ∷
-    (("book,5,0,0,99,41,60,1,1" ∷ "hold,1" ∷ "ax,0" ∷ []) ⇛ Told.no 40 1) ∷
-    (("book,5,0,0,99,39,58,1,1" ∷ "hold,1" ∷ "ax,0" ∷ []) ⇛ Told.no 40 1) ∷
-    (("book,5,0,0,40,0,0,1,1" ∷ "hold,1" ∷ "ax,0" ∷ []) ⇛ Told.no 40 1) ∷
-    (("book,60,0,59,99,0,0,1,1" ∷ "hold,1" ∷ "ax,0" ∷ []) ⇛ Told.no 40 1) ∷
-    (("book,5,0,0,99,30,70,1,1" ∷ "hold,1" ∷ "ax,0" ∷ []) ⇛ accepted 2) ∷
+    (("book,50,1,0,99,40,59,1,4" ∷ "hold,1" ∷ "sr" ∷ "sl,0" ∷ "af" ∷ "ax,1" ∷ []) ⇛ refused 30) ∷
+    (("book,5,1,0,99,0,0,1,4" ∷ "hold,1" ∷ "sr" ∷ "sl,0" ∷ "af" ∷ "ax,1" ∷ []) ⇛ Told.no 40 2) ∷
+    (("book,5,1,0,99,41,60,1,4" ∷ "hold,1" ∷ "sr" ∷ "sl,0" ∷ "af" ∷ "ax,1" ∷ []) ⇛ Told.no 40 2) ∷
+    (("book,5,1,0,99,39,58,1,4" ∷ "hold,1" ∷ "sr" ∷ "sl,0" ∷ "af" ∷ "ax,1" ∷ []) ⇛ Told.no 40 2) ∷
+    (("book,5,1,0,40,0,0,1,4" ∷ "hold,1" ∷ "sr" ∷ "sl,0" ∷ "af" ∷ "ax,1" ∷ []) ⇛ Told.no 40 2) ∷
+    (("book,60,1,59,99,0,0,1,4" ∷ "hold,1" ∷ "sr" ∷ "sl,0" ∷ "af" ∷ "ax,1" ∷ []) ⇛ Told.no 40 2) ∷
+    (("book,5,1,0,99,30,70,1,4" ∷ "hold,1" ∷ "sr" ∷ "sl,0" ∷ "af" ∷ "ax,1" ∷ []) ⇛ accepted 2) ∷
     ("tally,7,30\n" ⇒ ok (0 ∷ 1 ∷ 0 ∷ [])) ∷
-    (("book,5,0,0,29,0,0,1,1" ∷ "hold,2" ∷ "ax,0" ∷ []) ⇛ accepted 3) ∷ []
+    (("book,5,1,0,29,0,0,1,4" ∷ "hold,2" ∷ "sr" ∷ "sl,0" ∷ "af" ∷ "ax,1" ∷ []) ⇛ accepted 3) ∷ []
+
+-- Document 02, ask 3: "Open now counts only seats whose nearest ⟨K⟩ above them is principal 1, in a window that has the
+-- minute. All other seats, bare ones too, go to shut." One credential more before each tally: seat, ⟨1⟩seat, ⟨2⟩seat,
+-- ⟨1⟩⟨2⟩seat, ⟨2⟩⟨1⟩seat, ⟨1⟩(seat ⊗ ⟨2⟩seat), ⟨1⟩seat ⊗ seat, ⟨1⟩(seat ⊗ seat), ⟨0⟩seat, ⟨1⟩place, a seat of
+-- session 6, an unrestricted ⟨1⟩seat ⊸ ⟨1⟩seat. Then the break, the minutes before it and past the interval; a host's
+-- token ⟨2⟩seat booked and withdrawn; a bare seat booked as ⟨1⟩seat and withdrawn: no seat is lost, and two leave.
+abbrev pub houses : List Turn
+houses =
+    ("word,a,1,7\n" ⇒ accepted 0) ∷
+    ("word,s,1,0\n" ⇒ accepted 1) ∷
+    ("word,s,2,0\n" ⇒ accepted 2) ∷
+    ("word,s,1,2\n" ⇒ accepted 3) ∷
+    ("word,s,2,1\n" ⇒ accepted 4) ∷
+    ("word,t,0,2\n" ⇒ accepted 5) ∷
+    ("word,s,1,5\n" ⇒ accepted 6) ∷
+    ("word,t,1,0\n" ⇒ accepted 7) ∷
+    ("word,t,0,0\n" ⇒ accepted 8) ∷
+    ("word,s,1,8\n" ⇒ accepted 9) ∷
+    ("word,s,0,0\n" ⇒ accepted 10) ∷
+    ("word,a,2,7\n" ⇒ accepted 11) ∷
+    ("word,s,1,11\n" ⇒ accepted 12) ∷
+    ("word,a,1,6\n" ⇒ accepted 13) ∷
+    ("word,s,1,13\n" ⇒ accepted 14) ∷
+    ("word,l,1,1\n" ⇒ accepted 15) ∷
+    ("issue,s,0,0,99,40,59\n" ⇒ accepted 1) ∷
+    ("tally,7,5\n" ⇒ ok (0 ∷ 1 ∷ 0 ∷ [])) ∷
+    ("issue,s,1,0,99,40,59\n" ⇒ accepted 2) ∷
+    ("tally,7,5\n" ⇒ ok (1 ∷ 1 ∷ 0 ∷ [])) ∷
+    ("issue,s,2,0,99,40,59\n" ⇒ accepted 3) ∷
+    ("tally,7,5\n" ⇒ ok (1 ∷ 2 ∷ 0 ∷ [])) ∷
+    ("issue,s,3,0,99,40,59\n" ⇒ accepted 4) ∷
+    ("tally,7,5\n" ⇒ ok (1 ∷ 3 ∷ 0 ∷ [])) ∷
+    ("issue,s,4,0,99,40,59\n" ⇒ accepted 5) ∷
+    ("tally,7,5\n" ⇒ ok (2 ∷ 3 ∷ 0 ∷ [])) ∷
+    ("issue,s,6,0,99,40,59\n" ⇒ accepted 6) ∷
+    ("tally,7,5\n" ⇒ ok (3 ∷ 4 ∷ 0 ∷ [])) ∷
+    ("issue,s,7,0,99,40,59\n" ⇒ accepted 7) ∷
+    ("tally,7,5\n" ⇒ ok (4 ∷ 5 ∷ 0 ∷ [])) ∷
+    ("issue,s,9,0,99,40,59\n" ⇒ accepted 8) ∷
+    ("tally,7,5\n" ⇒ ok (6 ∷ 5 ∷ 0 ∷ [])) ∷
+    ("issue,s,10,0,99,40,59\n" ⇒ accepted 9) ∷
+    ("tally,7,5\n" ⇒ ok (6 ∷ 6 ∷ 0 ∷ [])) ∷
+    ("issue,s,12,0,99,40,59\n" ⇒ accepted 10) ∷
+    ("tally,7,5\n" ⇒ ok (6 ∷ 6 ∷ 1 ∷ [])) ∷
+    ("issue,s,14,0,99,40,59\n" ⇒ accepted 11) ∷
+    ("tally,7,5\n" ⇒ ok (6 ∷ 6 ∷ 1 ∷ [])) ∷
+    ("issue,r,15,0,99,40,59\n" ⇒ accepted 12) ∷
+    ("tally,7,5\n" ⇒ ok (6 ∷ 6 ∷ 1 ∷ [])) ∷
+    ("tally,7,39\n" ⇒ ok (6 ∷ 6 ∷ 1 ∷ [])) ∷
+    ("tally,7,40\n" ⇒ ok (0 ∷ 12 ∷ 1 ∷ [])) ∷
+    ("tally,7,100\n" ⇒ ok (0 ∷ 12 ∷ 1 ∷ [])) ∷
+    ("tally,6,5\n" ⇒ ok (1 ∷ 0 ∷ 0 ∷ [])) ∷
+    (("book,5,2,0,99,40,59,1,4" ∷ "hold,3" ∷ "sr" ∷ "sl,0" ∷ "af" ∷ "ax,1" ∷ []) ⇛ accepted 13) ∷
+    ("tally,7,5\n" ⇒ ok (6 ∷ 6 ∷ 1 ∷ [])) ∷
+    ("withdraw,13\n" ⇒ accepted 13) ∷
+    ("tally,7,5\n" ⇒ ok (6 ∷ 5 ∷ 1 ∷ [])) ∷
+    (("book,5,1,0,99,40,59,1,3" ∷ "hold,1" ∷ "sr" ∷ "af" ∷ "ax,0" ∷ []) ⇛ accepted 14) ∷
+    ("tally,7,5\n" ⇒ ok (7 ∷ 4 ∷ 1 ∷ [])) ∷
+    ("withdraw,14\n" ⇒ accepted 14) ∷
+    ("tally,7,5\n" ⇒ ok (6 ∷ 4 ∷ 1 ∷ [])) ∷ []
 
 abbrev pub cases : List (List Turn)
-cases = form ∷ order ∷ bookings ∷ tallies ∷ sessions ∷ breakOrder ∷ breaks ∷ []
+cases = form ∷ order ∷ bookings ∷ tallies ∷ sessions ∷ breakOrder ∷ breaks ∷ houses ∷ []
 
 abbrev pub CasesPlay : Type 0
 CasesPlay = AllAnswered cases

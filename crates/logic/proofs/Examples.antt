@@ -1,14 +1,14 @@
 -- The examples, by computation.
 use mathlib.Core.Path.{refl}
 use Rattle.logic.specs.Interval.{inBreak, has, covers, contains, reversed, broken}
-use Rattle.logic.specs.Formula.{size, count, plain}
+use Rattle.logic.specs.Formula.{size, count, houseUnder, plain}
 use Rattle.logic.specs.Weight.{weight}
 use Rattle.logic.specs.Counts.{up, even, sessionsOf, allOf, balanced}
 use Rattle.logic.specs.Examples.{twofold, Examples}
 
 pub examples : Examples
-unfolding size twofold weight count balanced allOf sessionsOf even up plain inBreak has covers contains reversed
-    broken
+unfolding size twofold weight count houseUnder balanced allOf sessionsOf even up plain inBreak has covers contains
+    reversed broken
 examples = record {
   size-of-twofold = refl;
   size-of-offer = refl;
@@ -25,6 +25,14 @@ examples = record {
   arms-alike = refl;
   plain-seat = refl;
   offer-not-plain = refl;
+  house-seat = refl;
+  bare-seat = refl;
+  host-over-house = refl;
+  house-over-host = refl;
+  beside-host = refl;
+  beside-bare = refl;
+  principal-zero = refl;
+  house-place = refl;
   overlap = refl;
   same-interval = refl;
   last-minute = refl;

@@ -5,4 +5,5 @@ pub mod Stores
 pub mod Weights
 pub mod Balance
 pub mod Conservation
+pub mod Houses
 pub mod Examples

@@ -5,7 +5,7 @@ use Prim.Native.Nat.{ℕ, zero, suc}
 use lib.IntN.{pos, negsuc}
 use Rattle.logic.specs.Interval.{span, contains, has, reversed, broken}
 use Rattle.logic.specs.Formula.{Formula, atom, one, tensor, with, plus, lolli, implies, bang, at, says, size}
-use Rattle.logic.specs.Formula.{seats, places, plain}
+use Rattle.logic.specs.Formula.{seats, places, houseSeats, plain}
 use Rattle.logic.specs.Weight.{weight}
 use Rattle.logic.specs.Counts.{balanced}
 
@@ -47,6 +47,15 @@ pub record Examples : Type 0 where
   pub arms-alike : balanced (lolli (plus seat7 place7) (at place7 (span 0 9 0 0))) ≡ true
   pub plain-seat : plain (tensor seat7 free7) ≡ true
   pub offer-not-plain : plain offer ≡ false
+  -- the nearest ⟨K⟩ above a seat decides, also through ⊗; above a bare seat there is none; principal 0 is no house
+  pub house-seat : houseSeats 7 seat7 ≡ 1
+  pub bare-seat : houseSeats 7 (atom 1 7) ≡ 0
+  pub host-over-house : houseSeats 7 (says 2 seat7) ≡ 1
+  pub house-over-host : houseSeats 7 (says 1 (says 2 (atom 1 7))) ≡ 0
+  pub beside-host : houseSeats 7 (says 1 (tensor (atom 1 7) (says 2 (atom 1 7)))) ≡ 1
+  pub beside-bare : houseSeats 7 (tensor seat7 (atom 1 7)) ≡ 1
+  pub principal-zero : houseSeats 7 (says 0 (atom 1 7)) ≡ 0
+  pub house-place : houseSeats 7 place7 ≡ 0
   -- ⊇ is containment, overlap is not; both ends are in an interval
   pub overlap : contains (span 0 599 0 0) (span 540 600 0 0) ≡ false
   pub same-interval : contains (span 540 600 0 0) (span 540 600 0 0) ≡ true

@@ -1,4 +1,5 @@
--- Formulas (document 01: what wordings stand for), their size, their seats and places, and plain ones.
+-- Formulas (document 01: what wordings stand for), their size, their seats and places, the house's seats among them,
+-- and plain ones.
 use mathlib.Core.Bool.{Bool, true, false, _&&_}
 use Prim.Native.Nat.{ℕ, _+_}
 use lib.Dec.{eqb}
@@ -58,6 +59,28 @@ seats s a = count seat s a
 
 abbrev pub places : ℕ → Formula → ℕ
 places s a = count place s a
+
+-- Document 02: "Open now counts only seats whose nearest ⟨K⟩ above them is principal 1". Principal 1 is the house.
+abbrev pub house : ℕ
+house = 1
+
+-- Those seats of session s in a formula; `under` says whether the nearest ⟨K⟩ above the formula itself is the house.
+unfoldable pub houseUnder : Bool → ℕ → Formula → ℕ
+houseUnder under s (atom p t) = bit (under && (eqb p seat && eqb t s))
+houseUnder under s one = 0
+houseUnder under s (tensor a b) = houseUnder under s a + houseUnder under s b
+houseUnder under s (with a b) = houseUnder under s a + houseUnder under s b
+houseUnder under s (plus a b) = houseUnder under s a + houseUnder under s b
+houseUnder under s (lolli a b) = houseUnder under s a + houseUnder under s b
+houseUnder under s (implies a b) = houseUnder under s a + houseUnder under s b
+houseUnder under s (bang a) = houseUnder under s a
+houseUnder under s (at a i) = houseUnder under s a
+houseUnder under s (says k a) = houseUnder (eqb k house) s a
+houseUnder under s (superset i j) = 0
+
+-- "bare ones too, go to shut": above the whole formula of a credential stands nothing
+abbrev pub houseSeats : ℕ → Formula → ℕ
+houseSeats s a = houseUnder false s a
 
 -- "Plain: only `a`, `t`, `s`."
 unfoldable pub plain : Formula → Bool

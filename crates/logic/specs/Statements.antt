@@ -8,7 +8,7 @@ use lib.Dec.{leb}
 use lib.IntN.{ℤ, pos, _+ℤ_, _-ℤ_}
 use Rattle.logic.specs.declared.Interval.{Interval}
 use Rattle.logic.specs.Interval.{span, _⊇_, contains, has, reversed, broken, WellFormed}
-use Rattle.logic.specs.Formula.{Formula, plain}
+use Rattle.logic.specs.Formula.{Formula, seats, houseSeats, plain}
 use Rattle.logic.specs.Weight.{weight, WellWeighed, BalancedFor, Balanced}
 use Rattle.logic.specs.Multiset.{Every}
 use Rattle.logic.specs.Derives.{Hyp, Judgment, holds, affirms, Derives}
@@ -44,6 +44,10 @@ BalancedTest = (a : Formula) → (balanced a ≡ true) ↔ Balanced a
 -- The signed weight is what is added less what is taken away.
 abbrev pub WeightParts : Type 0
 WeightParts = (s : ℕ) (a : Formula) → weight s a ≡ pos (up s a) -ℤ pos (down s a)
+
+-- House seats are among the seats, so that those which are not open are the other ones.
+abbrev pub HouseSeats : Type 0
+HouseSeats = (s : ℕ) (a : Formula) → houseSeats s a ≤ seats s a
 
 -- The test for ⊇ decides it for any four numbers of both intervals.
 abbrev pub ContainsTest : Type 0

@@ -17,7 +17,7 @@ pub type Window = Interval;
 // specs/Examples.antt.
 
 ghost use Rattle.logic.specs.Statements.{Conservation, PlainWeighed, BalancedTest, WeightParts};
-ghost use Rattle.logic.specs.Statements.{ContainsTest, FormedTest, SameSet, AsBefore};
+ghost use Rattle.logic.specs.Statements.{HouseSeats, ContainsTest, FormedTest, SameSet, AsBefore};
 ghost use Rattle.logic.specs.Examples.{Examples};
 
 // A derivation keeps the weight of its linear hypotheses, for every session.
@@ -38,6 +38,11 @@ pub fn balance_is_decided()
 // A weight is what is added less what is taken away.
 pub fn weight_in_parts()
     ensures { λ _. ⌜ WeightParts ⌝ }
+{}
+
+// House seats are among the seats.
+pub fn house_seats_are_seats()
+    ensures { λ _. ⌜ HouseSeats ⌝ }
 {}
 
 // The test for ⊇ decides it, and those of 3 and 43 whether an interval is one.

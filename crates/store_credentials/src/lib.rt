@@ -12,6 +12,9 @@ ghost use Rattle.ledger.specs.Calls.{withLive, withCredential};
 ghost use Rattle.store_cells.specs.Layout.{maxRows, rowCount, credentialAt};
 ghost use Rattle.store.specs.Store.{ledgerOf, Good, StandsFor, Givable, Occupied, Compacted};
 
+// Gaps that may stand among the rows in use however few are live: moving a handful of rows together is not worth it.
+const SPARE_ROWS: u32 = 16;
+
 // The credential of a row leaves: the row becomes a gap.
 pub fn remove(store: &mut Store, at: u32)
     requires { ⌜ Good (now store) × Occupied (now store) at ⌝ }
@@ -44,15 +47,29 @@ fn compact(store: &mut Store)
     head::put_row_count(store, k);
 }
 
-// A row is free: where all are in use, the live credentials move together first.
+// A row is free, and going through the rows costs what lives: where all are in use, or most of them are gaps, the live
+// credentials move together. At least every second row that is gone through has then left, so that moving adds no more
+// than a row to what each removal costs.
 fn make_room(store: &mut Store)
     requires { ⌜ Good (now store) × (length (ledgerOf (now store) .live) < maxRows) ⌝ }
     ensures { λ _. ⌜ StandsFor (now (store .exit)) (ledgerOf (now (store .entry)))
         × (rowCount (now (store .exit)) < maxRows) ⌝ }
 {
-    if head::row_count(store) == store_cells::ROWS {
+    let used = head::row_count(store);
+    let live = head::live_count(store);
+    if (used == store_cells::ROWS) | (used > 2 * live + SPARE_ROWS) {
         compact(store);
     }
+}
+
+// The credential of a row is withdrawn.
+pub fn withdraw(store: &mut Store, at: u32)
+    requires { ⌜ Good (now store) × Occupied (now store) at ⌝ }
+    ensures { λ _. ⌜ StandsFor (now (store .exit)) (withLive (ledgerOf (now (store .entry)))
+        (withoutSerial (ledgerOf (now (store .entry)) .live) (credentialAt (now (store .entry)) at .serial))) ⌝ }
+{
+    remove(store, at);
+    make_room(store);
 }
 
 // One credential more, in the next row.

@@ -68,6 +68,8 @@ fn required(long: bool) -> Vec<(&'static str, Vec<String>)> {
         ("43 in every place", all(&midday::MISFITS.concat())),
         ("fields of a window, in every place", all(&midday::FORM.concat())),
         ("about breaks", all(&about_breaks.concat())),
+        ("house seats", all(&[&house::HOUSE_SEATS[..], &house::MOVES].concat())),
+        ("house seats, by chance", all(&house::BY_CHANCE)),
     ];
     groups.extend(long.then(|| ("the last serial", all(&long::LONG))));
     groups

@@ -1,7 +1,7 @@
 //! Bookings at the limits of a sheet: 256 steps, 64 labels, 32 holds, and one more of each.
 
 use super::booking::{holds_for, place, Booking};
-use super::derivation::{arrow, ax, hr, left, or, tr, Deriv};
+use super::derivation::{af, arrow, ax, hr, left, or, sr, tr, Deriv};
 use super::grow::Grower;
 use super::late::burn;
 use super::model::Answer;
@@ -76,10 +76,13 @@ pub fn session(seed: u64) -> Session {
         assert!(b.script.lines.len() == steps && b.script.labels() == labels, "sized as said");
         play(&mut desk, &b);
     }
+    // 32 seats in one goal: bare, then the house's.
     let joined = many_singles(&mut g, 32, w);
-    let holds = holds_for(&joined, g.rng);
-    if let Some(b) = place(&mut desk, joined, holds, 5) {
-        play(&mut desk, &b);
+    for goal in [joined.clone(), sr(af(joined, HOUSE))] {
+        let holds = holds_for(&goal, g.rng);
+        if let Some(b) = place(&mut desk, goal, holds, 5) {
+            play(&mut desk, &b);
+        }
     }
     desk.tally(7, 3);
     desk.tally(8, 9);

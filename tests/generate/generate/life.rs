@@ -1,6 +1,7 @@
 //! The till over time: issues, bookings of booked coupons, withdrawals of every sort, tallies between.
 
 use super::booking::{place, Booking, Seen};
+use super::derivation::{Deriv, Hyp};
 use super::drills::exercise;
 use super::form::Kind;
 use super::grow::Grower;
@@ -29,11 +30,21 @@ fn plain(rng: &mut Rng, world: &World, depth: u32) -> Part {
 
 /// A booking of one live single for its own wording, in a window inside its own.
 fn again(desk: &mut Desk, g: &mut Grower, c: &Coupon) -> Option<Booking> {
+    booked_as(desk, g, c, |g: &mut Grower, h, w| g.identity(h, w))
+}
+
+/// A booking of one live single for what is derived from it, in a window inside its own.
+pub fn booked_as(
+    desk: &mut Desk,
+    g: &mut Grower,
+    c: &Coupon,
+    derived: fn(&mut Grower, Hyp, Window) -> Deriv,
+) -> Option<Booking> {
     let inner = inside(g.rng, c.window);
     let inner = g.rng.pick(&[inner, c.window]);
     let h = g.hyp(c.wording.clone(), c.window);
     let id = h.id;
-    let deriv = g.identity(h, inner);
+    let deriv = derived(g, h, inner);
     let hold = Hold { ids: vec![id], standing: false, wording: c.wording.clone(), window: c.window };
     let now = g.rng.pick(&minutes_of(inner));
     let mut b = place(desk, deriv, vec![hold], now)?;
@@ -142,10 +153,10 @@ fn every_end(desk: &mut Desk) {
 /// One coupon of each sort through all that can happen to it.
 pub fn fixed() -> Session {
     let mut desk = Desk::new();
-    desk.words(&["a,1,7", "l,0,0"]);
-    let booking = |serial: u32| format!("book,5,0,4,9,0,0,1,1|hold,{serial}|ax,0");
+    desk.words(&["a,1,7", "l,0,0", "s,1,0"]);
+    let booking = |serial: u32| format!("book,5,2,4,9,0,0,1,4|hold,{serial}|sr|sl,0|af|ax,1");
     for (n, kind) in ["s", "s", "s", "r"].iter().enumerate() {
-        let wording = u32::from(*kind == "r");
+        let wording = if *kind == "r" { 1 } else { 2 };
         desk.script(&format!("issue,{kind},{wording},0,9,0,0"), &format!("ok,{}", n + 1), "");
     }
     desk.script("tally,7,3", "ok,3,0,0", "tally");
@@ -161,38 +172,51 @@ pub fn fixed() -> Session {
     desk.script(&booking(2), "no,24,0", "withdrawn single held");
     desk.script("withdraw,4", "ok,4", "withdraw standing");
     desk.script("withdraw,4", "no,24,0", "withdraw dead");
-    desk.script("book,5,0,4,9,0,0,2,1|hold,3|hold,4|ax,0", "no,24,0", "withdrawn standing held");
+    let both = "book,5,2,4,9,0,0,2,4|hold,3|hold,4|sr|sl,0|af|ax,2";
+    desk.script(both, "no,24,0", "withdrawn standing held");
     desk.script("withdraw,7", "no,24,0", "withdraw dead");
-    desk.script("issue,s,0,9,9,0,0", "ok,7", "");
+    desk.script("issue,s,2,9,9,0,0", "ok,7", "");
     desk.script("tally,7,9", "ok,2,0,0", "tally");
     desk.script("tally,7,8", "ok,1,1,0", "tally");
     desk.script("tally,7,10", "ok,0,2,0", "tally");
     desk.script("tally,8,9", "ok,0,0,0", "tally");
-    desk.words(&["a,2,7", "t,2,2", "s,1,3", "a,1,255", "a,2,0", "t,5,6", "t,0,0"]);
-    for (serial, wording) in [(8, 4), (9, 7), (10, 8)] {
+    desk.words(&["a,2,7", "t,3,3", "s,1,4", "a,1,255", "a,2,0", "t,6,7", "t,0,0", "s,1,9", "s,1,8"]);
+    for (serial, wording) in [(8, 5), (9, 11), (10, 10), (11, 0), (12, 9)] {
         desk.script(&format!("issue,s,{wording},0,9,0,0"), &format!("ok,{serial}"), "");
     }
-    desk.script("tally,7,9", "ok,4,0,2", "tally");
+    desk.script("tally,7,9", "ok,4,3,2", "tally");
     desk.script("tally,255,9", "ok,1,0,0", "tally");
     desk.script("tally,0,10", "ok,0,0,1", "tally");
     desk.session("life: one of each", 0)
 }
 
-/// A full till in which coupons go and others come, many times; then every serial ever given is asked for.
+/// A full till in which coupons go and others come, many times, bare seats and the house's; then every serial ever
+/// given is asked for.
 pub fn many(seed: u64) -> Session {
     let mut rng = Rng::new(seed);
     let mut desk = Desk::new();
-    let (seat, w) = (atom(1, 7), window(0, 9));
+    let w = window(0, 9);
+    let seats = [atom(1, 7), says(HOUSE, &atom(1, 7))];
     while desk.model.live.len() < 512 {
-        desk.issue(Kind::Single, &seat, w);
+        desk.issue(Kind::Single, &rng.pick(&seats), w);
     }
-    for _ in 0..8_000 {
-        let (serial, next) = (rng.pick(&desk.model.live).serial, desk.model.given + 1);
+    for n in 0..8_000 {
+        let (c, next) = (rng.pick(&desk.model.live), desk.model.given + 1);
+        let (serial, bare) = (c.serial, c.wording == seats[0]);
         if rng.chance(1, 2) {
             desk.script(&format!("withdraw,{serial}"), &format!("ok,{serial}"), "");
-            desk.issue(Kind::Single, &seat, w);
+            desk.issue(Kind::Single, &rng.pick(&seats), w);
         } else {
-            desk.script(&format!("book,5,0,0,9,0,0,1,1|hold,{serial}|ax,0"), &format!("ok,{next}"), "");
+            let (goal, steps) = match (bare, rng.chance(1, 3)) {
+                (true, true) => (1, "3|hold,{}|sr|af|ax,0"),
+                (true, false) => (0, "1|hold,{}|ax,0"),
+                (false, _) => (1, "4|hold,{}|sr|sl,0|af|ax,1"),
+            };
+            let sheet = format!("book,5,{goal},0,9,0,0,1,{steps}").replace("{}", &serial.to_string());
+            desk.script(&sheet, &format!("ok,{next}"), "");
+        }
+        if n % 500 == 0 {
+            [9, 10].iter().for_each(|minute| desk.tally(7, *minute));
         }
     }
     desk.tally(7, 9);

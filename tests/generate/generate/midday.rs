@@ -232,17 +232,21 @@ pub const TALLY: [&str; 4] = [
     "tally: every minute about a break", "tally: largest break", "tally: after a booking", "tally: many breaks",
 ];
 
-/// Seats and places by their own minutes: wordings 0 a seat, 1 a place, 2 two seats, 3 seat and place, 4 ⟨1⟩ seat.
-const COUNTED: [(u32, (u32, u32, u32, u32)); 9] = [
-    (0, (0, 9, 4, 6)), (2, (0, 9, 5, 5)), (0, (2, 8, 0, 0)), (3, (3, 12, 7, 10)), (1, (0, 9, 4, 6)),
-    (4, (0, 13, 1, 12)), (2, (4, 6, 5, 5)), (0, (5, 5, 0, 0)), (3, (1, 11, 6, 8)),
+/// Seats and places by their own minutes: wordings 0 a seat, 1 a place, 2 two seats, 3 seat and place, 4 ⟨1⟩ seat;
+/// 6 and 7 are 2 and 3 under ⟨1⟩, 8 is 4 and 0 beside each other.
+const COUNTED: [(u32, (u32, u32, u32, u32)); 11] = [
+    (4, (0, 9, 4, 6)), (6, (0, 9, 5, 5)), (4, (2, 8, 0, 0)), (7, (3, 12, 7, 10)), (1, (0, 9, 4, 6)),
+    (4, (0, 13, 1, 12)), (6, (4, 6, 5, 5)), (4, (5, 5, 0, 0)), (7, (1, 11, 6, 8)), (8, (1, 11, 4, 6)),
+    (2, (0, 9, 5, 7)),
 ];
-const SEATS: [u32; 5] = [1, 0, 2, 1, 1];
+/// House seats, other seats and places of each.
+const SEATS: [(u32, u32, u32); 9] =
+    [(0, 1, 0), (0, 0, 1), (0, 2, 0), (0, 1, 1), (1, 0, 0), (0, 0, 0), (2, 0, 0), (1, 0, 1), (1, 1, 0)];
 
 /// Every minute about the breaks, the figures from the sets.
 fn tally() -> Session {
     let mut desk = Desk::new();
-    desk.words(&["a,1,7", "a,2,7", "t,0,0", "t,0,1", "s,1,0", "l,0,0"]);
+    desk.words(&["a,1,7", "a,2,7", "t,0,0", "t,0,1", "s,1,0", "l,4,4", "s,1,2", "s,1,3", "t,4,0"]);
     desk.script("issue,r,5,0,9,4,6", "ok,1", "");
     let mut live: Vec<(u32, Window)> = vec![];
     for (n, (wording, (from, to, first, last))) in COUNTED.iter().enumerate() {
@@ -251,16 +255,16 @@ fn tally() -> Session {
         desk.script(&format!("issue,s,{wording},{}", w.text()), &format!("ok,{}", n + 2), "");
         figures(&mut desk, &live, if n == 0 { TALLY[0] } else { TALLY[3] });
     }
-    // Serial 2 is booked for a shorter window with a longer break: 11.
-    desk.script("book,1,0,1,8,3,7,1,1|hold,2|ax,0", "ok,11", "");
-    live[0] = (0, with_break(1, 8, 3, 7));
+    // Serial 2 is booked for a shorter window with a longer break: 13.
+    desk.script("book,1,4,1,8,3,7,1,4|hold,2|sr|sl,0|af|ax,1", "ok,13", "");
+    live[0] = (4, with_break(1, 8, 3, 7));
     figures(&mut desk, &live, TALLY[2]);
     desk.script("withdraw,3", "ok,3", "withdraw single");
     live.remove(1);
     figures(&mut desk, &live, TALLY[2]);
-    desk.words(&["a,1,8"]);
-    desk.script("issue,s,6,0,9999999,1,9999998", "ok,12", "");
-    desk.script("issue,s,6,9999997,9999999,9999998,9999998", "ok,13", "");
+    desk.words(&["a,1,8", "s,1,9"]);
+    desk.script("issue,s,10,0,9999999,1,9999998", "ok,14", "");
+    desk.script("issue,s,10,9999997,9999999,9999998,9999998", "ok,15", "");
     let last = [
         (0, "ok,1,1,0"), (1, "ok,0,2,0"), (5_000_000, "ok,0,2,0"), (9_999_996, "ok,0,2,0"), (9_999_997, "ok,1,1,0"),
         (9_999_998, "ok,0,2,0"), (9_999_999, "ok,2,0,0"),
@@ -275,11 +279,11 @@ fn figures(desk: &mut Desk, live: &[(u32, Window)], mark: &'static str) {
     for minute in 0..16 {
         let (mut open, mut shut, mut placed) = (0, 0, 0);
         for (wording, w) in live {
-            let seats = SEATS[*wording as usize];
+            let (house, other, places) = SEATS[*wording as usize];
             let has = set(*w) >> minute & 1;
-            open += has * seats;
-            shut += (1 - has) * seats;
-            placed += u32::from(matches!(wording, 1 | 3));
+            open += has * house;
+            shut += (1 - has) * house + other;
+            placed += places;
         }
         desk.script(&format!("tally,7,{minute}"), &format!("ok,{open},{shut},{placed}"), mark);
         desk.mark(&desk.model.breaks_at(7, minute));

@@ -42,7 +42,7 @@ pub enum Steps {
     Unknown,
 }
 
-/// Tallies about a break.
+/// Tallies about a break, with seats of the house.
 pub const TALLIED: [&str; 4] = [
     "tally: last minute before a break", "tally: first minute of a break", "tally: last minute of a break",
     "tally: first minute after a break",
@@ -161,10 +161,10 @@ impl Model {
         singles.into_iter().any(|c| c.wording.sessions().into_iter().any(of))
     }
 
-    /// How the minute lies to the breaks of live singles with a seat of the session.
+    /// How the minute lies to the breaks of live singles with a house seat of the session.
     pub fn breaks_at(&self, session: u32, minute: u32) -> Vec<&'static str> {
-        let seats = |c: &&Coupon| c.kind == Kind::Single && c.wording.count(1, session) > 0 && c.window.has_break();
-        let names = self.live.iter().filter(seats).flat_map(|c| {
+        let seated = |c: &&Coupon| c.kind == Kind::Single && c.wording.house_seats(session, None) > 0;
+        let names = self.live.iter().filter(seated).filter(|c| c.window.has_break()).flat_map(|c| {
             let w = c.window;
             let at = [w.first - 1 == minute, w.first == minute, w.last == minute, w.last + 1 == minute];
             (0..4).filter(move |n| at[*n]).map(|n| TALLIED[n])
@@ -175,12 +175,9 @@ impl Model {
     fn tally(&self, session: u32, minute: u32) -> Answer {
         let (mut open, mut shut, mut placed) = (0, 0, 0);
         for c in self.live.iter().filter(|c| c.kind == Kind::Single) {
-            let seats = c.wording.count(1, session);
-            if c.window.has(minute) {
-                open += seats;
-            } else {
-                shut += seats;
-            }
+            let house = if c.window.has(minute) { c.wording.house_seats(session, None) } else { 0 };
+            open += house;
+            shut += c.wording.count(1, session) - house;
             placed += c.wording.count(2, session);
         }
         Counted(open, shut, placed)

@@ -136,6 +136,7 @@ impl Desk {
         self.play(format!("tally,{session},{minute}\n").as_bytes(), Steps::Close);
         self.mark(&["tally"]);
         self.mark(&self.model.breaks_at(session, minute));
+        self.mark(&super::house::tallied(&self.model, session, minute));
         if self.model.seated(&|s| alike(s, session)) {
             let both = self.model.seated(&|s| s == session);
             self.mark(&[if both { "alike: tally of both" } else { "alike: tally of the other" }]);

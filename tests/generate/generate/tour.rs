@@ -17,7 +17,7 @@ pub const ENDS: [[&str; 7]; 2] = [
 ];
 pub const TOUR: [&str; 16] = [
     "predicate past 255", "principal past 255", "past 255: M1", "past 255: straight through",
-    "past 255: two hundred alike", "apart: lines", "apart: offer within a session", "apart: offer across sessions",
+    "past 255: many alike", "apart: lines", "apart: offer within a session", "apart: offer across sessions",
     "apart: tally", "apart: ax", "apart: ax after other steps", "apart: booked", "apart: withdrawn",
     "apart: withdrawn for both", "apart: tally of a third", "apart: clauses of balance",
 ];
@@ -42,7 +42,8 @@ const ZEROS: [&str; 9] = ["00", "07", "0255", "0256", "0263", "065535", "0065535
 /// Past a byte's range, by one and by what a cut would make a seat, a place or 255.
 const NO_BYTE: [u32; 9] = [256, 257, 258, 263, 511, 65_535, 65_536, 65_537, 65_791];
 
-/// The field of an atom and that of a tally at the ends of the range and past it.
+/// The field of an atom and that of a tally at the ends of the range and past it: a bare seat, and one to eight of the
+/// house.
 fn ends() -> Session {
     let mut desk = Desk::new();
     desk.words(&["a,1,7"]);
@@ -55,15 +56,16 @@ fn ends() -> Session {
         }
         desk.script(&format!("tally,{session},5"), "ok,0,0,0", ENDS[1][*place]);
         let seat = desk.model.lines.len() - 4;
-        for _ in 0..=n {
+        desk.words(&[&format!("s,1,{seat}")]);
+        for wording in std::iter::once(seat).chain(vec![seat + 4; n + 1]) {
             let serial = desk.model.given + 1;
-            desk.script(&format!("issue,s,{seat},0,9,0,0"), &format!("ok,{serial}"), "");
+            desk.script(&format!("issue,s,{wording},0,9,0,0"), &format!("ok,{serial}"), "");
         }
     }
     beyond(&mut desk);
     for (n, (session, place)) in GOOD.iter().enumerate() {
-        desk.script(&format!("tally,{session},9"), &format!("ok,{},0,0", n + 1), ENDS[1][*place]);
-        desk.script(&format!("tally,{session},10"), &format!("ok,0,{},0", n + 1), ENDS[1][*place]);
+        desk.script(&format!("tally,{session},9"), &format!("ok,{},1,0", n + 1), ENDS[1][*place]);
+        desk.script(&format!("tally,{session},10"), &format!("ok,0,{},0", n + 2), ENDS[1][*place]);
     }
     desk.script("tally,7,5", "ok,0,0,0", "apart: tally of a third");
     desk.session("tour: ends", 0)
@@ -105,33 +107,43 @@ fn m1(session: u32) -> Session {
     desk.session("tour: M1", 0)
 }
 
-/// A seat's session or a place's, by turns, with so many live ones.
-fn counted(k: usize, live: u32) -> String {
-    if k.is_multiple_of(2) { format!("ok,{live},0,0") } else { format!("ok,0,0,{live}") }
+/// A seat's session or a place's, by turns, with so many live ones: open if they are the house's.
+fn counted(k: usize, live: u32, house: bool) -> String {
+    match (k.is_multiple_of(2), house) {
+        (true, true) => format!("ok,{live},0,0"),
+        (true, false) => format!("ok,0,{live},0"),
+        _ => format!("ok,0,0,{live}"),
+    }
 }
 
-/// Two hundred sessions in one till, from the first on by equal steps, one to four coupons each.
-fn straight(first: u32, step: u32, mark: &'static str) -> Session {
+/// Two hundred sessions in one till, from the first on by equal steps, one to four coupons each; or half as many, all
+/// under ⟨1⟩.
+fn straight(first: u32, step: u32, house: bool, mark: &'static str) -> Session {
     let mut desk = Desk::new();
     let session = |k: usize| first + k as u32 * step;
-    let (mut live, mut firsts) = ([0; 200], [0; 200]);
-    for k in 0..200 {
+    let many = if house { 100 } else { 200 };
+    let (mut live, mut firsts) = (vec![0; many], vec![0; many]);
+    for k in 0..many {
         desk.words(&[&format!("a,{},{}", 1 + k % 2, session(k))]);
+        if house {
+            desk.words(&[&format!("s,1,{}", 2 * k)]);
+        }
+        let wording = desk.model.lines.len() - 1;
         firsts[k] = desk.model.given + 1;
         live[k] = 1 + k as u32 % 4;
         for serial in firsts[k]..firsts[k] + live[k] {
-            desk.script(&format!("issue,s,{k},0,9,0,0"), &format!("ok,{serial}"), "");
+            desk.script(&format!("issue,s,{wording},0,9,0,0"), &format!("ok,{serial}"), "");
         }
-        desk.script(&format!("tally,{},9", session(k)), &counted(k, live[k]), mark);
+        desk.script(&format!("tally,{},9", session(k)), &counted(k, live[k], house), mark);
     }
-    for k in (0..200).step_by(3) {
+    for k in (0..many).step_by(3) {
         desk.script(&format!("withdraw,{}", firsts[k]), &format!("ok,{}", firsts[k]), "");
         live[k] -= 1;
     }
-    for k in 0..200 {
-        desk.script(&format!("tally,{},9", session(k)), &counted(k, live[k]), mark);
+    for k in 0..many {
+        desk.script(&format!("tally,{},9", session(k)), &counted(k, live[k], house), mark);
     }
-    let named = |s: u32| (0..200).any(|k| session(k) == s);
+    let named = |s: u32| (0..many).any(|k| session(k) == s);
     for other in (first % 256..=LAST_SESSION).step_by(256).filter(|s| !named(*s)) {
         desk.script(&format!("tally,{other},9"), "ok,0,0,0", mark);
     }
@@ -147,10 +159,10 @@ const LINES: [(&str, Option<bool>); 22] = [
     ("l,17,2", Some(true)), ("t,11,12", Some(true)), ("t,0,0", None), ("l,8,20", Some(false)),
 ];
 
-/// Coupons 8 to 22: wording, window and how many.
-const SINGLES: [(u32, &str, u32); 10] = [
+/// Coupons 8 to 30: wording, window and how many. From 23 on they are seats of the house, as 19 and 20 are.
+const SINGLES: [(u32, &str, u32); 14] = [
     (0, "0,9", 2), (0, "0,5", 1), (1, "0,9", 3), (1, "0,5", 2), (2, "0,9", 1), (3, "0,9", 2), (6, "0,9", 1),
-    (7, "0,9", 1), (8, "0,9", 1), (4, "0,9", 1),
+    (7, "0,9", 1), (8, "0,9", 1), (4, "0,9", 1), (6, "0,9", 2), (6, "0,5", 1), (7, "0,9", 3), (7, "0,5", 2),
 ];
 
 /// Bookings with a coupon of the other session: goal and holds, steps, the step that is wrong.
@@ -165,20 +177,22 @@ const CROSSED: [(&str, &str, u32); 14] = [
     ("13|5|8|11", "cp,0|ll,3,0000000000000006,5,9,0,0|tr,0000000000000002|ax,1|ax,2|tl,4|tr,0000000000000040|ax,6|ax,5", 8),
 ];
 
-/// The same with coupons of the right sessions, serials 23 to 32.
+/// The same with coupons of the right sessions, serials 31 to 40.
 const STRAIGHT: [(&str, &str); 10] = [
     ("0|8", "ax,0"), ("1|11", "ax,0"),
     ("2|3|9", "cp,0|ll,2,0000000000000002,5,9,0,0|ax,1|ax,3"), ("3|4|12", "cp,0|ll,2,0000000000000002,5,9,0,0|ax,1|ax,3"),
     ("4|1", "cp,0|ax,1"), ("5|2", "cp,0|ax,1"), ("6|19", "sr|sl,0|af|ax,1"), ("7|20", "sr|sl,0|af|ax,1"),
     ("8|21", "tl,0|tr,0000000000000002|ax,1|ax,2"),
-    ("13|5|23|24", "cp,0|ll,3,0000000000000006,5,9,0,0|tr,0000000000000002|ax,1|ax,2|tl,4|tr,0000000000000020|ax,5|ax,6"),
+    ("13|5|31|32", "cp,0|ll,3,0000000000000006,5,9,0,0|tr,0000000000000002|ax,1|ax,2|tl,4|tr,0000000000000020|ax,5|ax,6"),
 ];
 
 /// Withdrawals, each with the two tallies at minute 5 after it.
-const WITHDRAWN: [(u32, &str, &str, &str); 5] = [
-    (10, "ok,2,0,3", "ok,5,0,4", "apart: withdrawn"), (13, "ok,2,0,3", "ok,4,0,4", "apart: withdrawn"),
-    (31, "ok,1,0,3", "ok,3,0,4", "apart: withdrawn for both"),
-    (32, "ok,1,0,2", "ok,3,0,3", "apart: withdrawn for both"), (3, "ok,1,0,2", "ok,3,0,3", "apart: withdrawn"),
+const WITHDRAWN: [(u32, &str, &str, &str); 8] = [
+    (10, "ok,4,1,3", "ok,6,4,4", "apart: withdrawn"), (13, "ok,4,1,3", "ok,6,3,4", "apart: withdrawn"),
+    (39, "ok,4,0,3", "ok,6,2,4", "apart: withdrawn for both"),
+    (40, "ok,4,0,2", "ok,6,2,3", "apart: withdrawn for both"), (3, "ok,4,0,2", "ok,6,2,3", "apart: withdrawn"),
+    (25, "ok,3,0,2", "ok,6,2,3", "apart: withdrawn"), (37, "ok,2,0,2", "ok,6,2,3", "apart: withdrawn"),
+    (29, "ok,2,0,2", "ok,5,2,3", "apart: withdrawn"),
 ];
 
 /// Two sessions in one till.
@@ -235,20 +249,20 @@ impl Two {
 fn apart(s: u32, t: u32) -> Session {
     let mut two = Two { desk: Desk::new(), s, t };
     two.coupons();
-    two.tallies(5, "ok,5,0,1", "ok,7,0,2");
-    two.tallies(6, "ok,4,1,1", "ok,5,2,2");
-    two.tallies(10, "ok,0,5,1", "ok,0,7,2");
+    two.tallies(5, "ok,4,4,1", "ok,6,6,2");
+    two.tallies(6, "ok,3,5,1", "ok,4,8,2");
+    two.tallies(10, "ok,0,8,1", "ok,0,12,2");
     for (head, steps, step) in CROSSED {
         let mark = if step == 1 { "apart: ax" } else { "apart: ax after other steps" };
         two.book(head, steps, &format!("no,40,{step}"), mark);
     }
-    two.tallies(5, "ok,5,0,1", "ok,7,0,2");
+    two.tallies(5, "ok,4,4,1", "ok,6,6,2");
     for (n, (head, steps)) in STRAIGHT.iter().enumerate() {
-        two.book(head, steps, &format!("ok,{}", 23 + n), "apart: booked");
+        two.book(head, steps, &format!("ok,{}", 31 + n), "apart: booked");
     }
-    two.tallies(4, "ok,1,2,3", "ok,3,2,4");
-    two.tallies(5, "ok,3,0,3", "ok,5,0,4");
-    two.tallies(6, "ok,2,1,3", "ok,3,2,4");
+    two.tallies(4, "ok,3,3,3", "ok,5,5,4");
+    two.tallies(5, "ok,4,2,3", "ok,6,4,4");
+    two.tallies(6, "ok,3,3,3", "ok,4,6,4");
     for (serial, of_s, of_t, mark) in WITHDRAWN {
         two.desk.script(&format!("withdraw,{serial}"), &format!("ok,{serial}"), mark);
         two.tallies(5, of_s, of_t);
@@ -266,8 +280,10 @@ pub fn sessions() -> Vec<Session> {
         (0, 65_280), (7, 32_775), (255, 256), (7, 1_792), (4_660, 13_330), (65_534, LAST_SESSION),
     ];
     all.extend(pairs.map(|(s, t)| apart(s, t)));
-    all.push(straight(65_336, 1, "past 255: straight through"));
-    all.push(straight(156, 1, "past 255: straight through"));
-    all.extend([7, 14_591].map(|first| straight(first, 256, "past 255: two hundred alike")));
+    for house in [false, true] {
+        let last = if house { 65_436 } else { 65_336 };
+        all.extend([last, 156].map(|first| straight(first, 1, house, "past 255: straight through")));
+        all.extend([7, 14_591].map(|first| straight(first, 256, house, "past 255: many alike")));
+    }
     all
 }

@@ -7,6 +7,9 @@ pub const LAST_MINUTE: u32 = 9_999_999;
 /// The last session number, in atoms and in tally; predicates and principals end at 255.
 pub const LAST_SESSION: u32 = 65_535;
 
+/// The principal of the house: open counts the seats whose nearest ⟨K⟩ is this one's, and no others.
+pub const HOUSE: u32 = 1;
+
 /// Two session numbers that differ by a multiple of 256: a byte would not tell them apart.
 pub fn alike(a: u32, b: u32) -> bool {
     a != b && a % 256 == b % 256
@@ -160,6 +163,24 @@ impl Wording {
     pub fn count(&self, predicate: u32, session: u32) -> u32 {
         let here = u32::from(*self == Atom(predicate, session));
         here + self.parts().iter().map(|p| p.count(predicate, session)).sum::<u32>()
+    }
+
+    /// The house's seats of the session, where this principal's ⟨K⟩ is the nearest above the whole wording.
+    pub fn house_seats(&self, session: u32, above: Option<u32>) -> u32 {
+        match self {
+            Atom(..) => u32::from(*self == Atom(1, session) && above == Some(HOUSE)),
+            Says(k, a) => a.house_seats(session, Some(*k)),
+            _ => self.parts().iter().map(|p| p.house_seats(session, above)).sum(),
+        }
+    }
+
+    /// For each seat of the session the principals of the ⟨K⟩ above it, the outermost first.
+    pub fn above_seats(&self, session: u32) -> Vec<Vec<u32>> {
+        match self {
+            Atom(..) => vec![vec![]; self.count(1, session) as usize],
+            Says(k, a) => a.above_seats(session).iter().map(|above| [&[*k], above.as_slice()].concat()).collect(),
+            _ => self.parts().iter().flat_map(|p| p.above_seats(session)).collect(),
+        }
     }
 
     pub fn weight(&self, session: u32) -> i64 {

@@ -7,6 +7,7 @@ pub struct World {
     pub now: u32,
     /// Three, of which the first two are alike.
     pub sessions: Vec<u32>,
+    /// The house's and two more.
     pub principals: Vec<u32>,
     /// Predicates other than seat and place.
     pub free: Vec<u32>,
@@ -106,7 +107,7 @@ impl World {
         World {
             now,
             sessions: World::sessions(rng),
-            principals: pair(rng),
+            principals: [vec![HOUSE], pair(rng)].concat(),
             free: vec![rng.pick(&[0, 3, 255]), rng.between(3, 254)],
             windows,
         }

@@ -315,9 +315,10 @@ fn refusal_30_exactly_if_the_window_lacks_the_minute() {
 
 #[test]
 fn tally_shuts_the_seats_of_a_window_in_its_break() {
-    let mut till = till_after(&["word,a,1,7", "word,a,2,7", "word,t,0,1", "word,t,2,0", "issue,s,0,0,0,0,0"]);
+    let words = ["word,a,1,7", "word,a,2,7", "word,s,1,0", "word,t,2,1", "word,t,3,2"];
+    let mut till = till_after(&[&words[..], &["issue,s,2,0,0,0,0"]].concat());
     for (number, window) in (2..).zip(windows(9)) {
-        assert_eq!(ask(&mut till, &format!("issue,s,3,{}", fields(window))), Done(number));
+        assert_eq!(ask(&mut till, &format!("issue,s,4,{}", fields(window))), Done(number));
         for minute in 0..=10 {
             let (other, open) = (u32::from(minute == 0), set(window) >> minute & 1);
             let wanted = Counted(2 * open + other, 2 * (1 - open) + 1 - other, 1);
@@ -330,10 +331,10 @@ fn tally_shuts_the_seats_of_a_window_in_its_break() {
 #[test]
 fn tally_goes_by_each_coupons_own_break() {
     let issues = [
-        "issue,s,0,0,900,300,400", "issue,s,0,0,900,350,450", "issue,s,0,0,900,0,0",
-        "issue,s,0,380,400,390,390",
+        "issue,s,1,0,900,300,400", "issue,s,1,0,900,350,450", "issue,s,1,0,900,0,0",
+        "issue,s,1,380,400,390,390",
     ];
-    let mut till = till_after(&[&["word,a,1,7"][..], &issues].concat());
+    let mut till = till_after(&[&["word,a,1,7", "word,s,1,0"][..], &issues].concat());
     let open = [
         (0, 3),
         (299, 3),
@@ -495,10 +496,12 @@ fn hl_and_hr_move_to_the_window_with_its_break() {
 
 #[test]
 fn a_booked_coupon_has_the_heads_break() {
-    let requests = ["word,a,1,7", "issue,s,0,0,900,0,0", "book,0,0,0,900,300,400,1,1\nhold,1\nax,0"];
+    let book = "book,0,1,0,900,300,400,1,4\nhold,1\nsr\nsl,0\naf\nax,1";
+    let requests = ["word,a,1,7", "word,s,1,0", "issue,s,1,0,900,0,0", book];
     for (minute, open) in [(0, 1), (299, 1), (300, 0), (350, 0), (400, 0), (401, 1), (900, 1), (901, 0)] {
         assert_eq!(after(&requests, &format!("tally,7,{minute}")), Counted(open, 1 - open, 0), "{minute}");
     }
+    let requests = ["word,a,1,7", "issue,s,0,0,900,0,0", "book,0,0,0,900,300,400,1,1\nhold,1\nax,0"];
     let again =
         |now: u32, window: &str| after(&requests, &booking(&format!("{now},0,{window}"), &[2], &["ax,0"]));
     for window in ["0,299,0,0", "0,900,300,400", "0,900,299,401", "0,800,200,500", "0,299,100,200"] {

@@ -5,6 +5,7 @@ use super::Answer::{Counted, Done, Refused};
 use super::{Answer, Till};
 
 mod breaks;
+mod house;
 mod ranges;
 mod rules;
 mod state;

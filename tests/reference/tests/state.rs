@@ -85,11 +85,13 @@ fn thirty_two_sessions_in_a_wording() {
     }
     assert_eq!(ask(&mut till, "issue,s,62,0,9,0,0"), Done(1));
     assert_eq!(ask(&mut till, "word,s,1,62"), Done(63));
-    assert_eq!(ask(&mut till, "issue,s,63,5,9,0,0"), Done(2));
+    assert_eq!(ask(&mut till, "issue,s,63,0,9,0,0"), Done(2));
+    assert_eq!(ask(&mut till, "issue,s,63,5,9,0,0"), Done(3));
     assert_eq!(ask(&mut till, "word,t,0,62"), Refused(12, 0));
     for session in &sessions {
-        assert_eq!(ask(&mut till, &format!("tally,{session},0")), Counted(1, 1, 0));
-        assert_eq!(ask(&mut till, &format!("tally,{session},5")), Counted(2, 0, 0));
+        // the seat of the first is bare
+        assert_eq!(ask(&mut till, &format!("tally,{session},0")), Counted(1, 2, 0));
+        assert_eq!(ask(&mut till, &format!("tally,{session},5")), Counted(2, 1, 0));
         if *session > 0 {
             assert_eq!(ask(&mut till, &format!("tally,{},5", session - 1)), Counted(0, 0, 0));
         }
@@ -182,8 +184,9 @@ fn plain_standing_coupons_need_balance_not_plainness_alone() {
 #[test]
 fn tally_counts_seats_by_window_and_places_in_any() {
     let mut till = till_after(&[
-        "word,a,1,7", "word,a,2,7", "word,a,1,8", "word,t,0,0", "word,t,3,1", "word,s,1,4", "word,t,5,2",
-        "issue,s,6,10,20,0,0", "issue,s,0,15,30,0,0", "issue,s,1,0,5,0,0", "issue,s,2,12,12,0,0",
+        "word,a,1,7", "word,a,2,7", "word,a,1,8", "word,t,0,0", "word,t,3,1", "word,s,1,4", "word,s,1,2",
+        "word,t,5,6", "word,s,1,0", "issue,s,7,10,20,0,0", "issue,s,8,15,30,0,0", "issue,s,1,0,5,0,0",
+        "issue,s,6,12,12,0,0",
     ]);
     assert_eq!(ask(&mut till, "tally,7,9"), Counted(0, 3, 2));
     assert_eq!(ask(&mut till, "tally,7,10"), Counted(2, 1, 2));
@@ -202,7 +205,8 @@ fn tally_tells_sessions_apart() {
     for (one, other) in APART {
         let words = [format!("word,a,1,{one}"), format!("word,a,1,{other}"), format!("word,a,2,{other}")];
         let coupons = [
-            "word,t,0,1", "issue,s,0,0,9,0,0", "issue,s,1,0,4,0,0", "issue,s,2,0,9,0,0", "issue,s,3,5,9,0,0",
+            "word,s,1,0", "word,s,1,1", "word,t,3,4", "issue,s,3,0,9,0,0", "issue,s,4,0,4,0,0",
+            "issue,s,2,0,9,0,0", "issue,s,5,5,9,0,0",
         ];
         let mut till = till_after(&[&[&words[0][..], &words[1], &words[2]][..], &coupons].concat());
         assert_eq!(ask(&mut till, &format!("tally,{one},0")), Counted(1, 1, 0), "{one} {other}");
@@ -240,8 +244,8 @@ fn a_session_past_255_is_moved_by_a_booking_and_stays_in_its_sum() {
 
 #[test]
 fn tally_leaves_standing_coupons_out() {
-    let words = ["word,a,1,7", "word,a,2,7", "word,l,0,1"];
-    let mut till = till_after(&[&words[..], &["issue,r,2,0,9,0,0", "issue,s,0,0,9,0,0"]].concat());
+    let words = ["word,a,1,7", "word,a,2,7", "word,s,1,0", "word,l,2,1"];
+    let mut till = till_after(&[&words[..], &["issue,r,3,0,9,0,0", "issue,s,2,0,9,0,0"]].concat());
     assert_eq!(ask(&mut till, "tally,7,0"), Counted(1, 0, 0));
     assert_eq!(ask(&mut till, "withdraw,1"), Done(1));
     assert_eq!(ask(&mut till, "tally,7,0"), Counted(1, 0, 0));
@@ -268,12 +272,13 @@ fn a_booking_spends_singles_keeps_standing_and_gives_the_goal() {
 
 #[test]
 fn a_refused_booking_moves_nothing() {
-    let mut till = till_after(&["word,a,1,7", "issue,s,0,0,9,0,0"]);
-    for steps in [&["or"][..], &["ax,0", "ax,0"], &["ax,1"]] {
-        assert!(matches!(ask(&mut till, &booking("0,0,0,9,0,0", &[1], steps)), Refused(40..=42, _)));
+    let mut till = till_after(&["word,a,1,7", "word,s,1,0", "issue,s,1,0,9,0,0"]);
+    let right = ["sr", "sl,0", "af", "ax,1"];
+    for steps in [&["or"][..], &["sr", "sl,0", "af", "ax,1", "ax,1"], &right[..3], &["ax,1"]] {
+        assert!(matches!(ask(&mut till, &booking("0,1,0,9,0,0", &[1], steps)), Refused(40..=42, _)));
         assert_eq!(ask(&mut till, "tally,7,0"), Counted(1, 0, 0));
     }
-    assert_eq!(ask(&mut till, &booking("0,0,0,9,0,0", &[1], &["ax,0"])), Done(2));
+    assert_eq!(ask(&mut till, &booking("0,1,0,9,0,0", &[1], &right)), Done(2));
 }
 
 /// One standing coupon (serial 1) and 511 singles, all of the free atom 0.
@@ -360,7 +365,7 @@ impl Numbers {
 
 #[test]
 fn live_serials_are_found_as_in_a_plain_list() {
-    let mut till = till_after(&["word,a,1,7"]);
+    let mut till = till_after(&["word,a,1,7", "word,s,1,0"]);
     let mut live: Vec<u32> = Vec::new();
     let mut last = 0;
     let mut numbers = Numbers(7);
@@ -368,7 +373,7 @@ fn live_serials_are_found_as_in_a_plain_list() {
         let issues = if turn / 3000 % 2 == 0 { 6 } else { 4 };
         if numbers.below(10) < issues {
             let wanted = if live.len() < 512 { Done(last + 1) } else { Refused(22, 0) };
-            assert_eq!(ask(&mut till, "issue,s,0,0,9,0,0"), wanted);
+            assert_eq!(ask(&mut till, "issue,s,1,0,9,0,0"), wanted);
             if let Done(serial) = wanted {
                 live.push(serial);
                 last = serial;
@@ -389,6 +394,9 @@ fn live_serials_are_found_as_in_a_plain_list() {
 
 /// Sessions of the random wordings below.
 const SESSIONS: [u32; 7] = [0, 7, 255, 263, 32_767, 65_279, 65_535];
+
+/// Principals of the random wordings below, the house twice.
+const PRINCIPALS: [usize; 5] = [0, 1, 1, 2, 255];
 
 /// A wording line as letter and numbers, for the plain recursions below.
 type Line = (char, usize, usize);
@@ -438,6 +446,18 @@ fn count(lines: &[Line], id: usize, predicate: usize, session: usize) -> u32 {
     }
 }
 
+/// How many seats of a session have principal 1 as their nearest ⟨K⟩; `nearest` is the one around
+/// the wording, if any.
+fn house(lines: &[Line], id: usize, session: usize, nearest: Option<usize>) -> u32 {
+    let (letter, i, j) = lines[id];
+    match letter {
+        'a' => u32::from(i == 1 && j == session && nearest == Some(1)),
+        'b' => house(lines, i, session, nearest),
+        's' => house(lines, j, session, Some(i)),
+        _ => house(lines, i, session, nearest) + house(lines, j, session, nearest),
+    }
+}
+
 /// Adds a random line if the till takes it.
 fn grow(till: &mut Till, lines: &mut Vec<Line>, numbers: &mut Numbers) {
     let letter = ['a', 't', 'w', 'p', 'l', 'u', 'b', 's', 't', 'l'][numbers.below(10)];
@@ -445,7 +465,7 @@ fn grow(till: &mut Till, lines: &mut Vec<Line>, numbers: &mut Numbers) {
     let line = match letter {
         'a' => (letter, numbers.below(4), SESSIONS[numbers.below(SESSIONS.len())] as usize),
         _ if count == 0 => return,
-        's' => (letter, numbers.below(256), numbers.below(count)),
+        's' => (letter, PRINCIPALS[numbers.below(PRINCIPALS.len())], numbers.below(count)),
         _ => (letter, numbers.below(count), numbers.below(count)),
     };
     let (_, i, j) = line;
@@ -480,7 +500,9 @@ fn balance_and_tally_are_those_of_a_plain_recursion() {
             let sum = |predicate| {
                 singles.iter().map(|&id| count(&lines, id, predicate, session as usize)).sum::<u32>()
             };
-            assert_eq!(ask(&mut till, &format!("tally,{session},0")), Counted(sum(1), 0, sum(2)));
+            let open = singles.iter().map(|&id| house(&lines, id, session as usize, None)).sum::<u32>();
+            let wanted = Counted(open, sum(1) - open, sum(2));
+            assert_eq!(ask(&mut till, &format!("tally,{session},0")), wanted, "{singles:?} {lines:?}");
             assert_eq!(ask(&mut till, &format!("tally,{session},10")), Counted(0, sum(1), sum(2)));
         }
     }

@@ -15,8 +15,8 @@ returns c =
     (subst (λ (f : Found). Finds (now (start .args .store)) (start .args .serial) f) (c .enum-told .given .1)
     (c .before .before .find .ensures))
 
-remove-requires : tie.Need-remove-requires
-remove-requires c κs =
+withdraw-requires : tie.Need-withdraw-requires
+withdraw-requires c κs =
     let start = c .before .before .before .before .before .before in
     let f = subst (λ (f : Found). Finds (now (start .args .store)) (start .args .serial) f)
     (c .before .before .found .given .1) (c .before .before .before .before .find .ensures) in
@@ -28,7 +28,7 @@ returns-2 c =
     let start = found .before .before .before .before in
     let f = subst (λ (f : Found). Finds (now (start .args .store)) (start .args .serial) f)
     (found .found .given .1) (found .before .before .find .ensures) in
-    withdraw-done (now (start .args .store)) _ (start .args .serial) _ _ f (c .remove .ensures)
+    withdraw-done (now (start .args .store)) _ (start .args .serial) _ _ f (c .withdraw .ensures)
 
 pub withdraw-spec : {M : Type 1} → statement M
 withdraw-spec =
@@ -38,5 +38,5 @@ withdraw-spec =
     (λ c. search needs)
     (λ c. search needs)
     returns
-    remove-requires
+    withdraw-requires
     returns-2)

@@ -8,7 +8,7 @@ use denote.Ref.{now}
 use Rattle.ledger.specs.Checks.{maxFormulas}
 use Rattle.store.specs.Store.{ledgerOf}
 use Rattle.formula_tally.specs.Column.{Countable}
-use Rattle.formula_tally.specs.Tally.{bothRow, Counted}
+use Rattle.formula_tally.specs.Tally.{rowCounts, Counted}
 use Rattle.formula_tally.proofs.Counting.{none-counted, countable, counted-next, counted-all}
 use Rattle.formula_tally.proofs.count_rows.Statement.{statement}
 use Rattle.formula_tally.proofs.count_rows.Tie as tie
@@ -55,7 +55,7 @@ loop-again c =
     let s = at .before .before .before in (
       search needs,
       counted-next (now (s .args .store)) _ (s .pre .0) (at .loop .i) _ (turn (r .before)) (at .loop .inv .1) _
-          (c .count-row .ensures ∙ ap (bothRow _ _) (r .line-at .ensures)),
+          (c .count-row .ensures ∙ ap (rowCounts _ _) (r .line-at .ensures)),
     )
 
 returns : tie.Need-returns Inv-loop μ-loop

@@ -4,20 +4,17 @@ use Prim.Native.Nat.{ℕ, _≤_, _<_, _-_}
 use native.Mathlib.Omega.{arith}
 use borrow.Author.Needs.{needs}
 use denote.Ref.{now}
-use Rattle.logic.specs.Interval.{has}
 use Rattle.ledger.specs.declared.Credential.{Credential}
-use Rattle.store_cells.specs.Layout.{maxRows, rowCount, credentialAt}
-use Rattle.formula_tally.specs.Column.{entryMost}
-use Rattle.formula_tally.proofs.Tallies.{Tallying, Summed, only-le, entry-small, tally-start, tally-next, summed}
+use Rattle.store_cells.specs.Layout.{maxRows, rowCount}
+use Rattle.formula_tally.proofs.Tallies.{Tallying, Summed, Small, adds-small, tally-start, tally-next, summed}
 use Rattle.formula_tally.proofs.tally.Statement.{statement}
 use Rattle.formula_tally.proofs.tally.Tie as tie
 
 abbrev Inv-loop : tie.InvT-loop
-Inv-loop store session minute counts n all₀ inside₀ i₀ all inside i =
-    (i ≤ n) × Tallying store session minute i all inside
+Inv-loop store session minute counts n o₀ a₀ p₀ i₀ o a p i = (i ≤ n) × Tallying store session minute i o a p
 
 abbrev μ-loop : tie.MeasureT-loop
-μ-loop store session minute counts n all₀ inside₀ i₀ all inside i = n - i
+μ-loop store session minute counts n o₀ a₀ p₀ i₀ o a p i = n - i
 
 count-rows-requires : tie.Need-count-rows-requires Inv-loop μ-loop
 count-rows-requires c κs = (c .before .pre, refl)
@@ -26,6 +23,10 @@ count-rows-requires c κs = (c .before .pre, refl)
 turn : (c : tie.In-loop Inv-loop μ-loop)
     → c .before .loop .i < rowCount (now (c .before .before .before .before .before .args .store))
 turn c = let h = c .loop-test .taken in omega (arith, c .before .before .row-count .ensures)
+
+-- and there are at most `maxRows`
+few : (c : tie.In-loop Inv-loop μ-loop) → c .before .loop .i < maxRows
+few c = omega (arith, turn c, c .before .before .before .before .before .pre .ordered .few)
 
 credential-at-requires : tie.Need-credential-at-requires Inv-loop μ-loop
 credential-at-requires c κs = (c .before .before .before .before .before .pre, turn c)
@@ -44,43 +45,31 @@ addend-of-requires c κs =
     let k = c .before .before in
     (k .before .before .before .before .before .before .pre, turn (k .before))
 
--- what a row adds is small, and there are at most `maxRows` rows
-record Small (v i : ℕ) : Type 0 where
-  held : v ≤ entryMost
-  few : i < maxRows
+-- what a row adds is small
+add-open : tie.Need-add-open Inv-loop μ-loop
+add-open c =
+    let w = c .before in
+    let t = w .before .before .before .before in
+    let d = t .before .loop .inv .1 .small in
+    omega (arith, adds-small (w .addend-of .ensures) .«open», few t)
 
-small : (c : tie.After-addend-of Inv-loop μ-loop)
-    → Small (c .addend-of .result .all) (c .before .before .before .before .before .loop .i)
-small c =
-    let at = c .before .before .before .before .before in
-    let r = at .before .before in
-    let s = r .before .before in
-    record {
-      held = entry-small (now (s .args .store)) _ _ (s .pre) _ (r .count-rows .ensures) _
-          (c .before .known .ensures) (c .addend-of .ensures);
-      few = omega (arith, turn (c .before .before .before .before), s .pre .ordered .few);
-    }
-
-add-all : tie.Need-add-all Inv-loop μ-loop
-add-all c =
-    let b = small (c .before) in
-    let d = c .before .before .before .before .before .before .loop .inv .1 .small in
-    omega arith
-
-add-inside : tie.Need-add-inside Inv-loop μ-loop
-add-inside c =
+add-seats : tie.Need-add-seats Inv-loop μ-loop
+add-seats c =
     let w = c .before .before in
-    let b = small w in
-    let at = w .before .before .before .before .before in
-    let d = at .loop .inv .1 .small in
-    let s = at .before .before .before .before in
-    let le = only-le (has (credentialAt (now (s .args .store)) (at .loop .i) .interval) (s .args .minute))
-    (w .addend-of .result .all) in
-    omega (arith, w .addend-of .ensures .inside)
+    let t = w .before .before .before .before in
+    let d = t .before .loop .inv .1 .small in
+    omega (arith, adds-small (w .addend-of .ensures) .seats, few t)
+
+add-placed : tie.Need-add-placed Inv-loop μ-loop
+add-placed c =
+    let w = c .before .before .before in
+    let t = w .before .before .before .before in
+    let d = t .before .loop .inv .1 .small in
+    omega (arith, adds-small (w .addend-of .ensures) .places, few t)
 
 loop-again : tie.Need-loop-again Inv-loop μ-loop
 loop-again c =
-    let w = c .before .before in
+    let w = c .before .before .before in
     let k = w .before .before .before in
     let at = k .before .before in
     let r = at .before .before in
@@ -93,7 +82,8 @@ loop-again c =
 sums : (c : tie.After-loop Inv-loop μ-loop)
     → Summed (now (c .before .before .before .before .before .args .store))
     (c .before .before .before .before .before .args .session)
-    (c .before .before .before .before .before .args .minute) (c .before .loop .all) (c .before .loop .inside)
+    (c .before .before .before .before .before .args .minute) (c .before .loop .«open») (c .before .loop .seats)
+    (c .before .loop .placed)
 sums c =
     let at = c .before in
     let s = at .before .before .before .before in
@@ -118,15 +108,11 @@ tally-spec =
     credential-at-requires
     known-requires
     addend-of-requires
-    (λ c. search needs)
-    add-all
-    (λ c. search needs)
-    add-inside
+    add-open
+    add-seats
+    add-placed
     (λ c. search needs)
     (λ c. search needs)
     loop-again
-    (λ c. search needs)
-    (λ c. search needs)
     (λ c. omega (arith, sums c .seats, sums c .opens))
-    (λ c. search needs)
     returns)
