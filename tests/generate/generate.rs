@@ -1,6 +1,7 @@
 //! Seeded sessions of sheets for the booking till, with the answers that document 01 demands, and document 02 so far as
-//! it has landed (asks 1 to 3).
+//! it has landed (asks 1 to 4).
 
+pub mod arrivals;
 pub mod balance;
 pub mod booking;
 pub mod breaks;
@@ -84,6 +85,7 @@ pub fn sessions(wish: &Wish) -> Vec<Session> {
     relation::check();
     let mut seen = Seen::new();
     let mut all = fixed(wish.seed, &mut seen);
+    let late = arrivals::sessions(wish.seed, &all);
     for n in 0..wish.sessions {
         let seed = wish.seed.wrapping_mul(1_000_003).wrapping_add(n);
         all.push(match n % 8 {
@@ -96,6 +98,7 @@ pub fn sessions(wish: &Wish) -> Vec<Session> {
             all.push(house::random(seed));
         }
     }
+    all.extend(late);
     if wish.long {
         all.push(long::session());
     }

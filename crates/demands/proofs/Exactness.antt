@@ -26,7 +26,7 @@ pub reached-bounded : (t : Ledger) → Reached t → Bounded t
 reached-bounded t r = subst Bounded (r .gives) (bounded (r .calls))
 
 -- an accepted booking has passed its checks
-passed : (t : Ledger) (bytes : List ℕ) (b : Booking) → requestOf bytes ≡ some (book b) → Pass (checksOf t bytes)
+pub passed : (t : Ledger) (bytes : List ℕ) (b : Booking) → requestOf bytes ≡ some (book b) → Pass (checksOf t bytes)
     → PassedRead t (book b)
 passed t bytes b e p =
     passed-read t (book b) (subst (λ (o : Option Request). Pass (readChecks t o)) e (passed-bytes t bytes p .rest))

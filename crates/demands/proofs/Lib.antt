@@ -4,5 +4,6 @@ pub mod Effects
 pub mod Start
 pub mod Demand2
 pub mod Exactness
+pub mod Later
 pub mod Completeness
 pub mod Demand3

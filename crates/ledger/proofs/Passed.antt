@@ -26,6 +26,7 @@ use Rattle.ledger.specs.Checks.{anyOf, maxSize, maxFormulas, maxLive, mi
 use Rattle.ledger.specs.Checks.{checks, readChecks}
 use Rattle.ledger.specs.Statements.{Pass}
 use Rattle.ledger.proofs.Answers.{if-none}
+use Rattle.ledger.proofs.Firsts.{if-false, not-true}
 use Rattle.ledger.proofs.Credentials.{any-none}
 use Rattle.ledger.specs.Bounds.{There}
 
@@ -121,3 +122,17 @@ passed-book t b (there, (plain, (inside, (alive, (apart, (closes, (room, (unused
   room = leb-false _ _ (if-none 22 _ room);
   unused = ltb-false _ _ (if-none 23 _ unused);
 }
+
+-- with another minute and another interval, a booking passes where now lies in that and the steps close at it
+pub pass-at : (t : Ledger) (b : Booking) (now : ℕ) (i : Interval) → Pass (checks t (book b)) → has i now ≡ true
+    → steps t (held (t .live) (b .holds)) (b .formula) i (b .steps) ≡ none
+    → Pass (checks t (book (record {
+      now = now;
+      formula = b .formula;
+      interval = i;
+      holds = b .holds;
+      steps = b .steps;
+    })))
+unfolding checks
+pass-at t b now i (there, (plain, (inside, (alive, (apart, (closed, more)))))) h closes =
+    (there, (plain, (if-false 30 _ (not-true _ h), (alive, (apart, (closes, more))))))

@@ -1,5 +1,5 @@
 -- Document 01's sessions M1 to M10: inputs, as the bytes of the requests, with their answers. Its lines are quoted as
--- they stand there; "M1 to M10 get 0,0 in each window" (document 02, ask 2).
+-- they stand there; "M1 to M10 get 0,0 in each window" (document 02, ask 2). And M1 for guests who are late (ask 4).
 use mathlib.Core.Path.{_≡_}
 use mathlib.Core.List.{List, [], _∷_, _++_, map}
 use Prim.Native.Nat.{ℕ, zero, suc}
@@ -166,3 +166,30 @@ sessions = M1 ∷ M2 ∷ M3 ∷ M4 ∷ M5 ∷ M6 ∷ M7 ∷ M8 ∷ M9 ∷ []
 
 abbrev pub SessionsPlay : Type 0
 SessionsPlay = AllPlay sessions
+
+-- Document 02, ask 4, "Guests who are late want a shorter window on the sheet they hold": M1 with another first line of
+-- its booking, hold and step lines as they stand, and what it answers.
+abbrev pub m1At : String → List Told → Session
+m1At line replies = record {
+  requests = m1With second (booking line "hold,3" "tr,0000000000000002");
+  replies = m1Begins ++ replies;
+}
+
+-- beside M1's own line three with a window within its 540..600: shorter, one minute, with a break
+abbrev pub laterSessions : List Session
+laterSessions =
+    m1At head booked ∷
+    m1At "book,560,5,550,590,0,0,3,15" booked ∷
+    m1At "book,600,5,600,600,0,0,3,15" booked ∷
+    m1At "book,540,5,540,600,560,570,3,15" booked ∷ []
+
+-- What has to be said of the window: that it is one (550..590 with the break 0..5 has the minutes of 550..590, within
+-- M1's), that now lies in it, and that it is within M1's and not the other way round.
+abbrev pub notLaterSessions : List Session
+notLaterSessions =
+    m1At "book,560,5,550,590,0,5,3,15" (Told.no 43 0 ∷ stays) ∷
+    m1At "book,540,5,550,590,0,0,3,15" (Told.no 30 0 ∷ stays) ∷
+    m1At "book,540,5,540,601,0,0,3,15" (Told.no 40 13 ∷ stays) ∷ []
+
+abbrev pub LaterPlay : Type 0
+LaterPlay = AllPlay (laterSessions ++ notLaterSessions)

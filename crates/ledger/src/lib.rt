@@ -4,7 +4,7 @@
 
 ghost use Rattle.ledger.specs.Bounds.{AlwaysBounded};
 ghost use Rattle.ledger.specs.Statements.{Refusals};
-ghost use Rattle.ledger.specs.Sessions.{SessionsPlay, Plays, M10};
+ghost use Rattle.ledger.specs.Sessions.{SessionsPlay, Plays, M10, LaterPlay};
 ghost use Rattle.ledger.specs.Cases.{CasesPlay};
 ghost use Rattle.ledger.specs.StepCases.{StepCasesPlay};
 ghost use Rattle.ledger.specs.LastSerials.{IdleGiven, LastSerialsPlay};
@@ -44,10 +44,11 @@ pub fn refusals()
     ensures { λ _. ⌜ Refusals ⌝ }
 {}
 
-// Document 01's sessions: M1 to M9, and M10.
+// Document 01's sessions: M1 to M9, and M10; M1 for guests who are late.
 pub fn sessions_play()
     ensures to_m9 { λ _. ⌜ SessionsPlay ⌝ }
     ensures m10 { λ _. ⌜ Plays M10 ⌝ }
+    ensures later { λ _. ⌜ LaterPlay ⌝ }
 {}
 
 // Further sessions: form, order, holds and tallies; every step word; the last serials, and that calls lead there.

@@ -6,4 +6,5 @@ pub mod Weights
 pub mod Balance
 pub mod Conservation
 pub mod Houses
+pub mod Subsumption
 pub mod Examples

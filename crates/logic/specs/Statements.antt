@@ -11,7 +11,7 @@ use Rattle.logic.specs.Interval.{span, _⊇_, contains, has, reversed, b
 use Rattle.logic.specs.Formula.{Formula, seats, houseSeats, plain}
 use Rattle.logic.specs.Weight.{weight, WellWeighed, BalancedFor, Balanced}
 use Rattle.logic.specs.Multiset.{Every}
-use Rattle.logic.specs.Derives.{Hyp, Judgment, holds, affirms, Derives}
+use Rattle.logic.specs.Derives.{Hyp, Judgment, holds, affirms, Derives, letters, taken}
 use Rattle.logic.specs.Counts.{up, down, balanced}
 
 -- the formula of a goal
@@ -32,6 +32,24 @@ Conservation = (s : ℕ) (R D : List Hyp) (g : Judgment) → Derives R D g
     → Every (λ h. WellWeighed s (h .formula)) D
     → WellWeighed s (subject g)
     → total s D ≡ weight s (subject g)
+
+-- The same goal at an interval within its own, for each judgment.
+pub data Narrows : Judgment → Judgment → Type 0 where
+  at-holds : {a : Formula} {i j : Interval} → i ⊇ j → Narrows (holds a i) (holds a j)
+  at-affirms : {k : ℕ} {a : Formula} {i j : Interval} → i ⊇ j → Narrows (affirms k a i) (affirms k a j)
+
+-- A derivation of h by the rules of x: the same rules in the same order, so as many uses of them, with the same
+-- intervals chosen at `ll` and `ul`; and as many labels taken.
+abbrev pub ByRulesOf : {R D : List Hyp} {g : Judgment} → Derives R D g → Judgment → Type 0
+ByRulesOf {R} {D} x h = (y : Derives R D h) × (letters y ≡ letters x) × (taken y ≡ taken x)
+
+-- Theorem 3 (Subsumption) of the report (source document 000) for the rules of Derives.antt, both parts: 1 is
+-- `at-holds`, "If .. A[I], then .. A[I′]", 2 is `at-affirms`, "If .. (K affirms A) at I, then .. (K affirms A) at I′".
+-- The report says nothing of the rules used or the labels taken. Of its rules that document 01 leaves out, using ∀
+-- waits for document 02, ask 7, and proving ⊸ and ⊃ and using ⊇ for ask 13, where hypotheses I ⊇ J stand in a sequent
+-- (the report's Ψ, its Lemmas 1 and 2); ⊤ and proving ∀ stay out.
+abbrev pub Subsumption : Type 0
+Subsumption = (R D : List Hyp) (g h : Judgment) → Narrows g h → (x : Derives R D g) → ByRulesOf x h
 
 -- Plain formulas are well weighed.
 abbrev pub PlainWeighed : Type 0

@@ -16,13 +16,18 @@ pub type Window = Interval;
 // What is proved of the logic. Each function does nothing: its `ensures` is the statement, of specs/Statements.antt and
 // specs/Examples.antt.
 
-ghost use Rattle.logic.specs.Statements.{Conservation, PlainWeighed, BalancedTest, WeightParts};
+ghost use Rattle.logic.specs.Statements.{Conservation, Subsumption, PlainWeighed, BalancedTest, WeightParts};
 ghost use Rattle.logic.specs.Statements.{HouseSeats, ContainsTest, FormedTest, SameSet, AsBefore};
 ghost use Rattle.logic.specs.Examples.{Examples};
 
 // A derivation keeps the weight of its linear hypotheses, for every session.
 pub fn derivations_conserve_weight()
     ensures { λ _. ⌜ Conservation ⌝ }
+{}
+
+// What is derived at an interval is derived by the same rules at every interval within it.
+pub fn derivations_narrow()
+    ensures { λ _. ⌜ Subsumption ⌝ }
 {}
 
 // Plain formulas are well weighed.

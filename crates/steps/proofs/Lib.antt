@@ -4,6 +4,7 @@ pub mod Premises
 pub mod Sound
 pub mod Spelling
 pub mod Complete
+pub mod Narrow
 pub mod Unroll
 pub mod Agree
 pub mod Runs

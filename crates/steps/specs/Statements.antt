@@ -1,6 +1,6 @@
 -- What is proved of the step checker (in proofs/): lines pass exactly if they spell a derivation, and are refused
 -- exactly where they are stopped; lines that spell a derivation give one; every derivation within the limits has such
--- lines.
+-- lines; and a goal at an interval within its own is reached by the same lines.
 use mathlib.Core.Path.{_≡_}
 use mathlib.Core.List.{List, [], _++_}
 use mathlib.Core.Logic.{_↔_}
@@ -9,6 +9,7 @@ use lib.ListN.{length}
 use Rattle.logic.specs.Formula.{Formula}
 use Rattle.logic.specs.Derives.{Hyp, Judgment, Derives, letters, taken}
 use Rattle.logic.specs.Multiset.{Perm, Within, Every}
+use Rattle.logic.specs.Statements.{Narrows}
 use Rattle.request.specs.Request.{Step}
 use Rattle.steps.specs.declared.Row.{Row}
 use Rattle.steps.specs.declared.Hypothesis.{Hypothesis}
@@ -39,6 +40,12 @@ Complete = (ls : Labels) (r d : ℕ) → r < 2 ^ length ls → d < 2 ^ length ls
     → length ls + taken x ≤ maxLabels
     → (ss : List Step) × (lettersOf ss ≡ letters x) × Every Writable ss × (after : Labels)
     × ((rest : List Step) → Spells (ss ++ rest) ls (labelledBy r d g) rest after)
+
+-- Lines that spell a derivation spell one of the same goal at every interval within its own, from the same labels, and
+-- take the same labels.
+abbrev pub Narrowing : Type 0
+Narrowing = (ss rest : List Step) (ls after : Labels) (r d : ℕ) (g h : Judgment) → Narrows g h
+    → Spells ss ls (labelledBy r d g) rest after → Spells ss ls (labelledBy r d h) rest after
 
 abbrev pub asked : ℕ → ℕ → Goal → Sequent
 asked r d g = record { unrestricted = r; linear = d; goal = g }

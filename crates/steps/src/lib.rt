@@ -58,12 +58,17 @@ pub enum Plan {
 // function does nothing: its `ensures` is the statement, of specs/Statements.antt.
 
 ghost use Rattle.steps.specs.Labelling.{AnyTable, readLabel, writeLabel};
-ghost use Rattle.steps.specs.Statements.{Spelt, Complete, Exactly, Sound, Passing};
+ghost use Rattle.steps.specs.Statements.{Spelt, Complete, Narrowing, Exactly, Sound, Passing};
 
 // Lines that spell a derivation give one by their rules, and every derivation within the limits has such lines.
 pub fn lines_are_derivations()
     ensures sound { λ _. ⌜ Spelt ⌝ }
     ensures complete { λ _. ⌜ Complete ⌝ }
+{}
+
+// The lines of a derivation are those of one with the same goal at any interval within its own.
+pub fn lines_narrow()
+    ensures { λ _. ⌜ Narrowing ⌝ }
 {}
 
 // The checker passes lines exactly if they spell a derivation, and refuses them exactly where they are stopped.

@@ -70,6 +70,9 @@ fn required(long: bool) -> Vec<(&'static str, Vec<String>)> {
         ("about breaks", all(&about_breaks.concat())),
         ("house seats", all(&[&house::HOUSE_SEATS[..], &house::MOVES].concat())),
         ("house seats, by chance", all(&house::BY_CHANCE)),
+        ("guests who are late", all(&arrivals::NOW)),
+        ("windows of guests who are late", all(&arrivals::WITHIN)),
+        ("step letters in bookings of guests who are late", all(&arrivals::STEPS)),
     ];
     groups.extend(long.then(|| ("the last serial", all(&long::LONG))));
     groups
