@@ -13,7 +13,7 @@ use Rattle.logic.specs.Formula.{Formula, atom, one, tensor, with, plus, lolli, 
 use Rattle.logic.specs.Formula.{size}
 use Rattle.logic.specs.Counts.{up, down, even, level, sessionsOf, allOf, balanced}
 use Rattle.logic.specs.Multiset.{sum, Every}
-use Rattle.logic.proofs.Tests.{bit-le, no-truth}
+use Rattle.logic.proofs.Tests.{bit-le, left-true, right-true}
 use Rattle.request.specs.Request.{Line}
 use Rattle.steps.specs.declared.Row.{Row}
 use Rattle.ledger.specs.Table.{form, names, rowOf}
@@ -214,13 +214,9 @@ module _ (f : ℕ → Bool) where
       → Tries f (s ∷ []) (record { all = true; sure = true; session = s })
   unfolding allOf
   tries-known x s h e =
-      let y = both (x .sure) (eqb (x .session) s) e in
-      let z : f s ≡ true = ap f (sym (eqb-true (x .session) s (y .1))) ∙ h (y .0) in
+      let y = eqb-true (x .session) s (right-true (x .sure) (eqb (x .session) s) e) in
+      let z : f s ≡ true = ap f (sym y) ∙ h (left-true (x .sure) (eqb (x .session) s) e) in
       record { all = sym (and-true (f s) ∙ z); sure = λ q. z }
-    where
-      both : (a b : Bool) → (a && b) ≡ true → (a ≡ true) × (b ≡ true)
-      both true b q = (refl, q)
-      both false b q = absurd (no-truth q)
 
   pub tries-new : (s : ℕ) {b : Bool} → b ≡ f s → Tries f (s ∷ []) (record { all = b; sure = b; session = s })
   unfolding allOf

@@ -11,6 +11,25 @@ use Rattle.logic.specs.Formula.{bit}
 pub no-truth : false ≡ true → ⊥
 no-truth e = let z : _≡_ {A = ℕ} (bit false) (bit true) = ap bit e in omega arith
 
+-- what follows of the parts of a test
+pub left-false : (a b : Bool) → (a || b) ≡ false → a ≡ false
+left-false false b e = refl
+left-false true b e = e
+
+pub right-false : (a b : Bool) → (a || b) ≡ false → b ≡ false
+right-false false b e = e
+right-false true false e = refl
+right-false true true e = e
+
+pub left-true : (a b : Bool) → (a && b) ≡ true → a ≡ true
+left-true true b e = refl
+left-true false b e = e
+
+pub right-true : (a b : Bool) → (a && b) ≡ true → b ≡ true
+right-true true b e = e
+right-true false true e = refl
+right-true false false e = e
+
 pub bit-le : (b : Bool) → bit b ≤ 1
 bit-le true = omega arith
 bit-le false = omega arith

@@ -48,8 +48,8 @@ fn compact(store: &mut Store)
 }
 
 // A row is free, and going through the rows costs what lives: where all are in use, or most of them are gaps, the live
-// credentials move together. At least every second row that is gone through has then left, so that moving adds no more
-// than a row to what each removal costs.
+// credentials move together. At least every second row in use is then a gap made since rows last moved, so that each
+// removal pays for two rows gone through and one moved.
 fn make_room(store: &mut Store)
     requires { ⌜ Good (now store) × (length (ledgerOf (now store) .live) < maxRows) ⌝ }
     ensures { λ _. ⌜ StandsFor (now (store .exit)) (ledgerOf (now (store .entry)))

@@ -9,28 +9,9 @@ use lib.Dec.{eqb, ltb}
 use lib.ListN.{length, take, drop, getD}
 use lib.Seq.{take-all, take-suc, take-add, drop-cons}
 use borrow.Author.Tests.{eqb-true, lt-ltb}
+use Rattle.logic.proofs.Tests.{left-true, right-true}
 use Rattle.stream_sheets.specs.Sheets.{emptyLine, lineBegins}
 use Rattle.stream_sheets.specs.Ends.{EndsAt, NoEnd, BothTen}
-
--- Tests
-
-pub left-false : (a b : Bool) → (a || b) ≡ false → a ≡ false
-left-false false b e = refl
-left-false true b e = e
-
-pub right-false : (a b : Bool) → (a || b) ≡ false → b ≡ false
-right-false false b e = e
-right-false true false e = refl
-right-false true true e = e
-
-pub left-true : (a b : Bool) → (a && b) ≡ true → a ≡ true
-left-true true b e = refl
-left-true false b e = e
-
-pub right-true : (a b : Bool) → (a && b) ≡ true → b ≡ true
-right-true true b e = e
-right-true false true e = refl
-right-true false false e = e
 
 both-false : {a b : Bool} → a ≡ false → b ≡ false → (a || b) ≡ false
 both-false {a} {b} e f = rw (e, f)

@@ -14,7 +14,8 @@ use Rattle.read_fields.proofs.Then.{by-test}
 use Rattle.stream_sheets.specs.Sheets.{Split, start, next, splitFrom, oneMore, emptyLine, lineBegins, most}
 use Rattle.stream_sheets.specs.Statements.{Unparted, Sheet, withEmptyLines}
 use Rattle.stream_sheets.specs.Statements.{ReadBack, AllParts, InPieces, RestSkipped}
-use Rattle.stream_sheets.proofs.EmptyLines.{left-true, right-true, begins-snoc, empty-snoc}
+use Rattle.logic.proofs.Tests.{left-true, right-true}
+use Rattle.stream_sheets.proofs.EmptyLines.{begins-snoc, empty-snoc}
 use Rattle.stream_sheets.proofs.Splits.{split-append, cut, kept, ended, run, closes}
 
 pub in-pieces : InPieces

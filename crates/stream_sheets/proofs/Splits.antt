@@ -13,7 +13,7 @@ use Rattle.ledger.specs.Calls.{call}
 use Rattle.ledger.proofs.Firsts.{call-long}
 use Rattle.read_fields.proofs.Then.{by-test}
 use Rattle.stream_sheets.specs.Sheets.{Split, next, splitFrom, emptyLine, lineBegins, most}
-use Rattle.stream_sheets.proofs.EmptyLines.{left-false, right-false}
+use Rattle.logic.proofs.Tests.{left-false, right-false}
 
 -- Feeding b and then c is feeding b ++ c.
 pub split-append : (s : Split) (b c : List ℕ) → splitFrom s (b ++ c) ≡ splitFrom (splitFrom s b) c

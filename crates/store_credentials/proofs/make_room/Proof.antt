@@ -1,16 +1,12 @@
 -- `make_room` meets its contract.
 use mathlib.Core.Path.{_≡_, refl}
-use mathlib.Core.Bool.{Bool, true, false, _||_}
 use borrow.Author.Needs.{needs}
 use borrow.Author.Tests.{eqb-false}
 use native.Mathlib.Omega.{arith}
+use Rattle.logic.proofs.Tests.{left-false}
 use Rattle.store_cells.specs.Layout.{maxRows}
 use Rattle.store_credentials.proofs.make_room.Statement.{statement}
 use Rattle.store_credentials.proofs.make_room.Tie as tie
-
-first-false : (a b : Bool) → (a || b) ≡ false → a ≡ false
-first-false true b e = e
-first-false false b e = refl
 
 -- the count of live credentials is small
 twice : tie.Need-mul-if1
@@ -33,7 +29,7 @@ returns-2 c =
     let at = c .before .before .before in
     let g = at .before .before .pre .0 in
     let e = at .row-count .ensures in
-    let n : at .row-count .result ≡ maxRows → ⊥ = eqb-false _ _ (first-false _ _ (c .if1 .left)) in
+    let n : at .row-count .result ≡ maxRows → ⊥ = eqb-false _ _ (left-false _ _ (c .if1 .left)) in
     (record { good = g; ledger = refl }, omega (arith, g .ordered .few, e, n))
 
 pub make-room-spec : {M : Type 1} → statement M
