@@ -74,6 +74,29 @@ def booked_256():
     return begin, [book("5,63,0,9,0,0", [1, 2, 3 + n], steps) for n in range(40)]
 
 
+def text(next_serial, lines, coupons):
+    """A till's text, to be opened."""
+    return "\n".join([":open", f"till,1,{next_serial},{len(lines)},{len(coupons)}", *lines, *coupons])
+
+
+def full():
+    """25 sessions with M1's eight wordings, 512 coupons over their offers, seats and tokens: the text of a full till."""
+    lines = []
+    for session in range(25):
+        at = 8 * session
+        lines += [f"a,1,{session}", f"a,2,{session}", f"a,9,{session}", f"s,1,{at}", f"s,2,{at + 2}", f"s,1,{at + 1}"]
+        lines += [f"t,{at + 3},{at + 4}", f"l,{at + 6},{at + 5}"]
+    kinds = [("r", 7), ("s", 3), ("s", 4)]
+    given = [(n, *kinds[n // 25 % 3]) for n in range(512)]
+    return text(2000, lines, [f"{3 * n + 1},{kind},{8 * (n % 25) + part},0,{600 + n},0,0" for n, kind, part in given])
+
+
+def longest():
+    """The longest text: 200 lines `g` and 512 coupons, every number as long as its range has one."""
+    lines = [f"g,{1000000 + n},9999999,2000000,3000000,1000000,9999998,2000000,3000000" for n in range(200)]
+    return text(1000000, lines, [f"{100000 + n},r,{100 + n % 100},1000000,9999999,2000000,3000000" for n in range(512)])
+
+
 def refused():
     """For each refusal sheets that get it; all but 14, 22 and 23 of a till with M1's coupons."""
     begin = words(M1 + ["t,5,5", "l,3,8"]) + ["issue,r,7,0,9999,0,0"] + ["issue,s,3,0,600,0,0", "issue,s,4,0,600,0,0"]
@@ -110,6 +133,11 @@ LISTS = {
     "bookings_15_steps": booked_15,
     "bookings_256_steps": booked_256,
     "three_live": lambda: three_live(2000),
+    "closing": lambda: ([full()], [":close"] * 100),
+    "closing_longest": lambda: ([longest()], [":close"] * 100),
+    # the closings between are not timed: they show what was opened
+    "opening": lambda: ([], [full(), ":close"] * 20),
+    "opening_longest": lambda: ([], [longest(), ":close"] * 20),
 }
 
 # for the whole program: a million sheets

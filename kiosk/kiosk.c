@@ -2,6 +2,7 @@
  * panel for a session and a minute. The panel's open, shut and placed are the till's tally; issued and withdrawn are
  * the kiosk's own count (recount.h), so that nothing hides: open + shut + placed + withdrawn = issued. Open are the
  * house's seats in their minutes, shut all other seats; the kiosk counts these too, and marks a tally that differs.
+ * The till is saved as text and opened again; the count then begins at the text.
  *
  * On a terminal the panel stands at the top. Without one each answer is a line, in tillrun's form and then in words. */
 #define _POSIX_C_SOURCE 200809L
@@ -15,10 +16,11 @@
 #include <string.h>
 #include <unistd.h>
 
-enum { CHUNK = 4096, COMMAND = 1024, SHOWN = 8, WIDTH = 160 };
+enum { CHUNK = 4096, COMMAND = 1024, SHOWN = 10, WIDTH = 160 };
 
 struct Kiosk {
-    uint32_t till[TILL_NUMBERS];
+    uint32_t till[TILL_NUMBERS], spare[TILL_NUMBERS];
+    uint8_t text[TILL_TEXT_BYTES + 1];  /* one byte more: a longer text is refused as this one would be */
     struct History *history;
     uint32_t session, minute;
     unsigned accepted, refused;
@@ -79,6 +81,9 @@ static const char *meaning(uint32_t refusal) {
     case 41: return "the step is right but needs label 64";
     case 42: return "the steps end with a premise open, or lines follow the close";
     case 43: return "a break is neither 0,0 nor inside its window";
+    case 50: return "the text's form, a range or a count is broken, or its serials do not rise";
+    case 51: return "a wording or coupon of the text breaks a rule, or a serial is not below next";
+    case 52: return "the text is longer than the buffer";
     default: return "a refusal that the paper does not have";
     }
 }
@@ -182,6 +187,77 @@ static void play_file(struct Kiosk *kiosk, struct Input *input, const char *name
     free(sheets);
 }
 
+/* ---- The till as text ---- */
+
+/* All bytes into a file that is made anew. */
+static int write_file(const char *name, const uint8_t *bytes, size_t length) {
+    int file = open(name, O_WRONLY | O_CREAT | O_TRUNC | O_CLOEXEC, 0666);
+    if (file < 0) return 0;
+    size_t at = 0;
+    while (at < length) {
+        ssize_t count = write(file, bytes + at, length - at);
+        if (count < 0 && errno != EINTR) break;
+        if (count > 0) at += (size_t)count;
+    }
+    int wrong = at < length ? errno : 0;
+    if (close(file) != 0 && wrong == 0) wrong = errno;
+    errno = wrong;
+    return wrong == 0;
+}
+
+/* Up to `most` bytes of a file, and how many; 0 where they cannot be read. */
+static int read_file(const char *name, uint8_t *bytes, size_t most, size_t *length) {
+    int file = open(name, O_RDONLY | O_CLOEXEC);
+    if (file < 0) return 0;
+    ssize_t count = 1;
+    for (*length = 0; *length < most && count != 0; *length += count > 0 ? (size_t)count : 0) {
+        count = read(file, bytes + *length, most - *length);
+        if (count < 0 && errno != EINTR) break;
+    }
+    int wrong = count < 0 ? errno : 0;
+    close(file);
+    errno = wrong;
+    return wrong == 0;
+}
+
+/* The text goes to a file beside the one that is named and takes its place when it is whole: what was saved before
+ * stays where this fails. */
+static void save(struct Kiosk *kiosk, struct Input *input, const char *name) {
+    (void)input;
+    char beside[COMMAND + 8];
+    uint32_t a[4];
+    till_close(kiosk->till, kiosk->text, TILL_TEXT_BYTES, a);
+    if (a[0] != 1) {
+        say_refusal(kiosk, a[1], a[2]);
+        return;
+    }
+    snprintf(beside, sizeof beside, "%s.new", name);
+    if (*name != 0 && write_file(beside, kiosk->text, a[1]) && rename(beside, name) == 0) {
+        say(kiosk, "ok,%u saved: %u bytes of text", a[1], a[1]);
+        return;
+    }
+    say(kiosk, "cannot save to that file: %s", *name != 0 ? strerror(errno) : "it has no name");
+    if (*name != 0) unlink(beside);
+}
+
+/* A text that is opened takes the till's place, and the count begins there; a refused one changes nothing. */
+static void open_saved(struct Kiosk *kiosk, struct Input *input, const char *name) {
+    (void)input;
+    size_t length;
+    uint32_t a[4];
+    if (!read_file(name, kiosk->text, sizeof kiosk->text, &length)) {
+        say(kiosk, "cannot read that file: %s", strerror(errno));
+        return;
+    }
+    till_open(kiosk->till, kiosk->spare, kiosk->text, length, a);
+    if (a[0] != 1) {
+        say_refusal(kiosk, a[1], a[2]);
+        return;
+    }
+    if (!history_open(kiosk->history, kiosk->text, length)) say(kiosk, "that text is not as this kiosk counts");
+    say(kiosk, "ok,%u opened: the till is that text's, and issued begins at what its singles hold", a[1]);
+}
+
 static void set_session(struct Kiosk *kiosk, struct Input *input, const char *text) {
     (void)input;
     if (!number(text, LAST_SESSION, &kiosk->session)) say(kiosk, "a session is a number from 0 to 65535");
@@ -214,6 +290,8 @@ static const struct Command {
     const char *name, *words;
     void (*run)(struct Kiosk *, struct Input *, const char *);
 } COMMANDS[] = {{":file", ":file NAME   hands over the sheets of a file, parted by empty lines", play_file},
+                {":save", ":save NAME   writes the till as text to a file", save},
+                {":open", ":open NAME   opens a text in the till's place; a refused one changes nothing", open_saved},
                 {":session", ":session N   the panel's session, 0 to 65535", set_session},
                 {":minute", ":minute M    the panel's minute, 0 to 9999999", set_minute},
                 {":panel", ":panel       the panel as one line", show_panel},

@@ -27,6 +27,15 @@ static size_t split(const uint8_t *sheet, size_t length, struct Field fields[FIE
     return 0;
 }
 
+/* To the line after the first; 0 where that has no end. */
+static int next_line(const uint8_t **at, size_t *length) {
+    const uint8_t *end = memchr(*at, '\n', *length);
+    if (!end) return 0;
+    *length -= (size_t)(end + 1 - *at);
+    *at = end + 1;
+    return 1;
+}
+
 static int is(struct Field field, const char *word) {
     return field.length == strlen(word) && memcmp(field.at, word, field.length) == 0;
 }
@@ -141,9 +150,9 @@ static int note_word(struct History *history, const struct Field *fields, size_t
     return good;
 }
 
-/* A coupon with a new serial. */
+/* A coupon with a new serial, the next one. */
 static int give(struct History *history, uint32_t serial, uint32_t kind) {
-    if (serial == 0 || serial > LAST_SERIAL || history->coupon[serial] != 0) return 0;
+    if (serial != history->serial + 1 || serial > LAST_SERIAL || history->coupon[serial] != 0) return 0;
     history->coupon[serial] = (uint16_t)kind;
     history->serial = serial;
     return 1;
@@ -184,11 +193,7 @@ static int take_holds(struct History *history, const uint8_t *sheet, size_t leng
     struct Field fields[FIELDS];
     for (; holds > 0; holds--) {
         uint32_t serial;
-        const uint8_t *end = memchr(sheet, '\n', length);
-        if (!end) return 0;
-        length -= (size_t)(end + 1 - sheet);
-        sheet = end + 1;
-        if (split(sheet, length, fields) != 2 || !is(fields[0], "hold")) return 0;
+        if (!next_line(&sheet, &length) || split(sheet, length, fields) != 2 || !is(fields[0], "hold")) return 0;
         if (!number(fields[1], LAST_SERIAL, &serial) || !take(history, serial)) return 0;
     }
     return 1;
@@ -228,5 +233,36 @@ int history_note(struct History *history, const uint8_t *sheet, size_t length, c
     else if (is(fields[0], "book")) good = note_book(history, fields, count, answer[1], sheet, length);
     else if (is(fields[0], "withdraw")) good = note_withdraw(history, fields, count, answer[1]);
     if (!good) history->unread++;
+    return good;
+}
+
+/* The lines of a text: wordings without the word `word`, coupons with the serial in the place of `issue`. */
+static int begin(struct History *history, const uint8_t *text, size_t length) {
+    struct Field fields[FIELDS + 1];
+    uint32_t next, wordings, coupons, serial;
+    if (split(text, length, fields) != 5 || !is(fields[0], "till") || !is(fields[1], "1")) return 0;
+    if (!number(fields[2], LAST_SERIAL + 1, &next) || !number(fields[3], WORDINGS, &wordings)) return 0;
+    if (next == 0 || !number(fields[4], MOST_LIVE, &coupons)) return 0;
+    for (uint32_t n = 0; n < wordings; n++) {
+        if (!next_line(&text, &length)) return 0;
+        size_t count = split(text, length, fields + 1);
+        if (count == 0 || !note_word(history, fields, count + 1, n)) return 0;
+    }
+    for (; coupons > 0; coupons--) {
+        if (!next_line(&text, &length)) return 0;
+        size_t count = split(text, length, fields);
+        if (!number(fields[0], LAST_SERIAL, &serial) || serial <= history->serial || serial >= next) return 0;
+        history->serial = serial - 1; /* those between were given before */
+        if (!note_issue(history, fields, count, serial)) return 0;
+    }
+    history->serial = next - 1;
+    return next_line(&text, &length) && length == 0;
+}
+
+int history_open(struct History *history, const uint8_t *text, size_t length) {
+    uint32_t unread = history->unread;
+    history_clear(history);
+    int good = begin(history, text, length);
+    history->unread = good ? unread : unread + 1;
     return good;
 }

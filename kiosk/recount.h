@@ -1,7 +1,7 @@
 /* What was issued and withdrawn, and what is open, shut and placed, counted from the accepted sheets and their answers
  * alone (document 01, "Booking, tally"; document 02, ask 3). It looks into no till: wording n is the line that was
  * answered n, and a serial's coupon is the one issued, or the goal booked, by the sheet that was answered that
- * serial. */
+ * serial. After an opening (document 02, ask 5) it begins at the text. */
 #ifndef RECOUNT_H
 #define RECOUNT_H
 
@@ -26,7 +26,7 @@ struct Single {
 
 struct History {
     uint32_t wordings, serial;                   /* how many wordings were given, and the last serial */
-    uint32_t unread;                             /* accepted sheets that this count could not read */
+    uint32_t unread;                             /* accepted sheets and texts that this count could not read */
     uint32_t singles;                            /* how many singles are live */
     struct Wording wording[WORDINGS];
     struct Single single[MOST_LIVE];
@@ -52,5 +52,9 @@ int history_agrees(const struct Counted *counted, const uint32_t answer[4]);
 /* Adds a sheet with its answer; only an accepted one changes anything. Gives 0, and counts it as unread, where an
  * accepted sheet has no form or its answer is none that the history allows, a tally's three figures included. */
 int history_note(struct History *history, const uint8_t *sheet, size_t length, const uint32_t answer[4]);
+
+/* Begins at a text that was opened: issued is what its singles hold, withdrawn 0, its wordings and serials count as
+ * given. Gives 0, and counts it as unread, where it is no text. */
+int history_open(struct History *history, const uint8_t *text, size_t length);
 
 #endif

@@ -1,9 +1,10 @@
 /* A C program keeps a till over many calls (include/oysterbrim.h): every answer, what a refusal leaves, and that
  * nothing is read or written beside block, sheet, scratch and answer; what a call takes of the stack.
- * `till [GROUP..]` plays the groups named, or all. */
+ * `till FOLDER [GROUP..]` plays the groups named, or all; FOLDER has the sessions with texts. */
 #define _DEFAULT_SOURCE
 #include "guards.h"
 #include "oysterbrim.h"
+#include "texts.h"
 #include <stdio.h>
 #include <stdlib.h>
 #include <string.h>
@@ -323,11 +324,17 @@ static void bookings(void) {
     ask(&block, "withdraw,4\n", 1, 4, 0, 0);
 }
 
+/* Sessions in which the till is closed and opened. */
+static const char *folder;
+
+static void texts(void) { play_texts(folder, check); }
+
 /* A call on a small stack, below which nothing may be touched. */
 static struct Small {
     struct Block *block;
     const char *sheet;
-    uint32_t scratch[TILL_SCRATCH], answer[4];
+    uint32_t scratch[TILL_SCRATCH], spare[TILL_NUMBERS], answer[4];
+    uint8_t buffer[TILL_TEXT_BYTES];
     ucontext_t here, there;
 } small;
 
@@ -335,8 +342,14 @@ static void small_call(void) {
     till_call(small.block->till, (const uint8_t *)small.sheet, strlen(small.sheet), small.scratch, small.answer);
 }
 
+static void small_open(void) {
+    till_open(small.block->till, small.spare, (const uint8_t *)small.sheet, strlen(small.sheet), small.answer);
+}
+
+static void small_close(void) { till_close(small.block->till, small.buffer, sizeof small.buffer, small.answer); }
+
 /* The bytes of the stack that the call took. */
-static size_t on_small_stack(struct Block *block, const char *sheet) {
+static size_t on_small_stack(struct Block *block, const char *sheet, void (*run)(void)) {
     uint8_t *all = mmap(NULL, SMALL + PAGE, PROT_READ | PROT_WRITE, MAP_PRIVATE | MAP_ANONYMOUS, -1, 0);
     if (all == MAP_FAILED || mprotect(all, PAGE, PROT_NONE) || getcontext(&small.there)) exit(2);
     uint8_t *stack = all + PAGE;
@@ -346,7 +359,7 @@ static size_t on_small_stack(struct Block *block, const char *sheet) {
     small.there.uc_stack.ss_sp = stack;
     small.there.uc_stack.ss_size = SMALL;
     small.there.uc_link = &small.here;
-    makecontext(&small.there, small_call, 0);
+    makecontext(&small.there, run, 0);
     if (swapcontext(&small.here, &small.there)) exit(2);
     size_t free_bytes = 0;
     while (free_bytes < SMALL && stack[free_bytes] == 0xC9) free_bytes++;
@@ -354,11 +367,25 @@ static size_t on_small_stack(struct Block *block, const char *sheet) {
     return SMALL - free_bytes;
 }
 
-static void measured(struct Block *block, const char *sheet, const uint32_t expected[4], const char *name) {
-    size_t taken = on_small_stack(block, sheet);
+static void measured_at(struct Block *block, const char *sheet, void (*run)(void), const uint32_t expected[4],
+                        const char *name) {
+    size_t taken = on_small_stack(block, sheet, run);
     check(memcmp(small.answer, expected, sizeof small.answer) == 0, "the answer on a small stack", name);
     check(taken <= TAKEN, "the header's 128 KB of stack", name);
     printf("%s: %zu bytes of stack\n", name, taken);
+}
+
+static void measured(struct Block *block, const char *sheet, const uint32_t expected[4], const char *name) {
+    measured_at(block, sheet, small_call, expected, name);
+}
+
+/* The longest text: 200 wordings g, 512 standing coupons of them, every minute of seven digits. */
+static void longest(char *to) {
+    to = stpcpy(to, "till,1,1000000,200,512\n");
+    for (int n = 0; n < 200; n++)
+        to += sprintf(to, "g,%d,9999999,9999990,9999991,1000000,9999999,9999990,9999998\n", 9000000 + n);
+    for (int n = 0; n < 512; n++)
+        to += sprintf(to, "%d,r,%d,1000000,9999999,9999990,9999998\n", 999488 + n, 100 + n % 100);
 }
 
 static char *times(char *to, int count, const char *lines) {
@@ -422,6 +449,12 @@ static void stack(void) {
     measured(&block, sheet, BOOKED, "255 steps, accepted");
     first_premises(&block, sheet);
     measured(&block, sheet, OPEN, "256 steps, 248 first premises in one another");
+    static const uint32_t LONG[4] = {1, TILL_TEXT_BYTES, 0, 0};
+    static char text[TILL_TEXT_BYTES + 1];
+    longest(text);
+    measured_at(&block, text, small_open, LONG, "opening the longest text");
+    measured_at(&block, text, small_close, LONG, "closing it");
+    check(memcmp(small.buffer, text, TILL_TEXT_BYTES) == 0, "the longest text", "closing it");
 }
 
 static const struct Group {
@@ -429,13 +462,15 @@ static const struct Group {
     void (*play)(void);
 } GROUPS[] = {{"calls", calls},   {"refusals", refusals}, {"lengths", lengths}, {"sessions", sessions},
               {"breaks", breaks}, {"houses", houses},     {"full", full},       {"serials", serials},
-              {"two", two},       {"bookings", bookings}, {"stack", stack}};
+              {"two", two},       {"bookings", bookings}, {"stack", stack},     {"texts", texts}};
 
 int main(int count, char **names) {
+    if (count < 2) return 2;
+    folder = names[1];
     open_pages();
     for (size_t i = 0; i < sizeof GROUPS / sizeof *GROUPS; i++) {
-        int wanted = count == 1;
-        for (int k = 1; k < count; k++) wanted |= strcmp(names[k], GROUPS[i].name) == 0;
+        int wanted = count == 2;
+        for (int k = 2; k < count; k++) wanted |= strcmp(names[k], GROUPS[i].name) == 0;
         if (wanted) GROUPS[i].play();
     }
     printf("%u passed, %u failed\n", passed, failed);

@@ -1,6 +1,7 @@
 //! Plays the sessions through the till and compares: `compare [SEED [SESSIONS]] [--long]`.
 
 mod generate;
+#[allow(dead_code)] // no text is opened here
 mod recount;
 #[path = "../reference/till.rs"]
 mod till;
@@ -85,12 +86,13 @@ fn play(session: &Session, number: usize, totals: &mut Totals) {
 
 fn main() {
     let (wish, _) = Wish::of(std::env::args().skip(1));
+    assert!(!wish.texts, "sessions with texts are written by `sheets` and played by programs");
     let mut totals = Totals::default();
     let sessions = generate::sessions(&wish);
     for (number, session) in sessions.iter().enumerate() {
         play(session, number, &mut totals);
     }
-    let missing = totals.coverage.report(wish.long);
+    let missing = totals.coverage.report(&wish);
     totals.failed += missing;
     println!("{} sessions, {} answers not known", sessions.len(), totals.unknown);
     println!("recount: {} sessions, {} tallies", totals.recounts, totals.tallies);

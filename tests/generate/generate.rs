@@ -1,5 +1,5 @@
 //! Seeded sessions of sheets for the booking till, with the answers that document 01 demands, and document 02 so far as
-//! it has landed (asks 1 to 4).
+//! it has landed (asks 1 to 4, and 5 in sessions of its own).
 
 pub mod arrivals;
 pub mod balance;
@@ -29,6 +29,10 @@ pub mod rng;
 pub mod session;
 pub mod slips;
 pub mod spans;
+pub mod text;
+pub mod text_form;
+pub mod text_life;
+pub mod text_rules;
 pub mod tour;
 pub mod wording;
 pub mod world;
@@ -44,16 +48,19 @@ pub struct Wish {
     pub sessions: u64,
     /// With the run up to the last serial.
     pub long: bool,
+    /// The sessions in which the till is closed and opened, and no others.
+    pub texts: bool,
 }
 
 impl Wish {
-    /// Seed and number of random sessions from the arguments, `--long` anywhere; the rest is returned.
+    /// Seed and number of random sessions from the arguments, `--long` and `--texts` anywhere; the rest is returned.
     pub fn of(args: impl Iterator<Item = String>) -> (Wish, Vec<String>) {
-        let (flags, rest): (Vec<String>, Vec<String>) = args.partition(|a| a == "--long");
+        let (flags, rest): (Vec<String>, Vec<String>) = args.partition(|a| a == "--long" || a == "--texts");
         let mut rest = rest.into_iter();
         let mut number = |default: u64| rest.next().map_or(default, |a| a.parse().expect("a number"));
         let (seed, sessions) = (number(1), number(12));
-        (Wish { seed, sessions, long: !flags.is_empty() }, rest.collect())
+        let asked = |flag: &str| flags.iter().any(|f| f == flag);
+        (Wish { seed, sessions, long: asked("--long"), texts: asked("--texts") }, rest.collect())
     }
 }
 
@@ -80,27 +87,68 @@ fn fixed(seed: u64, seen: &mut Seen) -> Vec<Session> {
     all
 }
 
+/// Sessions whose sheets are worth playing between closing and opening, and how many sheets lie between.
+fn to_pack(seed: u64, seen: &mut Seen) -> Vec<(Session, u32)> {
+    let mut all = papers::sessions();
+    all.extend(slips::sessions());
+    all.extend(balance::sessions());
+    all.extend(capacity::sessions(seed));
+    all.extend(tour::sessions().into_iter().filter(|session| !session.name.contains("straight through")));
+    all.extend(house::sessions(seed));
+    all.extend([full::session(seed), life::fixed(), life::session(seed, 120), balance::random(seed)]);
+    all.extend(spans::sessions(seed));
+    all.extend(drills::DRILLS.iter().map(|letters| drills::session(letters, true, seed, seen)));
+    let apart = |session: Session| {
+        let sheets = session.cases.len() as u32;
+        (session, 20 + sheets / 40)
+    };
+    all.into_iter().map(apart).collect()
+}
+
+/// The sessions in which the till is closed and opened.
+fn with_texts(wish: &Wish) -> Vec<Session> {
+    let mut seen = Seen::new();
+    let mut all = text_form::sessions(wish.seed);
+    all.extend(text_rules::sessions(wish.seed));
+    all.extend(text_life::sessions(wish.seed));
+    let to_pack = to_pack(wish.seed, &mut seen);
+    all.extend(to_pack.iter().map(|(session, apart)| text_life::packed(session, wish.seed, *apart)));
+    let random = random(wish, &mut seen);
+    all.extend(random.iter().map(|session| text_life::packed(session, session.seed, 12)));
+    all
+}
+
 /// All sessions of a run.
 pub fn sessions(wish: &Wish) -> Vec<Session> {
     relation::check();
+    if wish.texts {
+        return with_texts(wish);
+    }
     let mut seen = Seen::new();
     let mut all = fixed(wish.seed, &mut seen);
     let late = arrivals::sessions(wish.seed, &all);
+    all.extend(random(wish, &mut seen));
+    all.extend(late);
+    if wish.long {
+        all.push(long::session());
+    }
+    all
+}
+
+/// The random sessions.
+fn random(wish: &Wish, seen: &mut Seen) -> Vec<Session> {
+    let mut all = vec![];
     for n in 0..wish.sessions {
         let seed = wish.seed.wrapping_mul(1_000_003).wrapping_add(n);
         all.push(match n % 8 {
             0 => life::session(seed, 60),
             3 => balance::random(seed),
             6 => damage::random(seed),
-            _ => life::bookings(seed, &mut seen, 4, 12),
+            _ => life::bookings(seed, seen, 4, 12),
         });
         if n % 8 == 5 {
             all.push(house::random(seed));
         }
-    }
-    all.extend(late);
-    if wish.long {
-        all.push(long::session());
     }
     all
 }

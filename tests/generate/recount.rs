@@ -1,6 +1,7 @@
 //! Counts again, from the accepted sheets and their answers alone: issued and withdrawn as the section "Booking, tally"
 //! words it, and open, shut and placed as document 02, ask 3, divides them. All of it is held against the till's
-//! tallies.
+//! tallies. After an opening (document 02, ask 5) all begins at its text. What closing writes is held against the
+//! history.
 
 use crate::generate::model::Answer;
 use std::collections::{BTreeMap, BTreeSet};
@@ -13,8 +14,8 @@ struct Leaf {
     nearest: Option<u32>,
 }
 
-/// A live single-use coupon: its wording, and from, to, break first, break last.
-struct Single {
+/// A live coupon: its wording, and from, to, break first, break last.
+struct Coupon {
     wording: u32,
     window: [u32; 4],
 }
@@ -24,13 +25,16 @@ struct Single {
 #[derive(Default)]
 pub struct Recount {
     wordings: BTreeMap<u32, Vec<Leaf>>,
+    lines: BTreeMap<u32, String>,
     /// The session numbers that occur in an atom.
     sessions: BTreeSet<u32>,
     /// Serial to wording, for single-use coupons (η-logic's linear), live or not.
     singles: BTreeMap<u32, u32>,
-    live: BTreeMap<u32, Single>,
-    /// The serials of live standing coupons.
-    standing: BTreeSet<u32>,
+    /// Live singles by serial, and live standing coupons.
+    live: BTreeMap<u32, Coupon>,
+    standing: BTreeMap<u32, Coupon>,
+    /// The last serial that was given, or that counts as given since an opening.
+    last: u32,
     issued: Vec<u32>,
     withdrawn: Vec<u32>,
     minutes: BTreeSet<u32>,
@@ -69,40 +73,93 @@ impl Recount {
     fn accepted(&mut self, lines: &[&str], answer: u32) -> Option<()> {
         let fields: Vec<&str> = lines.first()?.split(',').collect();
         match fields[0] {
-            "word" => {
-                let leaves = self.leaves(&fields[1..])?;
-                self.wordings.insert(answer, leaves);
-            }
+            "word" => self.word(&fields[1..], answer)?,
             "issue" => {
-                let (wording, window) = (number(&fields, 2)?, self.window(&fields[3..])?);
-                if fields[1] == "s" {
-                    self.issued.push(wording);
-                    self.single(answer, wording, window);
-                } else {
-                    self.standing.insert(answer);
-                }
+                self.issue(&fields[1..], answer)?;
+                self.last = answer;
             }
             "book" => {
                 let (wording, window) = (number(&fields, 2)?, self.window(&fields[3..])?);
                 for hold in lines.get(1..=number(&fields, 7)? as usize)? {
                     let serial = hold.strip_prefix("hold,")?.parse().ok()?;
-                    (self.live.remove(&serial).is_some() || self.standing.contains(&serial)).then_some(())?;
+                    (self.live.remove(&serial).is_some() || self.standing.contains_key(&serial)).then_some(())?;
                 }
                 self.single(answer, wording, window);
+                self.last = answer;
             }
             "withdraw" => {
                 let serial = number(&fields, 1)?;
                 self.withdrawn.extend(self.singles.get(&serial));
-                (self.live.remove(&serial).is_some() || self.standing.remove(&serial)).then_some(())?;
+                (self.live.remove(&serial).is_some() || self.standing.remove(&serial).is_some()).then_some(())?;
             }
             _ => return None,
         }
         Some(())
     }
 
+    fn word(&mut self, fields: &[&str], answer: u32) -> Option<()> {
+        let leaves = self.leaves(fields)?;
+        self.wordings.insert(answer, leaves);
+        self.lines.insert(answer, fields.join(","));
+        Some(())
+    }
+
+    /// Kind, wording and window of a coupon that was issued, or stands in an opened text.
+    fn issue(&mut self, fields: &[&str], serial: u32) -> Option<()> {
+        let (wording, window) = (number(fields, 1)?, self.window(&fields[2..])?);
+        if fields[0] == "s" {
+            self.issued.push(wording);
+            self.single(serial, wording, window);
+        } else {
+            self.standing.insert(serial, Coupon { wording, window });
+        }
+        Some(())
+    }
+
     fn single(&mut self, serial: u32, wording: u32, window: [u32; 4]) {
         self.singles.insert(serial, wording);
-        self.live.insert(serial, Single { wording, window });
+        self.live.insert(serial, Coupon { wording, window });
+    }
+
+    /// An opening that was accepted: issued begins at what the opened singles hold, withdrawn at 0, and the history at
+    /// the text. Its wordings and serials count as given.
+    pub fn opened(&mut self, text: &[u8]) {
+        let wrong = std::mem::take(&mut self.wrong);
+        *self = Recount { wrong, ..Recount::default() };
+        let text = String::from_utf8_lossy(text).into_owned();
+        if self.begin(&text).is_none() {
+            self.wrong.push(format!("read, but no text or names what is not there: {text:?}"));
+        }
+    }
+
+    fn begin(&mut self, text: &str) -> Option<()> {
+        let lines: Vec<Vec<&str>> = text.lines().map(|line| line.split(',').collect()).collect();
+        let (wordings, coupons) = (number(lines.first()?, 3)?, number(lines.first()?, 4)?);
+        self.last = number(&lines[0], 2)?.checked_sub(1)?;
+        for n in 0..wordings {
+            self.word(lines.get(1 + n as usize)?, n)?;
+        }
+        for line in lines.get(1 + wordings as usize..)? {
+            self.issue(line.get(1..)?, number(line, 0)?)?;
+        }
+        (self.live.len() + self.standing.len() == coupons as usize).then_some(())
+    }
+
+    /// The text that closing wrote: the lines answered, and the coupons that are live by the history.
+    pub fn closed(&mut self, text: &[u8]) {
+        let singles = self.live.iter().map(|(serial, coupon)| (*serial, "s", coupon));
+        let standing = self.standing.iter().map(|(serial, coupon)| (*serial, "r", coupon));
+        let mut live: Vec<(u32, &str, &Coupon)> = singles.chain(standing).collect();
+        live.sort_by_key(|(serial, ..)| *serial);
+        let mut due = format!("till,1,{},{},{}\n", self.last + 1, self.lines.len(), live.len());
+        self.lines.values().for_each(|line| due += &format!("{line}\n"));
+        for (serial, kind, Coupon { wording, window: [from, to, first, last] }) in live {
+            due += &format!("{serial},{kind},{wording},{from},{to},{first},{last}\n");
+        }
+        if due.as_bytes() != text {
+            let text = String::from_utf8_lossy(text).into_owned();
+            self.wrong.push(format!("closed as {text:?}, by the history {due:?}"));
+        }
     }
 
     /// The four fields of a window; its ends and those of its break are noted.
@@ -164,11 +221,20 @@ impl Recount {
         let [line] = lines else { return None };
         let fields: Vec<&str> = line.strip_prefix("tally,")?.split(',').collect();
         let (session, minute) = (number(&fields, 0)?, number(&fields, 1)?);
-        let counted = self.figures(session, minute);
-        if counted != heard {
-            self.wrong.push(format!("session {session}, minute {minute}: counted {counted:?}, tally {heard:?}"));
-        }
+        self.wrong.extend(self.compared(session, minute, Some(heard)));
         Some(())
+    }
+
+    /// What is wrong with a tally: the three figures are not those counted here, or open + shut + placed + withdrawn is
+    /// not issued.
+    fn compared(&self, session: u32, minute: u32, heard: Option<Answer>) -> Option<String> {
+        let total = |list: &[u32]| list.iter().map(|w| self.count(*w, session)).sum::<u32>();
+        let (issued, withdrawn) = (total(&self.issued), total(&self.withdrawn));
+        let counted = self.figures(session, minute);
+        let sum = matches!(heard, Some(Answer::Counted(open, shut, placed))
+            if open + shut + placed + withdrawn == issued);
+        let what = format!("withdrawn {withdrawn}, issued {issued}, counted {counted:?}, tally {heard:?}");
+        (!sum || heard != Some(counted)).then(|| format!("session {session}, minute {minute}: {what}"))
     }
 
     /// The sessions that occur in an atom, and some that may not: both ends of the range, and for each the number that
@@ -189,23 +255,16 @@ impl Recount {
         some
     }
 
-    /// For every session that occurs (and some that may not): the three figures are those counted here, and
-    /// open + shut + placed + withdrawn = issued. Gives the number of tallies made and what was found wrong.
+    /// For every session that occurs (and some that may not), tallies as counted here. Gives the number of tallies made
+    /// and what was found wrong.
     pub fn check(&self, tally: &mut dyn FnMut(u32, u32) -> Option<Answer>) -> (u32, Vec<String>) {
         let mut wrong = self.wrong().to_vec();
         let mut made = 0;
         for session in self.asked() {
-            let total = |list: &[u32]| list.iter().map(|w| self.count(*w, session)).sum::<u32>();
-            let (issued, withdrawn) = (total(&self.issued), total(&self.withdrawn));
             for minute in self.minutes() {
                 made += 1;
-                let (heard, counted) = (tally(session, minute), self.figures(session, minute));
-                let sum = matches!(heard, Some(Answer::Counted(open, shut, placed))
-                    if open + shut + placed + withdrawn == issued);
-                if !sum || heard != Some(counted) {
-                    let what = format!("withdrawn {withdrawn}, issued {issued}, counted {counted:?}, tally {heard:?}");
-                    wrong.push(format!("session {session}, minute {minute}: {what}"));
-                }
+                let heard = tally(session, minute);
+                wrong.extend(self.compared(session, minute, heard));
             }
         }
         (made, wrong)

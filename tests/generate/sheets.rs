@@ -1,5 +1,6 @@
-//! Writes sessions to a folder: `sheets [SEED [SESSIONS [FOLDER]]] [--long]`.
-//! `NNNN.in` is `tillrun`'s standard input, `NNNN.out` the answers due, `?` where unknown.
+//! Writes sessions to a folder: `sheets [SEED [SESSIONS [FOLDER]]] [--long] [--texts]`.
+//! `NNNN.in` is `tillrun`'s standard input, `NNNN.out` the answers due, `?` where unknown. With `--texts` the sessions
+//! are those in which the till is closed and opened (NOTES.md, "Sessions with texts").
 
 #![allow(dead_code)]
 
@@ -7,7 +8,8 @@ mod generate;
 mod recount;
 
 use generate::coverage::Coverage;
-use generate::session::Session;
+use generate::model::Answer;
+use generate::session::{Call, Case, Session};
 use generate::Wish;
 use recount::Recount;
 use std::path::Path;
@@ -27,7 +29,7 @@ fn carried_last(sheet: &[u8]) -> bool {
 /// one that can stand at the end without an empty line does so, in every other session.
 fn files(session: &Session, number: usize) -> (Vec<u8>, String) {
     let (mut input, mut answers) = (vec![], String::new());
-    let line = |case: &generate::session::Case| match case.expected {
+    let line = |case: &Case| match case.expected {
         Some(answer) => answer.line() + "\n",
         None => "?\n".to_string(),
     };
@@ -46,11 +48,35 @@ fn files(session: &Session, number: usize) -> (Vec<u8>, String) {
     (input, answers)
 }
 
-/// The answers due, counted again up to the first that is not known: what the recount finds wrong with their tallies.
+/// Input and answers of a session with texts. `:close` and `:open N`, followed by the N bytes of the text, stand as
+/// sheets do; the answer to `:close` is followed by the text. Every answer is known, and no sheet begins as a command.
+fn files_with_texts(session: &Session) -> (Vec<u8>, Vec<u8>) {
+    let (mut input, mut answers) = (vec![], vec![]);
+    for case in &session.cases {
+        match case.call {
+            Call::Sheet => assert!(carried(&case.sheet) && !case.sheet.starts_with(b":")),
+            Call::Close => input.extend(b":close\n"),
+            Call::Open => input.extend(format!(":open {}\n", case.sheet.len()).into_bytes()),
+        }
+        input.extend(&case.sheet);
+        input.push(b'\n');
+        answers.extend((case.expected.expect("a known answer").line() + "\n").into_bytes());
+        answers.extend(&case.written);
+    }
+    (input, answers)
+}
+
+/// The answers due, counted again up to the first that is not known: what the recount finds wrong with their tallies,
+/// and with the texts that closing writes.
 fn recounted(session: &Session) -> Vec<String> {
     let mut history = Recount::default();
     for (case, answer) in session.cases.iter().map_while(|c| c.expected.map(|answer| (c, answer))) {
-        history.note(&case.sheet, answer);
+        match (case.call, answer) {
+            (Call::Sheet, _) => history.note(&case.sheet, answer),
+            (Call::Close, _) => history.closed(&case.written),
+            (Call::Open, Answer::Done(_)) => history.opened(&case.sheet),
+            (Call::Open, _) => {}
+        }
     }
     history.wrong().to_vec()
 }
@@ -68,7 +94,12 @@ fn main() {
             println!("RECOUNT FAILED: session {number} \"{}\", seed {}: {line}", session.name, session.seed);
             wrong += 1;
         }
-        let (input, answers) = files(session, number);
+        let (input, answers) = if wish.texts {
+            files_with_texts(session)
+        } else {
+            let (input, answers) = files(session, number);
+            (input, answers.into_bytes())
+        };
         let path = |end: &str| Path::new(folder).join(format!("{number:04}.{end}"));
         std::fs::write(path("in"), input).expect("the input can be written");
         std::fs::write(path("out"), answers).expect("the answers can be written");
@@ -76,7 +107,7 @@ fn main() {
         index += &format!("{number:04} {name} (seed {seed}), {sheets} sheets\n");
     }
     std::fs::write(Path::new(folder).join("index.txt"), index).expect("the index can be written");
-    let missing = coverage.report(wish.long);
+    let missing = coverage.report(&wish);
     println!("{} sessions written to {folder}, {missing} required things not reached", sessions.len());
     std::process::exit(i32::from(missing > 0 || wrong > 0));
 }

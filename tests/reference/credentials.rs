@@ -67,14 +67,42 @@ impl Credentials {
     /// Adds a credential and gives its serial; `check_room` has passed.
     pub fn add(&mut self, linear: bool, formula: FormulaId, interval: Interval) -> u32 {
         self.last += 1;
-        self.live[self.count] = Credential { serial: self.last, interval, formula, linear };
-        let mut entry = home(self.last);
+        self.put(Credential { serial: self.last, interval, formula, linear });
+        self.last
+    }
+
+    /// Puts in a credential whose serial is not live; there is room for it.
+    pub fn put(&mut self, credential: Credential) {
+        self.live[self.count] = credential;
+        let mut entry = home(credential.serial);
         while self.index[entry] != FREE {
             entry = (entry + 1) % INDEX;
         }
         self.index[entry] = self.count as Slot;
         self.count += 1;
-        self.last
+    }
+
+    /// The serial that the next credential gets, 1,000,000 if there is none left.
+    pub fn next(&self) -> u32 {
+        self.last + 1
+    }
+
+    pub fn set_next(&mut self, next: u32) {
+        self.last = next - 1;
+    }
+
+    pub fn count(&self) -> usize {
+        self.count
+    }
+
+    /// The live credentials, serials rising.
+    pub fn rising(&self) -> impl Iterator<Item = &Credential> {
+        let mut keys = [0; MAX_LIVE];
+        for (slot, credential) in self.live[..self.count].iter().enumerate() {
+            keys[slot] = credential.serial * MAX_LIVE as u32 + slot as u32;
+        }
+        keys[..self.count].sort_unstable();
+        keys.into_iter().take(self.count).map(|key| &self.live[key as usize % MAX_LIVE])
     }
 
     /// Removes a credential, if live; the last one moves into its slot.

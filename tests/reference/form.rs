@@ -14,8 +14,8 @@ const MAX_FORMULA: u32 = 999;
 const MAX_LABEL: u32 = 63;
 pub const MAX_SERIAL: u32 = 999_999;
 
-const COMMA: u8 = b',';
-const LINE_END: u8 = 10;
+pub const COMMA: u8 = b',';
+pub const LINE_END: u8 = 10;
 
 /// A request whose form is right.
 #[derive(Clone, Copy, PartialEq, Eq, Debug)]
@@ -56,7 +56,7 @@ pub fn read(sheet: &[u8], page: &mut Page) -> Result<Request, u32> {
     if sheet.len() > MAX_BYTES {
         return Err(refusal::OVERLONG);
     }
-    let mut reader = Reader { rest: sheet, crossed: false, unfit_break: false };
+    let mut reader = Reader::new(sheet);
     let request = reader.request(page).ok_or(refusal::FORM)?;
     if !reader.rest.is_empty() {
         return Err(refusal::FORM);
@@ -70,16 +70,21 @@ pub fn read(sheet: &[u8], page: &mut Page) -> Result<Request, u32> {
     Ok(request)
 }
 
-/// The unread rest of the request. Every method gives None if the form or a range is broken.
-struct Reader<'a> {
-    rest: &'a [u8],
+/// The unread rest of a request, or of a closed till's text. Every method gives None if the form or a
+/// range is broken.
+pub struct Reader<'a> {
+    pub rest: &'a [u8],
     /// An interval with from > to was read.
-    crossed: bool,
+    pub crossed: bool,
     /// An interval whose break does not fit was read.
-    unfit_break: bool,
+    pub unfit_break: bool,
 }
 
-impl Reader<'_> {
+impl<'a> Reader<'a> {
+    pub fn new(bytes: &'a [u8]) -> Reader<'a> {
+        Reader { rest: bytes, crossed: false, unfit_break: false }
+    }
+
     fn request(&mut self, page: &mut Page) -> Option<Request> {
         if self.skip(b"book,") {
             return Some(Request::Book(self.booking(page)?));
@@ -94,7 +99,7 @@ impl Reader<'_> {
             return Some(Request::Issue { linear, formula, interval: self.interval(LINE_END)? });
         }
         if self.skip(b"withdraw,") {
-            return Some(Request::Withdraw { serial: self.serial()? });
+            return Some(Request::Withdraw { serial: self.serial(LINE_END)? });
         }
         if self.skip(b"word,") {
             return Some(Request::Word(self.formula()?));
@@ -114,7 +119,7 @@ impl Reader<'_> {
             if !self.skip(b"hold,") {
                 return None;
             }
-            *hold = self.serial()?;
+            *hold = self.serial(LINE_END)?;
         }
         for step in page.steps.iter_mut().take(head.steps) {
             *step = self.step()?;
@@ -123,14 +128,14 @@ impl Reader<'_> {
     }
 
     /// `s,` single-use (linear) or `r,` standing (unrestricted).
-    fn kind(&mut self) -> Option<bool> {
+    pub fn kind(&mut self) -> Option<bool> {
         if self.skip(b"s,") {
             return Some(true);
         }
         self.skip(b"r,").then_some(false)
     }
 
-    fn formula(&mut self) -> Option<Formula> {
+    pub fn formula(&mut self) -> Option<Formula> {
         let (&letter, rest) = self.rest.split_first_chunk::<2>()?;
         self.rest = rest;
         Some(match &letter {
@@ -184,7 +189,7 @@ impl Reader<'_> {
     }
 
     /// Steps over the text if it comes next.
-    fn skip(&mut self, text: &[u8]) -> bool {
+    pub fn skip(&mut self, text: &[u8]) -> bool {
         match self.rest.strip_prefix(text) {
             Some(rest) => {
                 self.rest = rest;
@@ -201,7 +206,7 @@ impl Reader<'_> {
     }
 
     /// A decimal number without leading zeros, low to high, and the byte that ends its field.
-    fn number(&mut self, low: u32, high: u32, end: u8) -> Option<u32> {
+    pub fn number(&mut self, low: u32, high: u32, end: u8) -> Option<u32> {
         let mut value = digit(self.byte()?)?;
         let zero = value == 0;
         loop {
@@ -246,7 +251,7 @@ impl Reader<'_> {
         self.number(0, MAX_MINUTE, end)
     }
 
-    fn formula_id(&mut self, end: u8) -> Option<FormulaId> {
+    pub fn formula_id(&mut self, end: u8) -> Option<FormulaId> {
         self.number(0, MAX_FORMULA, end)
     }
 
@@ -254,12 +259,11 @@ impl Reader<'_> {
         Some(self.number(0, MAX_LABEL, end)? as Label)
     }
 
-    /// A serial, which always ends its line.
-    fn serial(&mut self) -> Option<u32> {
-        self.number(1, MAX_SERIAL, LINE_END)
+    pub fn serial(&mut self, end: u8) -> Option<u32> {
+        self.number(1, MAX_SERIAL, end)
     }
 
-    fn interval(&mut self, end: u8) -> Option<Interval> {
+    pub fn interval(&mut self, end: u8) -> Option<Interval> {
         let interval = Interval {
             from: self.minute(COMMA)?,
             to: self.minute(COMMA)?,

@@ -48,6 +48,11 @@ impl Formulas {
         }
     }
 
+    /// The lines, by number.
+    pub fn lines(&self) -> &[Formula] {
+        &self.lines[..self.count]
+    }
+
     pub fn is_there(&self, id: FormulaId) -> bool {
         (id as usize) < self.count
     }

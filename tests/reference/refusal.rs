@@ -36,3 +36,12 @@ pub const STEP_COUNT: u32 = 42;
 pub const CREDENTIALS_FULL: u32 = 22;
 /// Serial 999,999 was given.
 pub const SERIALS_SPENT: u32 = 23;
+
+// A closed till's text (document 02, ask 5)
+
+/// Form or a range is broken, counts do not match or are too high, or serials do not rise.
+pub const TEXT_FORM: u32 = 50;
+/// A formula or credential breaks a rule of word or issue, or a serial is not below next.
+pub const TEXT_RULE: u32 = 51;
+/// The buffer is too short for the text.
+pub const BUFFER: u32 = 52;

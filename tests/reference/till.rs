@@ -12,6 +12,8 @@ mod formulas;
 mod logic;
 #[path = "refusal.rs"]
 mod refusal;
+#[path = "saved.rs"]
+pub mod saved;
 #[path = "steps.rs"]
 mod steps;
 #[cfg(test)]
@@ -72,6 +74,13 @@ impl Till {
     }
 
     fn issue(&mut self, linear: bool, formula: FormulaId, interval: Interval) -> Result<u32, u32> {
+        self.check_kind(linear, formula)?;
+        self.credentials.check_room(0)?;
+        Ok(self.credentials.add(linear, formula, interval))
+    }
+
+    /// Refusals 10, 20 and 21 of an issue.
+    fn check_kind(&self, linear: bool, formula: FormulaId) -> Result<(), u32> {
         if !self.formulas.is_there(formula) {
             return Err(refusal::NO_FORMULA);
         }
@@ -81,8 +90,7 @@ impl Till {
         if !linear && !self.formulas.balanced(formula) {
             return Err(refusal::NOT_BALANCED);
         }
-        self.credentials.check_room(0)?;
-        Ok(self.credentials.add(linear, formula, interval))
+        Ok(())
     }
 
     fn withdraw(&mut self, serial: u32) -> Result<u32, u32> {

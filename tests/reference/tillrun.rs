@@ -1,12 +1,15 @@
 //! `tillrun`: plays requests ("sheets") from standard input against an empty till and prints the
 //! answers, one line each.
 
+#[path = "print.rs"]
+mod print;
 #[path = "till.rs"]
 mod till;
 
+use print::write_answer;
 use std::io::{self, Read, Write};
 use std::process::ExitCode;
-use till::{Answer, Till};
+use till::Till;
 
 const MAX_BYTES: usize = 16_384;
 const LINE_END: u8 = 10;
@@ -105,16 +108,6 @@ impl Kiosk {
         let answer = self.till.call(sheet);
         write_answer(&mut self.answers, answer);
     }
-}
-
-fn write_answer(output: &mut Vec<u8>, answer: Answer) {
-    let line = match answer {
-        Answer::Done(number) => writeln!(output, "ok,{number}"),
-        Answer::Counted(open, shut, placed) => writeln!(output, "ok,{open},{shut},{placed}"),
-        Answer::Refused(number, step) => writeln!(output, "no,{number},{step}"),
-    };
-    // writing into a vector does not fail
-    line.unwrap_or(());
 }
 
 #[cfg(test)]

@@ -7,12 +7,12 @@ use borrow.Author.Tests.{lt-leb}
 use native.Mathlib.Omega.{arith}
 use Rattle.logic.specs.Formula.{Formula}
 use Rattle.request.specs.declared.Kind.{Kind}
-use Rattle.ledger.specs.Checks.{_if_, maxLive}
+use Rattle.ledger.specs.Checks.{_if_, maxLive, unissuable, unissuableNumber}
 use Rattle.ledger.proofs.Answers.{some-none}
 use Rattle.ledger.proofs.Firsts.{if-false, if-true}
 use Rattle.call_checks.specs.declared.Verdict.{Verdict}
 use Rattle.call_checks.specs.declared.Verdict.the-variants.{Passed, Failed}
-use Rattle.call_checks.specs.Verdicts.{checked, Tells, unissuable, unissuableNumber}
+use Rattle.call_checks.specs.Verdicts.{checked, Tells}
 
 -- whether a check fails
 abbrev pub fails : Verdict → Bool

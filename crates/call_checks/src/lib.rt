@@ -14,9 +14,9 @@ ghost use Rattle.logic.specs.Counts.{balanced};
 ghost use Rattle.ledger.specs.Table.{names};
 ghost use Rattle.ledger.specs.Ledger.{formula};
 ghost use Rattle.request.specs.Request.{lineIntervals};
-ghost use Rattle.ledger.specs.Checks.{anyOf, missing, noRoom, usedUp};
+ghost use Rattle.ledger.specs.Checks.{anyOf, missing, unissuable, unissuableNumber, noRoom, usedUp};
 ghost use Rattle.store.specs.Store.{lineOf, ledgerOf, Canonical, Good};
-ghost use Rattle.call_checks.specs.Verdicts.{Tells, unissuable, unissuableNumber};
+ghost use Rattle.call_checks.specs.Verdicts.{Tells};
 
 pub enum Verdict {
     Passed,

@@ -9,13 +9,13 @@ use native.Mathlib.Omega.{arith}
 use Rattle.logic.specs.declared.Interval.{Interval}
 use Rattle.logic.specs.Interval.{reversed, broken}
 use Rattle.request.specs.declared.Kind.{Kind}
-use Rattle.request.specs.declared.Kind.the-variants.{Linear, Unrestricted}
 use Rattle.request.specs.Range.{serial}
 use Rattle.request.specs.Request.{issue, withdraw, tally, intervals}
 use Rattle.ledger.specs.declared.Credential.{Credential}
 use Rattle.ledger.specs.declared.Answer.the-variants.{Accepted, Counted, Refused}
 use Rattle.ledger.specs.Ledger.{formula, withoutSerial, isNone}
-use Rattle.ledger.specs.Checks.{Check, _if_, anyOf, maxLive, missing, noRoom, usedUp, checks}
+use Rattle.ledger.specs.Checks.{Check, _if_, anyOf, maxLive, missing, unissuable, unissuableNumber, noRoom, usedUp}
+use Rattle.ledger.specs.Checks.{checks}
 use Rattle.ledger.specs.Calls.{openSeats, shutSeats, withLive, withCredential, accept}
 use Rattle.ledger.specs.Statements.{from-start, _▸_}
 use Rattle.ledger.proofs.Firsts.{if-false, if-true, no-intervals}
@@ -28,7 +28,7 @@ use Rattle.formula_tally.specs.declared.Figures.{Figures}
 use Rattle.formula_tally.specs.Tally.{Tallied}
 use Rattle.call_checks.specs.declared.Verdict.{Verdict}
 use Rattle.call_checks.specs.declared.Verdict.the-variants.{Passed, Failed}
-use Rattle.call_checks.specs.Verdicts.{Tells, unissuable, unissuableNumber}
+use Rattle.call_checks.specs.Verdicts.{Tells}
 use Rattle.call_checks.proofs.Verdicts.{shown, reworded}
 use Rattle.call_contracts.specs.Called.{Handled}
 use Rattle.call_contracts.proofs.Laws.{refused, accepted}
@@ -82,18 +82,12 @@ module _ (l : List ℕ) (k : Kind) (n : ℕ) (i : Interval) where
   pub past-3 : {v : Verdict} → Tells 3 v (reversed i) → v ≡ Passed → Past l k n i (after-3 l k n i)
   past-3 h e = from-start ▸ shown (intervals-told reversed k n i h) e
 
-  -- the checks after the intervals', in one list for both kinds
+  -- the checks after the intervals'
   pub past-43 : {v : Verdict} → Past l k n i (after-3 l k n i) → Tells 43 v (broken i) → v ≡ Passed
       → Past l k n i ((10 if missing (ledgerOf l) n) ∷ (unissuableNumber k if unissuable k (formula (ledgerOf l) n))
       ∷ lastChecks (ledgerOf l))
   unfolding checks
-  past-43 s h e = subst (Past l k n i) (by-kind k) (s ▸ shown (intervals-told broken k n i h) e)
-    where
-      by-kind : (k : Kind) → checks (ledgerOf l) (issue k n i)
-          ≡ (10 if missing (ledgerOf l) n) ∷ (unissuableNumber k if unissuable k (formula (ledgerOf l) n))
-          ∷ lastChecks (ledgerOf l)
-      by-kind Linear = refl
-      by-kind Unrestricted = refl
+  past-43 s h e = s ▸ shown (intervals-told broken k n i h) e
 
 module _ {l : List ℕ} {k : Kind} {n : ℕ} {i : Interval} where
   pub issue-reversed : {v : Verdict} → Good l → Tells 3 v (reversed i) → v ≡ Failed

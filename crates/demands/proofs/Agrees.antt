@@ -19,8 +19,8 @@ use Rattle.ledger.specs.declared.Answer.the-variants.{Accepted, Counted, Refuse
 use Rattle.ledger.specs.Table.{form, names}
 use Rattle.ledger.specs.Ledger.{Ledger, formula, byKind, find, withoutSerial}
 use Rattle.ledger.specs.Calls.{withLine, withLive, withCredential}
-use Rattle.demands.specs.History.{Event, History, note, learn, formulaIn, Given, givenIn, seatsAndPlaces}
-use Rattle.demands.specs.History.{issued}
+use Rattle.demands.specs.History.{Event, History, _upon_, note, learn, formulaIn, Given, givenIn}
+use Rattle.demands.specs.History.{seatsAndPlaces, issued}
 use Rattle.demands.specs.History.{seatsAndPlacesOf, withdrawn}
 use Rattle.ledger.proofs.Credentials.{take-out, linearly}
 use Rattle.ledger.specs.Bounds.{There, Tabled}
@@ -55,7 +55,7 @@ event r n = record { request = r; answer = Accepted n }
 -- A new formula
 
 pub word-keeps : (t : Ledger) (h : History) (l : Line) → Agrees t h → There t (names l)
-    → Agrees (withLine t l) (event (word l) (length (t .lines)) ∷ h)
+    → Agrees (withLine t l) (event (word l) (length (t .lines)) upon h)
 unfolding formulaIn givenIn issued withdrawn
 word-keeps t h l a r = record {
   tabled = line-tabled t l (a .tabled) r;
@@ -91,9 +91,9 @@ unlearned : {A : Type 0} (n k : ℕ) (x : A) (f : ℕ → A) → n < k → learn
 unlearned n k x f lt = rw (ne-eqb n k (λ e. omega arith), learn)
 
 pub given-right : (t : Ledger) (h : History) (e : Event) (cs : List Credential) (k : Kind) (n : ℕ) (i : Interval)
-    → givenIn (e ∷ h) ≡ learn (Accepted (t .next)) (some (record { kind = k; formula = n })) (givenIn h)
+    → givenIn (e upon h) ≡ learn (Accepted (t .next)) (some (record { kind = k; formula = n })) (givenIn h)
     → Every (Right t h) cs → n < length (t .lines) → FitsKind k (formula t n)
-    → Every (Right (withCredential (withLive t cs) k n i) (e ∷ h)) (cs ++ (new t k n i ∷ []))
+    → Every (Right (withCredential (withLive t cs) k n i) (e upon h)) (cs ++ (new t k n i ∷ []))
 given-right t h e cs k n i q r lt f =
     every-snoc _ cs (new t k n i)
     (every-map (λ c r. record {
@@ -111,7 +111,7 @@ given-right t h e cs k n i q r lt f =
     })
 
 pub issue-keeps : (t : Ledger) (h : History) (k : Kind) (n : ℕ) (i : Interval) → Agrees t h → n < length (t .lines)
-    → FitsKind k (formula t n) → Agrees (withCredential t k n i) (event (issue k n i) (t .next) ∷ h)
+    → FitsKind k (formula t n) → Agrees (withCredential t k n i) (event (issue k n i) (t .next) upon h)
 unfolding formulaIn givenIn issued withdrawn
 issue-keeps t h k n i a lt f = record {
   tabled = same-table t _ _ (a .tabled);
@@ -146,7 +146,7 @@ known t t′ h h′ cs n l g = every-map (λ c q. record {
 }) cs
 
 pub withdraw-keeps : (t : Ledger) (h : History) (n : ℕ) (c : Credential) → find (t .live) n ≡ some c → Agrees t h
-    → Agrees (withLive t (withoutSerial (t .live) n)) (event (withdraw n) n ∷ h)
+    → Agrees (withLive t (withoutSerial (t .live) n)) (event (withdraw n) n upon h)
 unfolding formulaIn givenIn issued withdrawn
 withdraw-keeps t h n c e a =
     let out = take-out (t .live) n e in
@@ -167,7 +167,7 @@ withdraw-keeps t h n c e a =
 -- A tally
 
 pub tally-keeps : (t : Ledger) (h : History) (s m x y z : ℕ) → Agrees t h
-    → Agrees t (record { request = tally s m; answer = Counted x y z } ∷ h)
+    → Agrees t (record { request = tally s m; answer = Counted x y z } upon h)
 unfolding formulaIn givenIn issued withdrawn
 tally-keeps t h s m x y z a = record {
   tabled = a .tabled;

@@ -4,9 +4,10 @@ use mathlib.Core.Path.{_≡_, refl, ap, _∙_}
 use mathlib.Core.List.{List, [], _∷_}
 use mathlib.Core.Option.{some}
 use mathlib.Core.Bool.{Bool, true, false}
-use Prim.Native.Nat.{ℕ, _+_, _-_, _≤_}
+use Prim.Native.Nat.{ℕ, _+_, _-_, _≤_, _<_}
 use native.Mathlib.Omega.{arith}
 use lib.ListN.{length}
+use borrow.Author.Tests.{leb-false, eq-eqb, ne-eqb}
 use Rattle.logic.specs.declared.Interval.{Interval}
 use Rattle.logic.specs.Interval.{has}
 use Rattle.logic.specs.Formula.{Formula, seats, places, houseSeats, plain}
@@ -25,22 +26,27 @@ use Rattle.request.specs.Write.{write}
 use Rattle.request.specs.InRange.{InRange}
 use Rattle.request.proofs.Requests.{write-read, read-in-range, write-short}
 use Rattle.ledger.specs.declared.Credential.{Credential}
-use Rattle.ledger.specs.Table.{build, formulas}
-use Rattle.ledger.specs.Ledger.{Ledger, empty, formula, byKind, held, spend}
+use Rattle.ledger.specs.Ledger.{Ledger, formula, byKind, find, held, spend}
 use Rattle.ledger.specs.Checks.{steps, checks}
 use Rattle.ledger.specs.Calls.{withLive, withCredential, only, openIn, shutIn, openOf, shutOf, placesOf}
 use Rattle.ledger.specs.Calls.{openSeats, shutSeats, placed}
 use Rattle.ledger.specs.Calls.{accept}
 use Rattle.ledger.specs.Calls.{call, after}
-use Rattle.demands.specs.History.{History, note, historyOf, formulaIn, givenIn, seatsAndPlaces, issued}
-use Rattle.demands.specs.History.{withdrawn}
-use Rattle.ledger.proofs.Answers.{heard}
+use Rattle.demands.specs.History.{History, begun, _upon_, note, historyOf, formulaIn, givenOf, givenIn}
+use Rattle.demands.specs.History.{seatsAndPlaces, issued, withdrawn}
+use Rattle.ledger.specs.Bounds.{Rises, Below}
+use Rattle.ledger.specs.Statements.{Pass}
+use Rattle.ledger.proofs.Answers.{if-none, heard}
 use Rattle.ledger.proofs.Firsts.{none-stops, handle-passes, no-intervals, call-read}
 use Rattle.ledger.proofs.Walk.{Keeps, walk}
 use Rattle.ledger.proofs.Credentials.{linearly, open-shut, splits}
 use Rattle.ledger.proofs.Bounds.{same-table}
-use Rattle.ledger.proofs.Passed.{FitsKind, passed-word, passed-issue, passed-withdraw, PassedBook, passed-book}
-use Rattle.demands.specs.Demands.{hyp, hypsOf, Demand3}
+use Rattle.ledger.proofs.Passed.{FitsKind, fits-kind, passed-word, passed-issue, passed-withdraw}
+use Rattle.ledger.proofs.Passed.{PassedBook, passed-book}
+use Rattle.snapshot.specs.Snapshot.{credentialRules}
+use Rattle.snapshot.specs.InForm.{Lawful}
+use Rattle.snapshot.proofs.Lawful.{begins-lawful}
+use Rattle.demands.specs.Demands.{Begins, hyp, hypsOf, Demand3}
 use Rattle.steps.specs.Limits.{Writable}
 use Rattle.demands.proofs.Demand2.{few-held, writable-steps, steps-derive}
 use Rattle.demands.proofs.Agrees.{note-silent}
@@ -96,7 +102,7 @@ book-keeps : (t : Ledger) (h : History) (b : Booking) → Agrees t h → PassedB
     → length (b .holds) ≤ heldRange .last → Every Writable (b .steps)
     → Agrees
     (withCredential (withLive t (spend (t .live) (held (t .live) (b .holds)))) Linear (b .formula) (b .interval))
-    (event (book b) (t .next) ∷ h)
+    (event (book b) (t .next) upon h)
 unfolding formulaIn givenIn issued withdrawn
 book-keeps t h b a p le w =
     let hs = held (t .live) (b .holds) in
@@ -130,17 +136,37 @@ accept-keeps t h b (book x) e p a =
     book-keeps t h x a (passed-book t x (p .rest)) (r .holdCount .most) (writable-steps x r (p .formed))
 accept-keeps t h b (tally s m) e p a = tally-keeps t h s m _ _ _ a
 
-empty-agrees : Agrees empty []
-unfolding formulaIn build formulas sum withdrawn issued
-empty-agrees = record {
-  tabled = record { reads = λ n. refl; refs = λ n. tt };
+-- A lawful ledger agrees with the history that begins at it: serials rise, so each live credential is found by its own.
+-- Those from cs on, all above lo: what is above lo is found among them
+begun-right : (t : Ledger) (lo : ℕ) (cs : List Credential) → ((m : ℕ) → lo < m → find (t .live) m ≡ find cs m)
+    → Rises lo cs → Below (t .next) cs → Every (λ c. Pass (credentialRules t c)) cs → Every (Right t (begun t)) cs
+unfolding givenIn find
+begun-right t lo [] f r b o = tt
+begun-right t lo (c ∷ cs) f r b o =
+    let above = r .0 in
+    let present = o .0 .1 .1 in (
+      record {
+        given = ap givenOf (f (c .serial) above) ∙ rw (eq-eqb (c .serial) (c .serial) refl, find);
+        below = b .0;
+        there = leb-false _ _ (if-none 10 _ (present .0));
+        fits = fits-kind (c .kind) (formula t (c .formula)) (present .1 .0);
+      },
+      begun-right t (c .serial) cs
+          (λ m h. f m (omega arith) ∙ rw (ne-eqb (c .serial) m (λ e. omega arith), find)) (r .1) (b .1) (o .1),
+    )
+
+begun-agrees : (t : Ledger) → Lawful t → Agrees t (begun t)
+unfolding formulaIn withdrawn issued
+begun-agrees t w = record {
+  tabled = w .bounded .tabled;
   formulas = refl;
-  credentials = tt;
-  totals = λ s. refl;
+  credentials = begun-right t 0 (t .live) (λ m h. refl) (w .bounded .rises) (w .bounded .below) (w .obeys);
+  totals = λ s. omega arith;
 }
 
-pub agrees : (bs : List (List ℕ)) → Agrees (after empty bs) (historyOf bs)
-agrees bs = walk note Agrees note-silent accept-keeps empty [] bs empty-agrees
+pub agrees : (start : Ledger) → Begins start → (bs : List (List ℕ)) → Agrees (after start bs) (historyOf start bs)
+agrees start g bs =
+    walk note Agrees note-silent accept-keeps start (begun start) bs (begun-agrees start (begins-lawful g))
 
 -- The figures of a tally
 
@@ -172,8 +198,8 @@ tally-accepted t s m b le e =
 
 pub demand-3 : Demand3
 unfolding accept openSeats shutSeats placed
-demand-3 calls s m hs hm =
-    let t = after empty calls in
+demand-3 start g calls s m hs hm =
+    let t = after start calls in
     let r : InRange (tally s m) = record { session = hs; minute = hm } in
     let e = tally-accepted t s m (write (tally s m)) (write-short (tally s m) r) (write-read (tally s m) r) in
     record {
@@ -181,5 +207,5 @@ demand-3 calls s m hs hm =
       shutSeats = shutSeats t s m;
       placed = placed t s;
       answer = ap heard e;
-      sum = omega (arith, agrees calls .totals s, tally-sum t s m (t .live));
+      sum = omega (arith, agrees start g calls .totals s, tally-sum t s m (t .live));
     }

@@ -12,15 +12,16 @@ use Rattle.request.specs.declared.Kind.{Kind}
 use Rattle.request.specs.declared.Kind.the-variants.{Linear, Unrestricted}
 use Rattle.request.specs.Request.{Request, word, issue, withdraw, book, tally}
 use Rattle.ledger.specs.declared.Credential.{Credential}
-use Rattle.ledger.specs.Ledger.{Ledger, empty, byKind, find, withoutSerial, held, spend}
+use Rattle.ledger.specs.Ledger.{Ledger, byKind, find, withoutSerial, held, spend}
 use Rattle.ledger.specs.Checks.{anyOf}
 use Rattle.ledger.specs.Calls.{Reply, told, accept, call}
 use Rattle.ledger.proofs.Answers.{some-inj}
-use Rattle.demands.specs.History.{History, note}
+use Rattle.demands.specs.History.{History, begun, note}
 use Rattle.demands.proofs.Agrees.{note-silent}
 use Rattle.ledger.proofs.Walk.{Keeps, walk}
 use Rattle.ledger.specs.Bounds.{Rises, Below, Bounded}
-use Rattle.ledger.proofs.Bounds.{rises-without, bounded}
+use Rattle.ledger.proofs.Bounds.{rises-without}
+use Rattle.snapshot.proofs.Lawful.{lawful}
 use Rattle.demands.specs.Effects.{EffectOf, Effects, spent, serials, CountUp, SerialsOnce}
 use Rattle.demands.proofs.Demand1.{call-accepts}
 
@@ -163,23 +164,25 @@ pub effects : Effects
 effects t reached bytes r e a =
     let c = call-accepts t bytes a in
     let same : c .0 ≡ r = some-inj (sym (c .1) ∙ e) in
-    let b : Bounded t = subst Bounded (reached .gives) (bounded (reached .calls)) in
-    subst (λ (d : Reply). EffectOf t r (told (d .answer)) (d .ledger)) (sym (c .2 ∙ ap (accept t) same)) (effect t b r)
+    subst (λ (d : Reply). EffectOf t r (told (d .answer)) (d .ledger)) (sym (c .2 ∙ ap (accept t) same))
+    (effect t (lawful t reached .bounded) r)
 
 -- Serials, in order
 
-record InOrder (t : Ledger) (h : History) : Type 0 where
-  up : CountUp (serials h)
-  next : t .next ≡ length (serials h) + 1
+record InOrder (lo : ℕ) (t : Ledger) (h : History) : Type 0 where
+  up : CountUp lo (serials h)
+  next : t .next ≡ length (serials h) + lo
 
-accept-in-order : Keeps note InOrder
+accept-in-order : (lo : ℕ) → Keeps note (InOrder lo)
 unfolding accept serials
-accept-in-order t h b (word l) e p o = record { up = o .up; next = o .next }
-accept-in-order t h b (issue k n i) e p o = record { up = (o .next, o .up); next = omega (arith, o .next) }
-accept-in-order t h b (withdraw n) e p o = record { up = o .up; next = o .next }
-accept-in-order t h b (book x) e p o = record { up = (o .next, o .up); next = omega (arith, o .next) }
-accept-in-order t h b (tally s m) e p o = record { up = o .up; next = o .next }
+accept-in-order lo t h b (word l) e p o = record { up = o .up; next = o .next }
+accept-in-order lo t h b (issue k n i) e p o = record { up = (o .next, o .up); next = omega (arith, o .next) }
+accept-in-order lo t h b (withdraw n) e p o = record { up = o .up; next = o .next }
+accept-in-order lo t h b (book x) e p o = record { up = (o .next, o .up); next = omega (arith, o .next) }
+accept-in-order lo t h b (tally s m) e p o = record { up = o .up; next = o .next }
 
 pub serials-once : SerialsOnce
 unfolding serials
-serials-once calls = walk note InOrder note-silent accept-in-order empty [] calls (record { up = tt; next = refl }) .up
+serials-once start calls =
+    walk note (InOrder (start .next)) note-silent (accept-in-order (start .next)) start (begun start) calls
+    (record { up = tt; next = omega arith }) .up

@@ -16,14 +16,14 @@ use Rattle.ledger.proofs.Answers.{some-none, passed-bytes, stepsIn, TableRow, t
 use Rattle.ledger.proofs.Credentials.{any-none, held-all}
 use Rattle.ledger.proofs.Passed.{PassedRead, passed-read, passed-book}
 use Rattle.ledger.specs.Bounds.{Bounded}
-use Rattle.ledger.proofs.Bounds.{bounded}
+use Rattle.snapshot.proofs.Lawful.{lawful}
 use Rattle.demands.specs.Demands.{Reached, Soundness, OnlySteps}
 use Rattle.demands.specs.Demands.{Exactness}
 use Rattle.demands.proofs.Demand1.{demand-1}
 use Rattle.demands.proofs.Demand2.{few-held, writable-steps, steps-exactly, steps-refused, steps-derive}
 
 pub reached-bounded : (t : Ledger) → Reached t → Bounded t
-reached-bounded t r = subst Bounded (r .gives) (bounded (r .calls))
+reached-bounded t r = lawful t r .bounded
 
 -- an accepted booking has passed its checks
 pub passed : (t : Ledger) (bytes : List ℕ) (b : Booking) → requestOf bytes ≡ some (book b) → Pass (checksOf t bytes)

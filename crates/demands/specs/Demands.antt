@@ -24,17 +24,13 @@ use Rattle.steps.specs.StepLetters.{lettersOf}
 use Rattle.steps.specs.Limits.{Minutes, Writable}
 use Rattle.steps.specs.Spells.{Labels, Labelled, Spells, Refused as StepsRefused}
 use Rattle.ledger.specs.declared.Credential.{Credential}
-use Rattle.ledger.specs.Ledger.{Ledger, empty, formula, isKind, held}
+use Rattle.ledger.specs.Ledger.{Ledger, formula, isKind, held}
 use Rattle.ledger.specs.Checks.{Check, anyOf, missing, dead, twice, labelsOf, steps}
 use Rattle.ledger.specs.Checks.{checksOf}
 use Rattle.ledger.specs.Calls.{Told, ok, accept, call, toldOf, after}
+pub use Rattle.snapshot.specs.Reached.{Begins, Reached}
 use Rattle.demands.specs.History.{historyOf, issued, withdrawn}
 use Rattle.ledger.specs.Statements.{Pass, FirstFails, IsAccepted}
-
--- "A till is what calls give, beginning from the empty one": the ledger after a list of calls.
-pub record Reached (t : Ledger) : Type 0 where
-  pub calls : List (List ℕ)
-  pub gives : after empty calls ≡ t
 
 -- DEMAND 1. "Any bytes of any length: a sheet that fails a check gets the number of the first check that fails; till
 -- and sheet stay exactly as they were; nothing is required of the caller but a till that calls gave."
@@ -177,16 +173,18 @@ Accepts = (t : Ledger) (bytes : List ℕ) → IsAccepted (toldOf t bytes)
     → (r : Request) × (requestOf bytes ≡ some r) × (call t bytes ≡ accept t r)
 
 -- DEMAND 3. "For every list of calls from an empty till, for every session and minute: open + shut + placed +
--- withdrawn = issued, counted from the accepted sheets and their answers alone."
+-- withdrawn = issued, counted from the accepted sheets and their answers alone." After opening, "demand 3 holds from
+-- there as from an empty till".
 
 -- after the calls, a tally of the session and the minute answers three figures that add up with what was withdrawn to
 -- what was issued
-pub record AddsUp (calls : List (List ℕ)) (s m : ℕ) : Type 0 where
+pub record AddsUp (start : Ledger) (calls : List (List ℕ)) (s m : ℕ) : Type 0 where
   pub openSeats : ℕ
   pub shutSeats : ℕ
   pub placed : ℕ
-  pub answer : toldOf (after empty calls) (write (tally s m)) ≡ ok (openSeats ∷ shutSeats ∷ placed ∷ [])
-  pub sum : openSeats + shutSeats + placed + withdrawn s (historyOf calls) ≡ issued s (historyOf calls)
+  pub answer : toldOf (after start calls) (write (tally s m)) ≡ ok (openSeats ∷ shutSeats ∷ placed ∷ [])
+  pub sum : openSeats + shutSeats + placed + withdrawn s (historyOf start calls) ≡ issued s (historyOf start calls)
 
 abbrev pub Demand3 : Type 0
-Demand3 = (calls : List (List ℕ)) (s m : ℕ) → s inRange session → m inRange minute → AddsUp calls s m
+Demand3 = (start : Ledger) → Begins start → (calls : List (List ℕ)) (s m : ℕ) → s inRange session → m inRange minute
+    → AddsUp start calls s m

@@ -18,7 +18,7 @@ use Rattle.ledger.specs.declared.Answer.the-variants.{Accepted, Counted, Refuse
 use Rattle.ledger.specs.Ledger.{Ledger, isKind, find, held}
 use Rattle.ledger.specs.Checks.{anyOf}
 use Rattle.ledger.specs.Calls.{Told, ok, openSeats, shutSeats, placed, withLine, call, toldOf}
-use Rattle.demands.specs.History.{History, historyOf}
+use Rattle.demands.specs.History.{History, begun, _upon_, historyOf}
 use Rattle.ledger.specs.Statements.{IsAccepted}
 use Rattle.demands.specs.Demands.{Reached}
 
@@ -86,13 +86,14 @@ serialBy (book b) a ns = serialOf a ns
 serialBy (tally s m) a ns = ns
 
 unfoldable pub serials : History → List ℕ
-serials [] = []
-serials (e ∷ h) = serialBy (e .request) (e .answer) (serials h)
+serials (begun t) = []
+serials (e upon h) = serialBy (e .request) (e .answer) (serials h)
 
--- each one more than the one before it, the first 1
-abbrev pub CountUp : List ℕ → Type 0
-CountUp [] = Unit {0}
-CountUp (n ∷ ns) = (n ≡ length ns + 1) × CountUp ns
+-- each one more than the one before it, the first lo
+abbrev pub CountUp : ℕ → List ℕ → Type 0
+CountUp lo [] = Unit {0}
+CountUp lo (n ∷ ns) = (n ≡ length ns + lo) × CountUp lo ns
 
+-- the first is the next serial of the ledger that the calls began at: of the empty one, 1
 abbrev pub SerialsOnce : Type 0
-SerialsOnce = (calls : List (List ℕ)) → CountUp (serials (historyOf calls))
+SerialsOnce = (start : Ledger) (calls : List (List ℕ)) → CountUp (start .next) (serials (historyOf start calls))

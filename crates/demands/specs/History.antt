@@ -1,18 +1,20 @@
 -- The history of a list of calls, and what was issued and withdrawn, counted from it alone. "The history is the
 -- accepted sheets of the list with their answers: .."
-use mathlib.Core.List.{List, [], _∷_}
+use mathlib.Core.List.{List}
 use mathlib.Core.Option.{Option, none, some}
 use mathlib.Core.Bool.{true, false}
 use Prim.Native.Nat.{ℕ, _+_}
 use lib.Dec.{eqb}
-use Rattle.logic.specs.Formula.{Formula, one, seats, places}
+use Rattle.logic.specs.Formula.{Formula, seats, places}
+use Rattle.logic.specs.Multiset.{sum}
 use Rattle.request.specs.declared.Kind.{Kind}
 use Rattle.request.specs.declared.Kind.the-variants.{Linear}
 use Rattle.request.specs.Request.{Request, word, issue, withdraw, book, tally}
+use Rattle.ledger.specs.declared.Credential.{Credential}
 use Rattle.ledger.specs.declared.Answer.{Answer}
 use Rattle.ledger.specs.declared.Answer.the-variants.{Accepted, Counted, Refused}
 use Rattle.ledger.specs.Table.{form}
-use Rattle.ledger.specs.Ledger.{byKind, empty}
+use Rattle.ledger.specs.Ledger.{Ledger, formula, byKind, find}
 use Rattle.ledger.specs.Calls.{answers, traced}
 
 -- an accepted request and its answer
@@ -20,20 +22,23 @@ pub record Event : Type 0 where
   pub request : Request
   pub answer : Answer
 
--- the latest first
-abbrev pub History : Type 0
-History = List Event
+-- The latest first, upon the ledger that the calls began at: the empty one, or that of an opened text. Document 02:
+-- "After opening, issued begins at what the opened singles hold, withdrawn at 0 and the history at that text"
+infixr 5 _upon_
+pub data History : Type 0 where
+  begun : Ledger → History
+  _upon_ : Event → History → History
 
 -- A refused call leaves no event: "A sheet that fits no form stands in the list as a refused call."
 abbrev pub note : Option Request → Answer → History → History
 note none a h = h
-note (some r) (Accepted n) h = record { request = r; answer = Accepted n } ∷ h
-note (some r) (Counted x y z) h = record { request = r; answer = Counted x y z } ∷ h
+note (some r) (Accepted n) h = record { request = r; answer = Accepted n } upon h
+note (some r) (Counted x y z) h = record { request = r; answer = Counted x y z } upon h
 note (some r) (Refused n k) h = h
 
--- of a list of calls from the empty ledger
-abbrev pub historyOf : List (List ℕ) → History
-historyOf bs = traced note [] bs (answers empty bs)
+-- of a list of calls from a ledger on
+abbrev pub historyOf : Ledger → List (List ℕ) → History
+historyOf t bs = traced note (begun t) bs (answers t bs)
 
 -- what f tells of the numbers answered before, and x of this one
 abbrev pub learn : {A : Type 0} → Answer → A → (ℕ → A) → ℕ → A
@@ -41,7 +46,7 @@ learn (Accepted k) x f n = elim (eqb n k) [ true ↦ x | false ↦ f n ]
 learn (Counted o s p) x f n = f n
 learn (Refused c k) x f n = f n
 
--- "wording n is the line that was answered n": its parts are those of the history before it
+-- "wording n is the line that was answered n": its parts are those of the history before it; or it is the text's
 abbrev pub formulaBy : Request → Answer → (ℕ → Formula) → ℕ → Formula
 formulaBy (word l) a T = learn a (form T l) T
 formulaBy (issue k n i) a T = T
@@ -50,10 +55,11 @@ formulaBy (book b) a T = T
 formulaBy (tally s m) a T = T
 
 unfoldable pub formulaIn : History → ℕ → Formula
-formulaIn [] = λ n. one
-formulaIn (e ∷ h) = formulaBy (e .request) (e .answer) (formulaIn h)
+formulaIn (begun t) = formula t
+formulaIn (e upon h) = formulaBy (e .request) (e .answer) (formulaIn h)
 
--- "a serial's coupon is the one issued, or the goal booked, by the issue or booking that answered that serial"
+-- "a serial's coupon is the one issued, or the goal booked, by the issue or booking that answered that serial"; or the
+-- text's
 pub record Given : Type 0 where
   pub kind : Kind
   pub formula : ℕ
@@ -65,9 +71,13 @@ givenBy (withdraw n) a f = f
 givenBy (book b) a f = learn a (some (record { kind = Linear; formula = b .formula })) f
 givenBy (tally s m) a f = f
 
+abbrev pub givenOf : Option Credential → Option Given
+givenOf none = none
+givenOf (some c) = some (record { kind = c .kind; formula = c .formula })
+
 unfoldable pub givenIn : History → ℕ → Option Given
-givenIn [] = λ n. none
-givenIn (e ∷ h) = givenBy (e .request) (e .answer) (givenIn h)
+givenIn (begun t) = λ n. givenOf (find (t .live) n)
+givenIn (e upon h) = givenBy (e .request) (e .answer) (givenIn h)
 
 -- a formula's seats and places of a session
 abbrev pub seatsAndPlaces : ℕ → Formula → ℕ
@@ -81,9 +91,13 @@ issuedBy s h (withdraw n) = 0
 issuedBy s h (book b) = 0
 issuedBy s h (tally x m) = 0
 
+-- "what the opened singles hold"; the empty ledger has none
+abbrev pub singlesHold : ℕ → Ledger → ℕ
+singlesHold s t = sum (λ c. byKind (c .kind) (seatsAndPlaces s (formula t (c .formula))) 0) (t .live)
+
 unfoldable pub issued : ℕ → History → ℕ
-issued s [] = 0
-issued s (e ∷ h) = issuedBy s h (e .request) + issued s h
+issued s (begun t) = singlesHold s t
+issued s (e upon h) = issuedBy s h (e .request) + issued s h
 
 -- "withdrawn counts, for each accepted withdraw, those of the single coupon that the history gave that serial, and
 -- nothing for a standing one"
@@ -99,5 +113,5 @@ withdrawnBy s h (book b) = 0
 withdrawnBy s h (tally x m) = 0
 
 unfoldable pub withdrawn : ℕ → History → ℕ
-withdrawn s [] = 0
-withdrawn s (e ∷ h) = withdrawnBy s h (e .request) + withdrawn s h
+withdrawn s (begun t) = 0
+withdrawn s (e upon h) = withdrawnBy s h (e .request) + withdrawn s h

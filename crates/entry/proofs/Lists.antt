@@ -8,19 +8,19 @@ use lib.ListN.{length, take}
 use Rattle.request.specs.Request.{Booking, Request, book, tally}
 use Rattle.request.specs.Read.{requestOf}
 use Rattle.request.specs.Write.{write}
-use Rattle.ledger.specs.Ledger.{Ledger, empty}
+use Rattle.ledger.specs.Ledger.{Ledger}
 use Rattle.ledger.specs.Checks.{checksOf}
 use Rattle.ledger.specs.Calls.{Reply, Told, ok, told, accept, call, toldOf, after, answers}
 use Rattle.ledger.specs.Statements.{IsAccepted}
 use Rattle.ledger.proofs.Answers.{some-inj, Does, refuses, accepts, does}
 use Rattle.ledger.proofs.Firsts.{first-fails}
-use Rattle.store.specs.Store.{ledgerOf, StandsFor}
-use Rattle.demands.specs.Demands.{Reached}
+use Rattle.store.specs.Store.{ledgerOf}
+use Rattle.snapshot.specs.Reached.{Reached}
 use Rattle.demands.proofs.Demand1.{call-accepts}
 use Rattle.demands.proofs.Exactness.{soundness, exactness}
 use Rattle.demands.proofs.Demand3.{demand-3}
 use Rattle.entry.specs.Entered.{numbers, Entered}
-use Rattle.entry.specs.Played.{Played, none, more, PlayedIs, Answered, refused, accepted, CallsAnswered}
+use Rattle.entry.specs.Played.{Played, none, more, Made, PlayedIs, Answered, refused, accepted}
 use Rattle.entry.specs.Played.{BookingsExact, CallsAddUp}
 
 -- from any ledger
@@ -33,16 +33,16 @@ played t e (more {b = b} h p) =
     (rest .0, ap₂ _∷_ (h .answer ∙ ap (λ (u : Ledger). numbers (toldOf u b)) e) (rest .1))
 
 pub played-is : PlayedIs
-played-is l l′ bs ns s p = played empty (s .ledger) p
+played-is start l l′ bs ns m p = played start (m .stands .ledger) p
 
 -- the call after them, at the ledger that they give
-module _ (l l₁ b n l₂ : List ℕ) (bs ns : List (List ℕ)) (g : StandsFor l empty) (p : Played l bs ns l₁)
+module _ (start : Ledger) (l l₁ b n l₂ : List ℕ) (bs ns : List (List ℕ)) (g : Made l start) (p : Played l bs ns l₁)
     (h : Entered l₁ b n l₂) where
   abbrev t : Ledger
-  t = after empty bs
+  t = after start bs
 
   at : ledgerOf l₁ ≡ t
-  at = played-is l l₁ bs ns g p .0
+  at = played-is start l l₁ bs ns g p .0
 
   says-it : n ≡ numbers (toldOf t b)
   says-it = h .answer ∙ ap (λ (u : Ledger). numbers (toldOf u b)) at
@@ -78,24 +78,24 @@ module _ (l l₁ b n l₂ : List ℕ) (bs ns : List (List ℕ)) (g : StandsFor l
         go (Told.no f s) z = let z : _≡_ {A = ℕ} 0 1 = cc in absurd (omega arith)
 
     reached : Reached t
-    reached = record { calls = bs; gives = refl }
+    reached = record { start = start; begins = g .begins; calls = bs; gives = refl }
 
 pub bookings-exact : BookingsExact
-bookings-exact l l₁ b n l₂ bs ns k g p h e =
-    let s = serial l l₁ b n l₂ bs ns g p h k e in
-    let i = is-accepted l l₁ b n l₂ bs ns g p h k e in
-    let r = reached l l₁ b n l₂ bs ns g p h k e in
-    let x = exactness (after empty bs) r b k e .accepted in
-    record { exactly = (λ q. x .0 (i q), λ d. s (x .1 d)); sound = λ q. soundness (after empty bs) r b k e (i q) }
+bookings-exact start l l₁ b n l₂ bs ns k g p h e =
+    let s = serial start l l₁ b n l₂ bs ns g p h k e in
+    let i = is-accepted start l l₁ b n l₂ bs ns g p h k e in
+    let r = reached start l l₁ b n l₂ bs ns g p h k e in
+    let x = exactness (after start bs) r b k e .accepted in
+    record { exactly = (λ q. x .0 (i q), λ d. s (x .1 d)); sound = λ q. soundness (after start bs) r b k e (i q) }
 
 pub calls-add-up : CallsAddUp
 unfolding take length _++_
-calls-add-up l l₁ n l₂ bs ns s m hs hm g p h =
-    let sums = demand-3 bs s m hs hm in
+calls-add-up start l l₁ n l₂ bs ns s m hs hm g p h =
+    let sums = demand-3 start (g .begins) bs s m hs hm in
     record {
       openSeats = sums .openSeats;
       shutSeats = sums .shutSeats;
       placed = sums .placed;
-      answer = says-it l l₁ (write (tally s m)) n l₂ bs ns g p h ∙ ap numbers (sums .answer);
+      answer = says-it start l l₁ (write (tally s m)) n l₂ bs ns g p h ∙ ap numbers (sums .answer);
       sum = sums .sum;
     }

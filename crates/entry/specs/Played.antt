@@ -11,11 +11,12 @@ use Rattle.request.specs.Request.{Booking, Request, book, tally}
 use Rattle.request.specs.Read.{requestOf}
 use Rattle.request.specs.Write.{write}
 use Rattle.ledger.specs.declared.Answer.{Answer}
-use Rattle.ledger.specs.Ledger.{Ledger, empty}
+use Rattle.ledger.specs.Ledger.{Ledger}
 use Rattle.ledger.specs.Checks.{Refusal, checksOf}
 use Rattle.ledger.specs.Calls.{Told, told, accept, after, answers}
 use Rattle.ledger.specs.Statements.{Pass, FirstFails}
 use Rattle.store.specs.Store.{ledgerOf, StandsFor}
+use Rattle.snapshot.specs.Reached.{Begins}
 use Rattle.demands.specs.Demands.{OnlySteps, StepsDerive, SoundFor}
 use Rattle.demands.specs.History.{historyOf, issued, withdrawn}
 use Rattle.entry.specs.Entered.{numbers, Entered}
@@ -26,14 +27,19 @@ pub data Played : List ℕ → List (List ℕ) → List (List ℕ) → List ℕ 
   more : {l b n l₁ l₂ : List ℕ} {bs ns : List (List ℕ)} → Entered l b n l₁ → Played l₁ bs ns l₂
       → Played l (b ∷ bs) (n ∷ ns) l₂
 
--- From a block that was started, the block after the calls is the ledger of the definition's list of calls, and the
+-- a block that was made: it stands for the ledger that calls begin at, the empty one or that of an opened text
+pub record Made (l : List ℕ) (start : Ledger) : Type 0 where
+  pub begins : Begins start
+  pub stands : StandsFor l start
+
+-- From a block that was made, the block after the calls is the ledger of the definition's list of calls, and the
 -- numbers are those of its answers. What the demands say of lists of calls they say of these.
 abbrev pub PlayedIs : Type 0
 PlayedIs =
-    (l l′ : List ℕ) (bs ns : List (List ℕ)) → StandsFor l empty → Played l bs ns l′
-    → (ledgerOf l′ ≡ after empty bs) × (ns ≡ map (λ a. numbers (told a)) (answers empty bs))
+    (start : Ledger) (l l′ : List ℕ) (bs ns : List (List ℕ)) → Made l start → Played l bs ns l′
+    → (ledgerOf l′ ≡ after start bs) × (ns ≡ map (λ a. numbers (told a)) (answers start bs))
 
--- DEMAND 1 of the running code: after any calls on a block that was started, the next call's numbers and block are the
+-- DEMAND 1 of the running code: after any calls on a block that was made, the next call's numbers and block are the
 -- first failing check's, with the very same block, or those of an accepted request, where no check fails.
 pub data Answered (t : Ledger) (b n l l′ : List ℕ) : Type 0 where
   refused : (f : Refusal) → FirstFails f (checksOf t b) → n ≡ 0 ∷ f .number ∷ f .step ∷ 0 ∷ [] → l′ ≡ l
@@ -43,10 +49,10 @@ pub data Answered (t : Ledger) (b n l l′ : List ℕ) : Type 0 where
 
 abbrev pub CallsAnswered : Type 0
 CallsAnswered =
-    (l l₁ b n l₂ : List ℕ) (bs ns : List (List ℕ)) → StandsFor l empty → Played l bs ns l₁ → Entered l₁ b n l₂
-    → Answered (after empty bs) b n l₁ l₂
+    (start : Ledger) (l l₁ b n l₂ : List ℕ) (bs ns : List (List ℕ)) → Made l start → Played l bs ns l₁
+    → Entered l₁ b n l₂ → Answered (after start bs) b n l₁ l₂
 
--- DEMAND 2 of the running code: after any calls on a block that was started, a booking is accepted, with the next
+-- DEMAND 2 of the running code: after any calls on a block that was made, a booking is accepted, with the next
 -- serial, exactly when its other checks pass and its steps are a derivation; and these are one of its goal from the
 -- credentials that it names.
 pub record BookingExact (t : Ledger) (b n : List ℕ) (k : Booking) : Type 0 where
@@ -55,19 +61,19 @@ pub record BookingExact (t : Ledger) (b n : List ℕ) (k : Booking) : Type 0 whe
 
 abbrev pub BookingsExact : Type 0
 BookingsExact =
-    (l l₁ b n l₂ : List ℕ) (bs ns : List (List ℕ)) (k : Booking) → StandsFor l empty → Played l bs ns l₁
-    → Entered l₁ b n l₂ → requestOf b ≡ some (book k) → BookingExact (after empty bs) b n k
+    (start : Ledger) (l l₁ b n l₂ : List ℕ) (bs ns : List (List ℕ)) (k : Booking) → Made l start → Played l bs ns l₁
+    → Entered l₁ b n l₂ → requestOf b ≡ some (book k) → BookingExact (after start bs) b n k
 
--- DEMAND 3 of the running code: after any calls from a block that was started, a call with a tally answers three
+-- DEMAND 3 of the running code: after any calls from a block that was made, a call with a tally answers three
 -- figures that add up with what was withdrawn to what was issued.
-pub record TallyAddsUp (bs : List (List ℕ)) (s : ℕ) (n : List ℕ) : Type 0 where
+pub record TallyAddsUp (start : Ledger) (bs : List (List ℕ)) (s : ℕ) (n : List ℕ) : Type 0 where
   pub openSeats : ℕ
   pub shutSeats : ℕ
   pub placed : ℕ
   pub answer : n ≡ 3 ∷ openSeats ∷ shutSeats ∷ placed ∷ []
-  pub sum : openSeats + shutSeats + placed + withdrawn s (historyOf bs) ≡ issued s (historyOf bs)
+  pub sum : openSeats + shutSeats + placed + withdrawn s (historyOf start bs) ≡ issued s (historyOf start bs)
 
 abbrev pub CallsAddUp : Type 0
 CallsAddUp =
-    (l l₁ n l₂ : List ℕ) (bs ns : List (List ℕ)) (s m : ℕ) → s inRange session → m inRange minute → StandsFor l empty
-    → Played l bs ns l₁ → Entered l₁ (write (tally s m)) n l₂ → TallyAddsUp bs s n
+    (start : Ledger) (l l₁ n l₂ : List ℕ) (bs ns : List (List ℕ)) (s m : ℕ) → s inRange session → m inRange minute
+    → Made l start → Played l bs ns l₁ → Entered l₁ (write (tally s m)) n l₂ → TallyAddsUp start bs s n

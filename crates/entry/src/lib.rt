@@ -1,11 +1,14 @@
 // The entry for C (include/oysterbrim.h): the till is a block of 10,996 numbers that the caller keeps, a sheet is bytes
-// with a length, and the caller lends 2,048 numbers to work on and four for the answer.
+// with a length, and the caller lends 2,048 numbers to work on and four for the answer. Closing and opening are in
+// crate entry_text.
 use ledger::Answer;
 use step_rows::StepRows;
 use store::Store;
+ghost use mathlib.Core.Path.{_≡_};
 ghost use Rattle.ledger.specs.Ledger.{empty};
+ghost use Rattle.ledger.specs.Calls.{told};
 ghost use Rattle.store.specs.Store.{Good, StandsFor};
-ghost use Rattle.entry.specs.Entered.{Entered};
+ghost use Rattle.entry.specs.Entered.{numbers, Entered};
 ghost use Rattle.entry.specs.Played.{PlayedIs, CallsAnswered, BookingsExact, CallsAddUp};
 
 // Makes the block an empty till.
@@ -14,6 +17,23 @@ pub extern "C" fn till_start(till: &mut Store)
     ensures { λ _. ⌜ StandsFor (now (till .exit)) empty ⌝ }
 {
     store::start(till);
+}
+
+// An answer in four numbers.
+pub fn tell(a: Answer, answer: &mut [u32; 4])
+    ensures { λ _. ⌜ now (answer .exit) ≡ numbers (told a) ⌝ }
+{
+    match a {
+        Answer::Accepted(n) => {
+            *answer = [1, n, 0, 0];
+        }
+        Answer::Counted(open, shut, placed) => {
+            *answer = [3, open, shut, placed];
+        }
+        Answer::Refused(n, k) => {
+            *answer = [0, n, k, 0];
+        }
+    }
 }
 
 // Answers a sheet: {1, n, 0, 0} accepted with a value, {3, open, shut, placed} a tally, {0, refusal, step, 0} refused.
@@ -28,21 +48,11 @@ pub extern "C" fn till_call(
     ensures { λ _. ⌜ Entered (now (till .entry)) (now (sheet .entry)) (now (answer .exit)) (now (till .exit)) ⌝ }
 {
     let a = call::call(till, sheet, scratch);
-    match a {
-        Answer::Accepted(n) => {
-            *answer = [1, n, 0, 0];
-        }
-        Answer::Counted(open, shut, placed) => {
-            *answer = [3, open, shut, placed];
-        }
-        Answer::Refused(n, k) => {
-            *answer = [0, n, k, 0];
-        }
-    }
+    tell(a, answer);
 }
 
-// Calls in a row, on a block that was started. The function does nothing: its `ensures` is what is proved of them, the
-// demands of the running code.
+// Calls in a row, on a block that was made: started, or opened. The function does nothing: its `ensures` is what is
+// proved of them, the demands of the running code.
 pub fn calls_in_a_row()
     ensures played { λ _. ⌜ PlayedIs ⌝ }
     ensures answered { λ _. ⌜ CallsAnswered ⌝ }

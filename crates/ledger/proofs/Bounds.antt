@@ -122,7 +122,7 @@ module _ (t : Ledger) (b : Bounded t) where
     sizes = b .sizes;
   }
 
-accept-bounded : (t : Ledger) (r : Request) → Pass (checks t r) → Bounded t → Bounded (accept t r .ledger)
+pub accept-bounded : (t : Ledger) (r : Request) → Pass (checks t r) → Bounded t → Bounded (accept t r .ledger)
 unfolding accept
 accept-bounded t (word l) p b =
     let q = passed-word t l p in

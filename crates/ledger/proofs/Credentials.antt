@@ -65,6 +65,11 @@ any-none f (x ∷ xs) e = go (f x) refl e (any-none f xs)
     go true q e ih = absurd (no-truth (sym e))
     go false q e ih = (q, ih e)
 
+pub none-any : {A : Type 0} (f : A → Bool) (xs : List A) → Every (λ x. f x ≡ false) xs → anyOf f xs ≡ false
+unfolding anyOf
+none-any f [] h = refl
+none-any f (x ∷ xs) h = rw (h .0) (none-any f xs (h .1))
+
 held-still : (cs : List Credential) (n : ℕ) (ms : List ℕ) → Every (Other n) ms
     → held (withoutSerial cs n) ms ≡ held cs ms
 unfolding held

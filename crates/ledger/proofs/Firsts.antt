@@ -1,6 +1,6 @@
 -- The first check that fails, and what it makes of a request.
 use mathlib.Core.Path.{_≡_, refl, sym, ap, subst, _∙_}
-use mathlib.Core.List.{List, [], _∷_}
+use mathlib.Core.List.{List, [], _∷_, _++_}
 use mathlib.Core.Option.{Option, none, some}
 use mathlib.Core.Bool.{Bool, true, false, not}
 use Prim.Native.Nat.{ℕ, _≤_, _<_}
@@ -11,15 +11,17 @@ use Rattle.logic.specs.Interval.{reversed, broken, WellFormed}
 use Rattle.logic.specs.Multiset.{Every}
 use Rattle.logic.proofs.Tests.{no-truth}
 use Rattle.logic.proofs.Intervals.{formed-decides}
+use Rattle.logic.proofs.Multisets.{every-map}
 use Rattle.request.specs.Range.{maxBytes}
 use Rattle.request.specs.Request.{Request, intervals}
 use Rattle.request.specs.Read.{requestOf}
 use Rattle.ledger.specs.declared.Answer.the-variants.{Refused}
 use Rattle.ledger.specs.Ledger.{Ledger, isNone}
-use Rattle.ledger.specs.Checks.{Refusal, Check, _if_, anyOf, first, checks, readChecks, checksOf}
+use Rattle.ledger.specs.Checks.{Refusal, Check, _if_, first, checks, intervalChecks, readChecks, checksOf}
 use Rattle.ledger.specs.Calls.{reply, accept, decide, handle, call}
 use Rattle.ledger.specs.Statements.{Pass, FirstFails, here, later, SoFar, from-start, _▸_}
 use Rattle.ledger.proofs.Answers.{some-none, some-inj}
+use Rattle.ledger.proofs.Credentials.{none-any}
 
 pub pass-first : (cs : List Check) → Pass cs → first cs ≡ none
 unfolding first
@@ -79,19 +81,17 @@ pub handle-passes : (t : Ledger) (r : Request) → first (readChecks t (some r))
 unfolding decide
 handle-passes t r h = ap (λ (o : Option Refusal). decide t o (some r)) h
 
--- a request whose intervals are well formed passes the checks of intervals
-none-fails : (test : Interval → Bool) → ((i : Interval) → WellFormed i → test i ≡ false)
-    → (is : List Interval) → Every WellFormed is → anyOf test is ≡ false
-unfolding anyOf
-none-fails test f [] w = refl
-none-fails test f (i ∷ is) w = rw (f i (w .0)) (none-fails test f is (w .1))
+-- well-formed intervals pass the checks of intervals; `rest` are the checks after these
+pub pass-intervals : (is : List Interval) (rest : List Check) → Every WellFormed is → Pass rest
+    → Pass (intervalChecks is ++ rest)
+pass-intervals is rest w p = (
+  if-false 3 _ (none-any reversed is (every-map (λ i f. formed-decides i .1 f .0) is w)),
+  (if-false 43 _ (none-any broken is (every-map (λ i f. formed-decides i .1 f .1) is w)), p),
+)
 
 pub past-intervals : (t : Ledger) (r : Request) {all : List Check} → Every WellFormed (intervals r)
     → SoFar all (readChecks t (some r)) → SoFar all (checks t r)
-past-intervals t r w s =
-    s
-    ▸ if-false 3 _ (none-fails reversed (λ i f. formed-decides i .1 f .0) (intervals r) w)
-    ▸ if-false 43 _ (none-fails broken (λ i f. formed-decides i .1 f .1) (intervals r) w)
+past-intervals t r w s = let p = pass-intervals (intervals r) [] w tt in s ▸ p .0 ▸ p .1 .0
 
 -- so does one that has none
 pub no-intervals : (t : Ledger) (r : Request) → intervals r ≡ [] → SoFar (readChecks t (some r)) (checks t r)

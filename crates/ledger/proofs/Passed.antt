@@ -23,7 +23,7 @@ use Rattle.ledger.specs.declared.Credential.{Credential}
 use Rattle.ledger.specs.Table.{form, names}
 use Rattle.ledger.specs.Ledger.{Ledger, formula, find, isNone, held, linearCount}
 use Rattle.ledger.specs.Checks.{anyOf, maxSize, maxFormulas, maxLive, missing, sameLine, dead, twice, steps}
-use Rattle.ledger.specs.Checks.{checks, readChecks}
+use Rattle.ledger.specs.Checks.{_if_, unissuable, unissuableNumber, wordRules, issueRules, checks, readChecks}
 use Rattle.ledger.specs.Statements.{Pass}
 use Rattle.ledger.proofs.Answers.{if-none}
 use Rattle.ledger.proofs.Firsts.{if-false, not-true}
@@ -52,11 +52,16 @@ abbrev pub FitsKind : Kind → Formula → Type 0
 FitsKind Linear a = plain a ≡ true
 FitsKind Unrestricted a = Balanced a
 
+pub fits-kind : (k : Kind) (a : Formula) → (unissuableNumber k if unissuable k a) ≡ none → FitsKind k a
+fits-kind Linear a e = not-false _ (if-none 20 _ e)
+fits-kind Unrestricted a e = balanced-test a .0 (not-false _ (if-none 21 _ e))
+
 pub record PassedWord (t : Ledger) (l : Line) : Type 0 where
   pub there : There t (names l)
   pub small : size (form (formula t) l) ≤ maxSize
   pub new : anyOf (sameLine l) (t .lines) ≡ false
   pub room : length (t .lines) < maxFormulas
+  pub rules : Pass (wordRules t l)
 
 pub passed-word : (t : Ledger) (l : Line) → Pass (checks t (word l)) → PassedWord t l
 unfolding checks
@@ -65,6 +70,7 @@ passed-word t l (there, (small, (new, (room, end)))) = record {
   small = ltb-false _ _ (if-none 12 _ small);
   new = if-none 13 _ new;
   room = leb-false _ _ (if-none 14 _ room);
+  rules = (there, (small, (new, tt)));
 }
 
 pub record PassedIssue (t : Ledger) (k : Kind) (n : ℕ) : Type 0 where
@@ -72,20 +78,16 @@ pub record PassedIssue (t : Ledger) (k : Kind) (n : ℕ) : Type 0 where
   pub fits : FitsKind k (formula t n)
   pub room : length (t .live) - 0 < maxLive
   pub unused : t .next ≤ serial .last
+  pub rules : Pass (issueRules t k n)
 
 pub passed-issue : (t : Ledger) (k : Kind) (n : ℕ) (i : Interval) → Pass (checks t (issue k n i)) → PassedIssue t k n
 unfolding checks
-passed-issue t Linear n i (there, (fits, (room, (unused, end)))) = record {
+passed-issue t k n i (there, (fits, (room, (unused, end)))) = record {
   there = leb-false _ _ (if-none 10 _ there);
-  fits = not-false _ (if-none 20 _ fits);
+  fits = fits-kind k (formula t n) fits;
   room = leb-false _ _ (if-none 22 _ room);
   unused = ltb-false _ _ (if-none 23 _ unused);
-}
-passed-issue t Unrestricted n i (there, (fits, (room, (unused, end)))) = record {
-  there = leb-false _ _ (if-none 10 _ there);
-  fits = balanced-test (formula t n) .0 (not-false _ (if-none 21 _ fits));
-  room = leb-false _ _ (if-none 22 _ room);
-  unused = ltb-false _ _ (if-none 23 _ unused);
+  rules = (there, (fits, tt));
 }
 
 pub record PassedWithdraw (t : Ledger) (n : ℕ) : Type 0 where
@@ -109,6 +111,7 @@ pub record PassedBook (t : Ledger) (b : Booking) : Type 0 where
   pub closes : steps t (held (t .live) (b .holds)) (b .formula) (b .interval) (b .steps) ≡ none
   pub room : length (t .live) - linearCount (held (t .live) (b .holds)) < maxLive
   pub unused : t .next ≤ serial .last
+  pub rules : Pass (issueRules t Linear (b .formula))
 
 pub passed-book : (t : Ledger) (b : Booking) → Pass (checks t (book b)) → PassedBook t b
 unfolding checks
@@ -121,6 +124,7 @@ passed-book t b (there, (plain, (inside, (alive, (apart, (closes, (room, (unused
   closes = closes;
   room = leb-false _ _ (if-none 22 _ room);
   unused = ltb-false _ _ (if-none 23 _ unused);
+  rules = (there, (plain, tt));
 }
 
 -- with another minute and another interval, a booking passes where now lies in that and the steps close at it

@@ -8,7 +8,7 @@ use lib.Dec.{eqb, leb, ltb}
 use lib.ListN.{length}
 use Rattle.logic.specs.declared.Interval.{Interval}
 use Rattle.logic.specs.Interval.{noInterval, has, sameInterval, reversed, broken}
-use Rattle.logic.specs.Formula.{size, plain}
+use Rattle.logic.specs.Formula.{Formula, size, plain}
 use Rattle.logic.specs.Counts.{balanced}
 use Rattle.request.specs.declared.Kind.{Kind}
 use Rattle.request.specs.declared.Kind.the-variants.{Linear, Unrestricted}
@@ -78,6 +78,15 @@ sameRow x y =
 abbrev pub sameLine : Line → Line → Bool
 sameLine l m = sameRow (rowOf l) (rowOf m)
 
+-- issue, by the kind: "not plain" (20), "not balanced" (21)
+abbrev pub unissuable : Kind → Formula → Bool
+unissuable Linear a = not (plain a)
+unissuable Unrestricted a = not (balanced a)
+
+abbrev pub unissuableNumber : Kind → ℕ
+unissuableNumber Linear = 20
+unissuableNumber Unrestricted = 21
+
 -- "serial not live"
 abbrev pub dead : Ledger → ℕ → Bool
 dead t n = isNone (find (t .live) n)
@@ -129,20 +138,24 @@ steps t cs n i ss =
 
 -- The table, for each kind of request
 
-unfoldable pub checks : Ledger → Request → List Check
-checks t (word l) =
+-- of a formula line, and of a credential's kind and formula: what opening a text asks too (crate snapshot)
+abbrev pub wordRules : Ledger → Line → List Check
+wordRules t l =
     (10 if anyOf (missing t) (names l)) ∷
     (12 if oversize t l) ∷
-    (13 if anyOf (sameLine l) (t .lines)) ∷
+    (13 if anyOf (sameLine l) (t .lines)) ∷ []
+
+abbrev pub issueRules : Ledger → Kind → ℕ → List Check
+issueRules t k n =
+    (10 if missing t n) ∷
+    (unissuableNumber k if unissuable k (formula t n)) ∷ []
+
+unfoldable pub checks : Ledger → Request → List Check
+checks t (word l) =
+    wordRules t l ++
     (14 if leb maxFormulas (length (t .lines))) ∷ []
-checks t (issue Linear n i) =
-    (10 if missing t n) ∷
-    (20 if not (plain (formula t n))) ∷
-    (22 if noRoom t 0) ∷
-    (23 if usedUp t) ∷ []
-checks t (issue Unrestricted n i) =
-    (10 if missing t n) ∷
-    (21 if not (balanced (formula t n))) ∷
+checks t (issue k n i) =
+    issueRules t k n ++
     (22 if noRoom t 0) ∷
     (23 if usedUp t) ∷ []
 checks t (withdraw n) =

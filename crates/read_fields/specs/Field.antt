@@ -7,7 +7,7 @@ use mathlib.Core.Bool.{Bool, true, false, _||_, _&&_}
 use Prim.Native.Nat.{ℕ, _+_, _*_, _≤_, _<_}
 use lib.Dec.{eqb, leb}
 use lib.ListN.{length, drop}
-use Rattle.request.specs.Range.{Range, maxBytes}
+use Rattle.request.specs.Range.{Range}
 use Rattle.request.specs.Text.{andThen, reads, decimalDigit, hexDigit}
 use Rattle.logic.specs.Choice.{pick}
 use Rattle.read_fields.specs.declared.Decimal.{Decimal}
@@ -18,6 +18,10 @@ use Rattle.read_fields.specs.declared.Digits.{Digits}
 use Rattle.read_fields.specs.declared.Digits.the-variants.{Value, Broken as NoDigits}
 use Rattle.read_fields.specs.declared.Prefix.{Prefix}
 use Rattle.read_fields.specs.declared.Prefix.the-variants.{Past, Absent}
+
+-- the longest text that is read by positions: they fit 32 bits
+abbrev pub maxReach : ℕ
+maxReach = 1000000
 
 -- the bytes that end a field: a comma (44) and a line's end (10)
 abbrev pub ends : ℕ → Bool
@@ -83,9 +87,9 @@ abbrev pub DigitsAre : ℕ → ℕ → Digits → Type 0
 DigitsAre v x (Value w) = DigitRead v x w
 DigitsAre v x NoDigits = hexDigit x ≡ none
 
--- what the reader of numbers asks: the length of a request, a byte that ends the field, a bound of some digits
+-- what the reader of numbers asks: a length within reach, a byte that ends the field, a bound of some digits
 pub record NumberAsked (s : List ℕ) (last stop : ℕ) : Type 0 where
-  pub short : length s ≤ maxBytes
+  pub short : length s ≤ maxReach
   pub stops : Stop stop
   pub least : 9 ≤ last
   pub most : last ≤ 99999999

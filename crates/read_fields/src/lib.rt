@@ -2,9 +2,9 @@
 ghost use mathlib.Core.Path.{_≡_};
 ghost use Prim.Native.Nat.{_≤_, _<_};
 ghost use lib.ListN.{length, drop};
-ghost use Rattle.request.specs.Range.{maxBytes, _‥_};
+ghost use Rattle.request.specs.Range.{_‥_};
 ghost use Rattle.request.specs.Text.{numberIn, labelSetIn};
-ghost use Rattle.read_fields.specs.Field.{Stop, NumberAsked, fieldTo, strip, moreIn, decimalOf};
+ghost use Rattle.read_fields.specs.Field.{maxReach, Stop, NumberAsked, fieldTo, strip, moreIn, decimalOf};
 ghost use Rattle.read_fields.specs.Field.{DigitsAre, labelsOf, pastOf};
 
 // The letters of hexadecimal digits, and how far above their value they stand.
@@ -110,7 +110,7 @@ fn with_digit(v: u64, b: u8) -> Digits
 
 // A set of labels (document 01: a share): 16 hexadecimal digits, which the byte `stop` ends.
 pub fn label_set(s: &[u8], at: u32, stop: u8) -> Labels
-    requires { ⌜ (length (now s) ≤ maxBytes) × Stop stop ⌝ }
+    requires { ⌜ (length (now s) ≤ maxReach) × Stop stop ⌝ }
     ensures { λ r. ⌜ labelsOf (now (s .entry)) r ≡ fieldTo stop labelSetIn (drop at (now (s .entry))) ⌝ }
 {
     let from = at as usize;
@@ -135,7 +135,7 @@ pub fn label_set(s: &[u8], at: u32, stop: u8) -> Labels
 
 // The position after the text w, if that stands at `at`. The empty text stands at every position.
 pub fn past(s: &[u8], at: u32, w: &[u8]) -> Prefix
-    requires { ⌜ length (now s) ≤ maxBytes ⌝ }
+    requires { ⌜ length (now s) ≤ maxReach ⌝ }
     ensures { λ r. ⌜ pastOf (now (s .entry)) r ≡ strip (now (w .entry)) (drop at (now (s .entry))) ⌝ }
 {
     let i = at as usize;

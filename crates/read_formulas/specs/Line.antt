@@ -8,7 +8,7 @@ use lib.Dec.{eqb}
 use lib.ListN.{length, drop}
 use Rattle.logic.specs.declared.Interval.{Interval}
 use Rattle.logic.specs.Interval.{span, noInterval}
-use Rattle.request.specs.Range.{minute, formulaNumber, maxBytes, _‥_}
+use Rattle.request.specs.Range.{minute, formulaNumber, _‥_}
 use Rattle.request.specs.Text.{bytes, sameBytes, andThen, fields, numberIn}
 use Rattle.request.specs.Reader.{Reader, whole}
 use Rattle.request.specs.Request.{Line}
@@ -19,7 +19,7 @@ use Rattle.read_formulas.specs.declared.Span.the-variants.{Minutes, Brok
 use Rattle.read_formulas.specs.declared.FormulaLine.{FormulaLine}
 use Rattle.read_formulas.specs.declared.FormulaLine.the-variants.{Formula, Broken as NoFormula}
 use Rattle.logic.specs.Choice.{pick}
-use Rattle.read_fields.specs.Field.{fieldTo}
+use Rattle.read_fields.specs.Field.{maxReach, fieldTo}
 
 -- the first line, and what follows its byte 10
 unfoldable pub split : List ℕ → Option (List ℕ × List ℕ)
@@ -86,6 +86,6 @@ formulaOf s NoFormula = none
 
 -- what a reader of two numbers asks
 pub record TwoAsked (s : List ℕ) (m n : ℕ) : Type 0 where
-  pub short : length s ≤ maxBytes
+  pub short : length s ≤ maxReach
   pub first : (9 ≤ m) × (m ≤ 99999999)
   pub second : (9 ≤ n) × (n ≤ 99999999)

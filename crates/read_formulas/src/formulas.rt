@@ -10,17 +10,16 @@ use steps::letters;
 ghost use mathlib.Core.Path.{_≡_};
 ghost use Prim.Native.Nat.{_≤_};
 ghost use lib.ListN.{length, drop};
-ghost use Rattle.request.specs.Range.{maxBytes};
 ghost use Rattle.request.specs.Read.{formulaLine};
 ghost use Rattle.ledger.specs.Table.{lettered as letteredOf};
-ghost use Rattle.read_fields.specs.Field.{Stop};
+ghost use Rattle.read_fields.specs.Field.{maxReach, Stop};
 ghost use Rattle.read_formulas.specs.Line.{readLine, intervalTo, oneField, twoFields, atFields, supersetFields};
 ghost use Rattle.read_formulas.specs.Line.{rowed};
 ghost use Rattle.read_formulas.specs.Line.{spanOf, formulaOf, TwoAsked};
 
 // `from,to,first,last`, which the byte `stop` ends.
 pub fn interval(s: &[u8], at: u32, stop: u8) -> Span
-    requires { ⌜ (length (now s) ≤ maxBytes) × Stop stop ⌝ }
+    requires { ⌜ (length (now s) ≤ maxReach) × Stop stop ⌝ }
     ensures { λ r. ⌜ spanOf (now (s .entry)) r ≡ intervalTo stop (drop at (now (s .entry))) ⌝ }
 {
     let f = number(s, at, 0, ranges::MINUTE_LAST, 44);
@@ -65,7 +64,7 @@ fn lettered(letter: u32, a: u32, b: u32) -> Row
 }
 
 fn one_field(s: &[u8], at: u32, letter: u32) -> FormulaLine
-    requires { ⌜ length (now s) ≤ maxBytes ⌝ }
+    requires { ⌜ length (now s) ≤ maxReach ⌝ }
     ensures { λ r. ⌜ formulaOf (now (s .entry)) r ≡ oneField letter (drop at (now (s .entry))) ⌝ }
 {
     let f = number(s, at, 0, ranges::FORMULA_LAST, 10);
@@ -91,7 +90,7 @@ fn two_fields(s: &[u8], at: u32, letter: u32, m: u32, n: u32) -> FormulaLine
 }
 
 fn at_fields(s: &[u8], at: u32, letter: u32) -> FormulaLine
-    requires { ⌜ length (now s) ≤ maxBytes ⌝ }
+    requires { ⌜ length (now s) ≤ maxReach ⌝ }
     ensures { λ r. ⌜ formulaOf (now (s .entry)) r ≡ atFields letter (drop at (now (s .entry))) ⌝ }
 {
     let f = number(s, at, 0, ranges::FORMULA_LAST, 44);
@@ -115,7 +114,7 @@ fn at_fields(s: &[u8], at: u32, letter: u32) -> FormulaLine
 }
 
 fn superset_fields(s: &[u8], at: u32, letter: u32) -> FormulaLine
-    requires { ⌜ length (now s) ≤ maxBytes ⌝ }
+    requires { ⌜ length (now s) ≤ maxReach ⌝ }
     ensures { λ r. ⌜ formulaOf (now (s .entry)) r ≡ supersetFields letter (drop at (now (s .entry))) ⌝ }
 {
     let f = interval(s, at, 44);
@@ -140,7 +139,7 @@ fn superset_fields(s: &[u8], at: u32, letter: u32) -> FormulaLine
 
 // One of the eleven formula lines.
 pub fn formula_line(s: &[u8], at: u32) -> FormulaLine
-    requires { ⌜ length (now s) ≤ maxBytes ⌝ }
+    requires { ⌜ length (now s) ≤ maxReach ⌝ }
     ensures { λ r. ⌜ formulaOf (now (s .entry)) r ≡ rowed (readLine formulaLine (drop at (now (s .entry)))) ⌝ }
 {
     let i = at as usize;

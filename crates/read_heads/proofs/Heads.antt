@@ -5,7 +5,6 @@ use mathlib.Core.Option.{Option, none, some}
 use mathlib.Core.Bool.{true}
 use Prim.Native.Nat.{ℕ, _≤_, _<_}
 use Prim.Native.String.{String}
-use native.Mathlib.Omega.{arith}
 use lib.Dec.{eqb}
 use lib.ListN.{length, drop}
 use Rattle.logic.specs.declared.Interval.{Interval}
@@ -14,14 +13,13 @@ use Rattle.request.specs.declared.Kind.the-variants.{Linear, Unrestricted}
 use Rattle.request.specs.Range.{Range, minute, formulaNumber, serial, session, holds, steps}
 use Rattle.request.specs.Text.{bytes, sameBytes, andThen, lines, numberIn}
 use Rattle.request.specs.Reader.{return, _>>=_, next, named, choose, whole, ended}
-use Rattle.request.specs.Request.{Line, Request, word, issue, withdraw, tally}
+use Rattle.request.specs.Request.{Request, word, issue, withdraw, tally}
 use Rattle.request.specs.Read.{number, interval, kind, formulaLine, firstLine, bookLine, rest, alone, booking}
 use Rattle.request.specs.Read.{requestOf, Head as FirstLine}
 use Rattle.request.specs.InRange.{_inRange_, IntervalInRange}
 use Rattle.request.proofs.Gives.{Gives, nothing, just, given, gives-then}
 use Rattle.request.proofs.Digits.{number-only}
 use Rattle.steps.specs.declared.Row.{Row}
-use Rattle.ledger.specs.Table.{rowOf}
 use Rattle.read_fields.specs.Field.{fieldTo, strip}
 use Rattle.read_formulas.specs.Line.{readLine, intervalTo, rowed}
 use Rattle.read_heads.specs.First.{after, issueFields, WordIs, FirstIs, requestFrom}
@@ -30,6 +28,7 @@ use Rattle.read_fields.proofs.Then.{then-same, then-some, then-no, by-test}
 use Rattle.read_fields.proofs.Bytes.{here, past}
 use Rattle.read_heads.proofs.Split.{lines-several, request-first}
 use Rattle.read_formulas.proofs.Cut.{line-same, line-map, gives-pick, cut-stop}
+use Rattle.read_formulas.proofs.RowLines.{row-line, row-none}
 use Rattle.read_formulas.proofs.Shapes.{number-shape, interval-shape, both-last, both-more}
 use Rattle.read_formulas.proofs.WordTables.{Table, inside, word-found, no-word, then-comma}
 
@@ -49,24 +48,6 @@ unfolding requestFrom andThen
 no-line e = rw (e, andThen)
 
 -- `word`
-
--- the line of a row
-record Rowed (o : Option (Line × List ℕ)) (x : Row) (c : List ℕ) : Type 0 where
-  line : Line
-  is : o ≡ some (line, c)
-  row : rowOf line ≡ x
-
-row-line : (o : Option (Line × List ℕ)) {x : Row} {c : List ℕ} → rowed o ≡ some (x, c) → Rowed o x c
-unfolding rowed andThen
-row-line none e = let z : _≡_ {A = ℕ} 0 1 = cc in absurd (omega arith)
-row-line (some p) {x} {c} e =
-    let q : _≡_ {A = Row × List ℕ} (rowOf (p .0), p .1) (x, c) = cc in
-    record { line = p .0; is = ap (λ (z : Row × List ℕ). some (p .0, z .1)) q; row = ap (λ (z : Row × List ℕ). z .0) q }
-
-row-none : (o : Option (Line × List ℕ)) → rowed o ≡ none → o ≡ none
-unfolding rowed andThen
-row-none none e = refl
-row-none (some p) e = cc
 
 module _ (b : List ℕ) where
   word-line : readLine (after "word") b ≡ andThen (readLine formulaLine b) (λ x. some (alone (word (x .0)), x .1))

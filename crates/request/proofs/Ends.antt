@@ -12,6 +12,7 @@ ranges-end = record {
   minutes = record { from = refl; to = refl; under = refl; over = refl };
   formulas = record { from = refl; to = refl; under = refl; over = refl };
   serials = record { from = refl; to = refl; under = refl; over = refl };
+  nextSerials = record { from = refl; to = refl; under = refl; over = refl };
   labels = record { from = refl; to = refl; under = refl; over = refl };
   holdCounts = record { from = refl; to = refl; under = refl; over = refl };
   stepCounts = record { from = refl; to = refl; under = refl; over = refl };

@@ -22,7 +22,7 @@ abbrev pub NumberExact : Range → ℕ → Type 0
 NumberExact r n = Exact 48 (number r) (λ m. m inRange r) (λ m. digits m ∷ []) n
 
 -- a number of at most k + 1 digits
-number-exact : (r : Range) (k : ℕ) → r .last < 10 ^ suc k → NumberExact r (k + 2)
+pub number-exact : (r : Range) (k : ℕ) → r .last < 10 ^ suc k → NumberExact r (k + 2)
 unfolding number
 number-exact r k h =
     next-exact (number-back r) (λ n i. digits-plain n)

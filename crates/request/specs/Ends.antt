@@ -4,7 +4,7 @@ use mathlib.Core.Path.{_≡_}
 use mathlib.Core.Option.{none, some}
 use Prim.Native.String.{String}
 use Rattle.request.specs.Range.{Range, predicate, session, principal, minute, formulaNumber, serial, label}
-use Rattle.request.specs.Range.{holds, steps}
+use Rattle.request.specs.Range.{nextSerial, holds, steps}
 use Rattle.request.specs.Text.{bytes, numberIn}
 
 -- these texts are read as the range's first number and its last; those of the numbers before and after are not read
@@ -22,6 +22,7 @@ pub record RangesEnd : Type 0 where
   pub minutes : Ends minute "0" "9999999" "-" "10000000"
   pub formulas : Ends formulaNumber "0" "999" "-" "1000"
   pub serials : Ends serial "1" "999999" "0" "1000000"
+  pub nextSerials : Ends nextSerial "1" "1000000" "0" "1000001"
   pub labels : Ends label "0" "63" "-" "64"
   pub holdCounts : Ends holds "0" "32" "-" "33"
   pub stepCounts : Ends steps "1" "256" "0" "257"

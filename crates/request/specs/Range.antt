@@ -30,6 +30,10 @@ formulaNumber = 0 ‥ 999
 abbrev pub serial : Range
 serial = 1 ‥ 999999
 
+-- document 02, ask 5: "next is the next serial, 1 to 1,000,000"
+abbrev pub nextSerial : Range
+nextSerial = 1 ‥ 1000000
+
 abbrev pub label : Range
 label = 0 ‥ 63
 

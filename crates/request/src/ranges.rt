@@ -15,6 +15,11 @@ pub const SERIAL_FIRST: u32 = 1;
 
 pub const SERIAL_LAST: u32 = 999_999;
 
+// document 02, ask 5: "next is the next serial, 1 to 1,000,000"
+pub const NEXT_SERIAL_FIRST: u32 = 1;
+
+pub const NEXT_SERIAL_LAST: u32 = 1_000_000;
+
 pub const LABEL_LAST: u32 = 63;
 
 // how many labels there are

@@ -3,3 +3,4 @@ mod Stands
 mod Removed
 mod Gather
 mod Given
+mod Raised

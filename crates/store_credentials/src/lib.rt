@@ -1,4 +1,5 @@
-// The live credentials of a store (document 01: the coupons): one leaves, and one more is given.
+// The live credentials of a store (document 01: the coupons): one leaves, one more is given; and the next serial is
+// set.
 use ledger::Credential;
 use logic::Interval;
 use request::Kind;
@@ -11,6 +12,7 @@ ghost use Rattle.ledger.specs.Ledger.{withoutSerial};
 ghost use Rattle.ledger.specs.Calls.{withLive, withCredential};
 ghost use Rattle.store_cells.specs.Layout.{maxRows, rowCount, credentialAt};
 ghost use Rattle.store.specs.Store.{ledgerOf, Good, StandsFor, Givable, Occupied, Compacted};
+ghost use Rattle.store_credentials.specs.NextSerial.{withNext, Raisable};
 
 // Gaps that may stand among the rows in use however few are live: moving a handful of rows together is not worth it.
 const SPARE_ROWS: u32 = 16;
@@ -102,4 +104,12 @@ pub fn give(store: &mut Store, kind: Kind, formula: u32, interval: Interval)
 {
     make_room(store);
     append(store, kind, formula, interval);
+}
+
+// The next serial is n, as an opened text says.
+pub fn set_next(store: &mut Store, n: u32)
+    requires { ⌜ Raisable (now store) n ⌝ }
+    ensures { λ _. ⌜ StandsFor (now (store .exit)) (withNext (ledgerOf (now (store .entry))) n) ⌝ }
+{
+    head::put_next(store, n);
 }

@@ -26,9 +26,35 @@ const MORE: [&str; 6] = [
 ];
 const REFUSALS: [u32; 17] = [1, 2, 3, 10, 12, 13, 14, 20, 21, 22, 24, 30, 31, 40, 41, 42, 43];
 
+fn all(list: &[&str]) -> Vec<String> {
+    list.iter().map(|s| s.to_string()).collect()
+}
+
+/// Everything that sessions with texts must reach, in groups.
+fn required_of_texts() -> Vec<(&'static str, Vec<String>)> {
+    let damage: Vec<&str> = damage::DAMAGE.iter().copied().filter(|name| !name.contains("hexadecimal")).collect();
+    vec![
+        ("refusal numbers", all(&["refusal 50", "refusal 51"])),
+        ("texts closed", all(&text_life::CLOSED)),
+        ("texts opened", all(&text_life::OPENED)),
+        ("after opening", all(&text_life::AFTER)),
+        ("the form of a text broken", all(&text_form::FORM)),
+        ("damage to texts", all(&damage)),
+        ("single bytes of a text", all(&text_form::BYTES)),
+        ("ranges in texts", all(&text_form::ENDS)),
+        ("a rule broken in a text", all(&text_rules::RULES)),
+        ("as word and issue answer", all(&text_rules::ASKED)),
+        ("50 and 51 at once", all(&text_rules::BOTH)),
+        ("closed and opened between sheets", all(&text_life::PACKED)),
+    ]
+}
+
 /// Everything that must be reached, in groups.
-fn required(long: bool) -> Vec<(&'static str, Vec<String>)> {
-    let all = |list: &[&str]| list.iter().map(|s| s.to_string()).collect::<Vec<_>>();
+fn required(wish: &Wish) -> Vec<(&'static str, Vec<String>)> {
+    if wish.texts {
+        return required_of_texts();
+    }
+    let long = wish.long;
     let mut refusals: Vec<String> = REFUSALS.iter().map(|n| format!("refusal {n}")).collect();
     refusals.extend(long.then(|| "refusal 23".to_string()));
     let rules = [
@@ -94,10 +120,10 @@ impl Coverage {
     }
 
     /// Prints what was reached; gives the number of required things that were not.
-    pub fn report(&self, long: bool) -> u32 {
+    pub fn report(&self, wish: &Wish) -> u32 {
         println!("coverage of {} sheets, {} of them without a known answer:", self.sheets, self.unknown);
         let mut missing = 0;
-        for (group, names) in required(long) {
+        for (group, names) in required(wish) {
             let count = |name: &String| self.marks.get(name).copied().unwrap_or(0);
             let reached = names.iter().filter(|n| count(n) > 0).count();
             let fewest = names.iter().map(count).min().unwrap_or(0);

@@ -172,8 +172,8 @@ fn fields_left_out(sheet: &[u8]) -> Vec<(&'static str, Vec<u8>)> {
     out
 }
 
-/// Every byte exchanged for, and preceded by, each of some others, where that breaks the form.
-fn byte_edits(sheet: &[u8]) -> Vec<(&'static str, Vec<u8>)> {
+/// Every byte exchanged for, and preceded by, each of some others.
+pub fn byte_edits(sheet: &[u8]) -> Vec<(&'static str, Vec<u8>)> {
     let mut out = vec![];
     for at in 0..sheet.len() {
         for byte in *b",\n0:/ \tA" {
@@ -183,18 +183,31 @@ fn byte_edits(sheet: &[u8]) -> Vec<(&'static str, Vec<u8>)> {
             out.extend([("byte exchanged", other), ("byte put in", more)]);
         }
     }
-    out.retain(|(_, bad)| read(bad) == Err(2));
     out
 }
 
-/// The damage to one sheet: single bytes and fields everywhere, and all of the rest or a share of it.
-fn play(desk: &mut Desk, sheet: &[u8], rng: &mut Rng, share: u32) {
+/// Damage that breaks the form wherever it is done, but for single bytes and fields left out.
+fn broken(sheet: &[u8]) -> Vec<(&'static str, Vec<u8>)> {
     let mut all = field_damage(sheet);
     all.extend(line_damage(sheet));
     all.extend(byte_damage(sheet));
+    all
+}
+
+/// The same, with each field left out.
+pub fn all_broken(sheet: &[u8]) -> Vec<(&'static str, Vec<u8>)> {
+    let mut all = broken(sheet);
+    all.extend(fields_left_out(sheet));
+    all
+}
+
+/// The damage to one sheet: single bytes and fields everywhere, and all of the rest or a share of it. Single bytes
+/// count where they break the form.
+fn play(desk: &mut Desk, sheet: &[u8], rng: &mut Rng, share: u32) {
+    let mut all = broken(sheet);
     all.retain(|_| rng.chance(share, 8));
     all.extend(fields_left_out(sheet));
-    all.extend(byte_edits(sheet));
+    all.extend(byte_edits(sheet).into_iter().filter(|(_, bad)| read(bad) == Err(2)));
     for (name, bad) in all {
         let number = if bad.len() > 16_384 { 1 } else { 2 };
         desk.refuse(&bad, number, name);
@@ -228,7 +241,8 @@ pub fn calls(seed: u64) -> Session {
     desk.session("damage: calls", seed)
 }
 
-fn at_random(rng: &mut Rng, sheet: &[u8]) -> Vec<u8> {
+/// One byte of the sheet exchanged, put in, taken out or moved.
+pub fn at_random(rng: &mut Rng, sheet: &[u8]) -> Vec<u8> {
     let mut bad = sheet.to_vec();
     let at = rng.below(bad.len());
     match rng.below(5) {

@@ -41,7 +41,7 @@ pub enum Sheet {
 }
 
 /// A number of the house form, between lo and hi.
-fn number(field: &str, lo: u32, hi: u32) -> Option<u32> {
+pub fn number(field: &str, lo: u32, hi: u32) -> Option<u32> {
     let digits = !field.is_empty() && field.len() <= 7 && field.bytes().all(|b| b.is_ascii_digit());
     if !digits || (field.len() > 1 && field.starts_with('0')) {
         return None;
@@ -62,11 +62,11 @@ fn session(field: &str) -> Option<u32> {
     number(field, 0, LAST_SESSION)
 }
 
-fn wording(field: &str) -> Option<u32> {
+pub fn wording(field: &str) -> Option<u32> {
     number(field, 0, 999)
 }
 
-fn serial(field: &str) -> Option<u32> {
+pub fn serial(field: &str) -> Option<u32> {
     number(field, 1, 999_999)
 }
 
@@ -80,12 +80,12 @@ fn share(field: &str) -> Option<()> {
 }
 
 /// The four fields of a window.
-fn span(fields: &[&str]) -> Option<Window> {
+pub fn span(fields: &[&str]) -> Option<Window> {
     let [from, to, first, last] = fields else { return None };
     Some(with_break(minute(from)?, minute(to)?, minute(first)?, minute(last)?))
 }
 
-fn wording_line(fields: &[&str]) -> Option<WordingLine> {
+pub fn wording_line(fields: &[&str]) -> Option<WordingLine> {
     let mut line = WordingLine {
         letter: fields.first()?.chars().next()?,
         refs: vec![],

@@ -133,7 +133,7 @@ pub fn session(seed: u64, calls: usize) -> Session {
 }
 
 /// Tallies at the ends of some live windows and of their breaks, for every session that occurs and one that is alike.
-fn every_end(desk: &mut Desk) {
+pub fn every_end(desk: &mut Desk) {
     let named = desk.model.live.iter().flat_map(|c| c.wording.sessions());
     let sessions: std::collections::BTreeSet<u32> = named.flat_map(|s| [s, s ^ 256]).collect();
     let windows: std::collections::BTreeSet<Window> = desk.model.live.iter().map(|c| c.window).collect();

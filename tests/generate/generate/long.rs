@@ -1,7 +1,7 @@
 //! The last serial: nearly a million bookings, then everything that 23 stands behind.
 
 use super::model::{Answer, Steps};
-use super::session::{Case, Desk, Session};
+use super::session::{Call, Case, Desk, Session};
 
 pub const LONG: [&str; 3] = ["23: issue", "23: book", "23 after all others"];
 
@@ -18,7 +18,7 @@ fn up_to_last(desk: &mut Desk) {
         let sheet = format!("book,5,0,0,9,0,0,1,1\nhold,{serial}\nax,0\n").into_bytes();
         let expected = desk.model.answer(&sheet, Steps::Close);
         assert_eq!(expected, Some(Answer::Done(serial + 1)));
-        desk.cases.push(Case { sheet, expected, marks: vec![] });
+        desk.cases.push(Case::new(Call::Sheet, &sheet, expected));
     }
 }
 

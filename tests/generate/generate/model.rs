@@ -49,7 +49,7 @@ pub const TALLIED: [&str; 4] = [
 ];
 
 /// A coupon (η-logic's credential).
-#[derive(Clone, Debug)]
+#[derive(Clone, PartialEq, Eq, Debug)]
 pub struct Coupon {
     pub serial: u32,
     pub kind: Kind,
@@ -57,7 +57,7 @@ pub struct Coupon {
     pub window: Window,
 }
 
-#[derive(Default)]
+#[derive(Clone, PartialEq, Eq, Default, Debug)]
 pub struct Model {
     pub lines: Vec<String>,
     pub wordings: Vec<Part>,
@@ -116,7 +116,7 @@ impl Model {
         })
     }
 
-    fn word(&mut self, line: &WordingLine) -> Check<Answer> {
+    pub fn word(&mut self, line: &WordingLine) -> Check<Answer> {
         let tree = self.tree(line)?;
         ensure(tree.size() <= 64, 12)?;
         ensure(!self.lines.contains(&line.text), 13)?;
@@ -136,7 +136,7 @@ impl Model {
         Ok(Done(self.given))
     }
 
-    fn issue(&mut self, kind: Kind, n: u32, window: Window) -> Check<Answer> {
+    pub fn issue(&mut self, kind: Kind, n: u32, window: Window) -> Check<Answer> {
         let wording = self.named(n)?;
         match kind {
             Kind::Single => ensure(wording.plain(), 20)?,

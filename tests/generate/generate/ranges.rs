@@ -13,7 +13,7 @@ pub const BACKWARD: [&str; 7] = [
 ];
 
 /// Numbers above the high end: the next one, and ones that a machine word might cut to the high end.
-fn beyond(hi: u32) -> Vec<String> {
+pub fn beyond(hi: u32) -> Vec<String> {
     let mut all = vec!["99999999999999999999999".to_string(), format!("{hi}0")];
     all.extend([0, 8, 16, 32, 64].map(|bits| (u128::from(hi) + (1 << bits)).to_string()));
     all

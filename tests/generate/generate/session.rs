@@ -3,13 +3,33 @@
 use super::form::Kind;
 use super::model::{Answer, Model, Steps};
 use super::rng::Rng;
+use super::text;
 use super::wording::*;
 
-/// One sheet (η-logic's request), the answer due (None: not known) and what it stands for.
+/// What is asked of the till.
+#[derive(Clone, Copy, PartialEq, Eq, Debug)]
+pub enum Call {
+    Sheet,
+    /// The till is written as text.
+    Close,
+    /// The bytes are a text to be read.
+    Open,
+}
+
+/// One sheet (η-logic's request) or text, the answer due (None: not known) and what it stands for.
 pub struct Case {
+    pub call: Call,
     pub sheet: Vec<u8>,
     pub expected: Option<Answer>,
+    /// The text that closing writes.
+    pub written: Vec<u8>,
     pub marks: Vec<&'static str>,
+}
+
+impl Case {
+    pub fn new(call: Call, sheet: &[u8], expected: Option<Answer>) -> Case {
+        Case { call, sheet: sheet.to_vec(), expected, written: vec![], marks: vec![] }
+    }
 }
 
 pub struct Session {
@@ -44,7 +64,7 @@ impl Desk {
             Ok(_) => self.model.answer(sheet, steps),
         };
         self.lost |= expected.is_none();
-        self.cases.push(Case { sheet: sheet.to_vec(), expected, marks: vec![] });
+        self.cases.push(Case::new(Call::Sheet, sheet, expected));
         expected
     }
 
@@ -58,6 +78,52 @@ impl Desk {
         let text = String::from_utf8_lossy(sheet);
         assert_eq!(modelled, Some(answer), "the generator disagrees with itself at {marks:?}:\n{text}");
         self.mark(marks);
+    }
+
+    /// Closes the till; gives the text. Reading it gives the till.
+    pub fn close(&mut self, marks: &[&'static str]) -> Vec<u8> {
+        let text = text::written(&self.model);
+        let read = text::opened(&text).as_ref() == Ok(&self.model);
+        assert!(read, "a written text is read as the till:\n{}", shown(&text));
+        let mut case = Case::new(Call::Close, b"", Some(Answer::Done(text.len() as u32)));
+        case.written = text.clone();
+        self.cases.push(case);
+        self.mark(marks);
+        text
+    }
+
+    /// Hands over a text to be read; the model answers.
+    pub fn open(&mut self, text: &[u8], marks: &[&'static str]) -> Answer {
+        let answer = match text::opened(text) {
+            Err(number) => Answer::Refused(number, 0),
+            Ok(model) => {
+                self.model = model;
+                Answer::Done(text.len() as u32)
+            }
+        };
+        self.cases.push(Case::new(Call::Open, text, Some(answer)));
+        self.mark(marks);
+        answer
+    }
+
+    /// A text whose refusal follows from the way it was made; the model must agree.
+    pub fn refuse_text(&mut self, text: &[u8], number: u32, mark: &'static str) {
+        let answer = self.open(text, &[mark]);
+        let shown = shown(text);
+        assert_eq!(answer, Answer::Refused(number, 0), "the generator disagrees with itself at {mark}:\n{shown}");
+    }
+
+    /// A text that must be read.
+    pub fn read_text(&mut self, text: &[u8], mark: &'static str) {
+        let answer = self.open(text, &[mark]);
+        let shown = shown(text);
+        assert_eq!(answer, Answer::Done(text.len() as u32), "the generator disagrees with itself at {mark}:\n{shown}");
+    }
+
+    /// Closes the till and opens it again: it stays as it is.
+    pub fn reopen(&mut self, mark: &'static str) {
+        let text = self.close(&[]);
+        self.read_text(&text, mark);
     }
 
     /// The last sheet stands for these.
@@ -163,6 +229,10 @@ impl Desk {
             self.tally(session, minute);
         }
     }
+}
+
+fn shown(text: &[u8]) -> String {
+    String::from_utf8_lossy(&text[..text.len().min(4_000)]).into_owned()
 }
 
 /// A sheet from a text with `|` for line ends between lines.

@@ -1,12 +1,16 @@
 //! Hand-made requests for every refusal, both ends of every range and every step.
 
 use super::form::MAX_BYTES;
+use super::saved::MAX_TEXT;
 use super::Answer::{Counted, Done, Refused};
 use super::{Answer, Till};
 
 mod breaks;
+mod closing;
 mod house;
+mod opening;
 mod ranges;
+mod reopening;
 mod rules;
 mod state;
 
@@ -40,6 +44,53 @@ fn booking(head: &str, holds: &[u32], steps: &[&str]) -> String {
 /// The answer to one request on a till that accepted the others.
 fn after(requests: &[&str], last: &str) -> Answer {
     ask(&mut till_after(requests), last)
+}
+
+/// A small generator of numbers (xorshift), the same at every run.
+struct Numbers(u64);
+
+impl Numbers {
+    fn below(&mut self, bound: usize) -> usize {
+        self.0 ^= self.0 << 13;
+        self.0 ^= self.0 >> 7;
+        self.0 ^= self.0 << 17;
+        (self.0 % bound as u64) as usize
+    }
+}
+
+/// What closing writes.
+fn text_of(till: &Till) -> String {
+    let mut buffer = [0; MAX_TEXT];
+    let length = till.close(&mut buffer).unwrap();
+    String::from_utf8(buffer[..length].to_vec()).unwrap()
+}
+
+/// The till of a text, which is opened, and closed to the same text.
+fn opened(text: &str) -> Till {
+    let till = Till::open(text.as_bytes()).unwrap_or_else(|number| panic!("{number}: {text}"));
+    assert_eq!(text_of(&till), text);
+    till
+}
+
+/// What opening answers: 50, 51, or 0 if it opens.
+fn refusal_of(text: &[u8]) -> u32 {
+    match Till::open(text) {
+        Ok(till) => {
+            assert_eq!(text_of(&till).as_bytes(), text);
+            0
+        }
+        Err(number) => number,
+    }
+}
+
+/// A text from next, wording lines and coupon lines.
+fn text(next: u32, words: &[&str], coupons: &[&str]) -> String {
+    let mut text = format!("till,1,{next},{},{}\n", words.len(), coupons.len());
+    for line in words.iter().chain(coupons) {
+        text += line;
+        text += "\n";
+    }
+    text
 }
 
 #[test]

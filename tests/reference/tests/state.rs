@@ -1,6 +1,6 @@
 //! Balance, tally, room for coupons, serials, and refusals that leave the till as before.
 
-use super::{after, ask, booking, till_after, Answer, Counted, Done, Refused, Till};
+use super::{after, ask, booking, till_after, Answer, Counted, Done, Numbers, Refused, Till};
 
 /// The answer to issuing the last of these words as a standing coupon.
 fn stand(words: &[&str]) -> Answer {
@@ -349,18 +349,6 @@ fn refusal_22_comes_before_23() {
     assert_eq!(ask(&mut till, &booking("0,0,0,9,0,0", &[999_999], &["ax,0"])), Refused(23, 0));
     assert_eq!(ask(&mut till, "withdraw,3"), Done(3));
     assert_eq!(ask(&mut till, "issue,s,0,0,9,0,0"), Refused(23, 0));
-}
-
-/// A small generator of numbers (xorshift), the same at every run.
-struct Numbers(u64);
-
-impl Numbers {
-    fn below(&mut self, bound: usize) -> usize {
-        self.0 ^= self.0 << 13;
-        self.0 ^= self.0 >> 7;
-        self.0 ^= self.0 << 17;
-        (self.0 % bound as u64) as usize
-    }
 }
 
 #[test]

@@ -1,0 +1,6 @@
+pub mod Texts
+pub mod Rules
+pub mod Lawful
+pub mod Reopen
+pub mod Compute
+pub mod Cases

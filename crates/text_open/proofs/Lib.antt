@@ -1,0 +1,4 @@
+mod Outcomes
+mod Taking
+mod Giving
+mod Building

@@ -1,0 +1,70 @@
+-- `build` meets its contract: the first line, the empty ledger, the lines, the credentials, the next serial.
+use mathlib.Core.Path.{sym, subst}
+use borrow.Author.Needs.{needs}
+use Rattle.read_fields.proofs.Then.{seen}
+use Rattle.text_read.specs.TextForm.{TitleIs}
+use Rattle.text_open.specs.Opened.{linesLeft}
+use Rattle.text_open.proofs.Building.{not-passing, lines-asked, lines-bad, live-asked, live-bad, left-over}
+use Rattle.text_open.proofs.Building.{built}
+use Rattle.text_open.proofs.build.Statement.{statement}
+use Rattle.text_open.proofs.build.Tie as tie
+
+pub build-spec : {M : Type 1} → statement M
+build-spec =
+    tie.close
+    (tie.spec
+    (λ c κs. search needs)
+    (λ c. search needs)
+    (λ c. search needs)
+    (λ c. sym (not-passing _ (subst (TitleIs _) (c .enum-told .given .1) (c .before .before .text-title .ensures))))
+    (λ c κs. search needs)
+    (λ c κs. let t = c .before .before .before .before in
+    let h = subst (TitleIs _) (t .title .given .1) (t .before .before .text-title .ensures) in
+    lines-asked h (c .before .start .ensures))
+    (λ c. search needs)
+    (λ c. search needs)
+    (λ c. let s = c .before .before .before .before in
+    let t = s .before .before .before in
+    let h = subst (TitleIs _) (t .title .given .1) (t .before .before .text-title .ensures) in
+    sym (lines-bad h (s .start .ensures)
+    (seen (linesLeft _ _) (c .before .before .take-lines .ensures .0) (c .enum-told2 .given .1))))
+    (λ c κs. let x = c .before .before in
+    let y = x .before .before .take-lines .ensures in
+    let s = x .before .before .before .before in
+    let t = s .before .before .before in
+    let h = subst (TitleIs _) (t .title .given .1) (t .before .before .text-title .ensures) in
+    live-asked h (x .l .given .0 .0) (s .start .ensures) (y .1)
+    (seen (linesLeft _ _) (y .0) (x .l .given .1)))
+    (λ c. search needs)
+    (λ c. search needs)
+    (λ c. let x = c .before .before .before .before .before in
+    let y = x .before .before .take-lines .ensures in
+    let s = x .before .before .before .before in
+    let t = s .before .before .before in
+    let h = subst (TitleIs _) (t .title .given .1) (t .before .before .text-title .ensures) in
+    sym (live-bad h (x .l .given .0 .0) (s .start .ensures) (y .1)
+    (seen (linesLeft _ _) (y .0) (x .l .given .1))
+    (seen (linesLeft _ _) (c .before .before .take-credentials .ensures .0) (c .enum-told3 .given .1))))
+    (λ c. search needs)
+    (λ c. let m = c .before .before in
+    let x = m .before .before .before .before .before in
+    let y = x .before .before .take-lines .ensures in
+    let s = x .before .before .before .before in
+    let t = s .before .before .before in
+    let h = subst (TitleIs _) (t .title .given .1) (t .before .before .text-title .ensures) in
+    sym (left-over h (x .l .given .0 .0) (s .start .ensures) (y .1)
+    (seen (linesLeft _ _) (y .0) (x .l .given .1)) (m .m .given .0 .0)
+    (seen (linesLeft _ _) (m .before .before .take-credentials .ensures .0) (m .m .given .1)) (c .if1 .taken)))
+    (λ c κs. c .before .before .before .before .before .take-credentials .ensures .1)
+    (λ c. let m = c .before .before .before .before in
+    let x = m .before .before .before .before .before in
+    let y = x .before .before .take-lines .ensures in
+    let s = x .before .before .before .before in
+    let t = s .before .before .before in
+    let h = subst (TitleIs _) (t .title .given .1) (t .before .before .text-title .ensures) in (
+      sym (built h (x .l .given .0 .0) (s .start .ensures) (y .1)
+          (seen (linesLeft _ _) (y .0) (x .l .given .1)) (m .m .given .0 .0)
+          (seen (linesLeft _ _) (m .before .before .take-credentials .ensures .0) (m .m .given .1))
+          (c .before .before .if1 .left) (c .set-next .ensures)),
+      c .set-next .ensures .good,
+    )))

@@ -1,0 +1,28 @@
+-- `take_credential` meets its contract.
+use native.Mathlib.Omega.{arith}
+use borrow.Author.Needs.{needs}
+use Rattle.text_open.proofs.Outcomes.{not-rising, not-below, serial-raisable, credential-taken}
+use Rattle.text_open.proofs.take_credential.Statement.{statement}
+use Rattle.text_open.proofs.take_credential.Tie as tie
+
+pub take-credential-spec : {M : Type 1} → statement M
+take-credential-spec =
+    tie.close
+    (tie.spec
+    (λ c κs. search needs)
+    (λ c. (
+      not-rising _ _ _ (omega (arith, c .if1 .taken, c .before .before .next-serial .ensures)),
+      c .before .before .before .before .pre .raisable,
+    ))
+    (λ c. (not-below _ _ _ (c .if2 .taken), c .before .before .before .before .before .before .pre .raisable))
+    (λ c κs. let d = c .before .before .before in
+    serial-raisable (d .before .before .before .before .pre)
+    (omega (arith, d .if1 .left, d .before .before .next-serial .ensures)))
+    (λ c κs. c .before .before .set-next .ensures .good)
+    (λ c κs. search needs)
+    (λ c. let d = c .before .before .before .before .before .before in
+    let e = d .before .before in
+    let s = e .before .before .before .before in
+    credential-taken _ (s .args .next) (c .accepted .result) (s .pre)
+    (omega (arith, e .if1 .left, e .before .before .next-serial .ensures)) (omega (arith, d .if2 .left))
+    (c .before .before .before .before .set-next .ensures) (c .before .issue .ensures) (c .accepted .ensures)))

@@ -1,0 +1,3 @@
+pub mod TextLines
+pub mod PastLines
+pub mod TextForms

@@ -1,0 +1,55 @@
+-- `text_form` meets its contract: the first line, the lines that it announces, and nothing after them.
+use mathlib.Core.Path.{subst}
+use native.Mathlib.Omega.{arith}
+use borrow.Author.Needs.{needs}
+use Rattle.read_fields.specs.Field.{pastOf}
+use Rattle.read_fields.proofs.Then.{seen}
+use Rattle.text_read.specs.TextForm.{TitleIs}
+use Rattle.text_read.proofs.TextForms.{no-formulas, no-credentials, left-over, text-formed}
+use Rattle.text_read.proofs.text_form.Statement.{statement}
+use Rattle.text_read.proofs.text_form.Tie as tie
+
+pub text-form-spec : {M : Type 1} → statement M
+text-form-spec =
+    tie.close
+    (tie.spec
+    (λ c κs. search needs)
+    (λ c. search needs)
+    (λ c. search needs)
+    (λ c. subst (TitleIs _) (c .enum-told .given .1) (c .before .before .text-title .ensures))
+    (λ c κs. omega (
+      arith,
+      subst (TitleIs _) (c .before .title .given .1)
+          (c .before .before .before .text-title .ensures) .short,
+    ))
+    (λ c. search needs)
+    (λ c. search needs)
+    (λ c. let t = c .before .before .before .before in
+    no-formulas _ (t .title .given .0 .0) (subst (TitleIs _) (t .title .given .1)
+    (t .before .before .text-title .ensures) .reads)
+    (seen (pastOf _) (c .before .before .past-formulas .ensures) (c .enum-told2 .given .1)))
+    (λ c κs. let t = c .before .before .before .before .before in
+    omega (arith, subst (TitleIs _) (t .title .given .1) (t .before .before .text-title .ensures) .short))
+    (λ c. search needs)
+    (λ c. search needs)
+    (λ c. let l = c .before .before .before .before in
+    let t = l .before .before .before .before in
+    no-credentials _ (t .title .given .0 .0) (subst (TitleIs _) (t .title .given .1)
+    (t .before .before .text-title .ensures) .reads) (l .a .given .0 .0)
+    (seen (pastOf _) (l .before .before .past-formulas .ensures) (l .a .given .1))
+    (seen (pastOf _) (c .before .before .past-credentials .ensures) (c .enum-told3 .given .1)))
+    (λ c. search needs)
+    (λ c. let l = c .before .before .before .before .before .before in
+    let t = l .before .before .before .before in
+    left-over _ (t .title .given .0 .0) (subst (TitleIs _) (t .title .given .1) (t .before .before .text-title .ensures)
+    .reads) (l .a .given .0 .0)
+    (seen (pastOf _) (l .before .before .past-formulas .ensures) (l .a .given .1)) (c .before .before .b .given .0 .0)
+    (seen (pastOf _) (c .before .before .before .before .past-credentials .ensures) (c .before .before .b .given .1))
+    (c .if1 .taken))
+    (λ c. let l = c .before .before .before .before .before .before in
+    let t = l .before .before .before .before in
+    text-formed _ (t .title .given .0 .0) (subst (TitleIs _) (t .title .given .1)
+    (t .before .before .text-title .ensures) .reads) (l .a .given .0 .0)
+    (seen (pastOf _) (l .before .before .past-formulas .ensures) (l .a .given .1)) (c .before .before .b .given .0 .0)
+    (seen (pastOf _) (c .before .before .before .before .past-credentials .ensures) (c .before .before .b .given .1))
+    (c .if1 .left)))

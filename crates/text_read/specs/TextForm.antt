@@ -1,0 +1,85 @@
+-- What the code's answers say of the bytes of a text, by `snapshotOf` and `openChecks` (crate snapshot, Snapshot.antt).
+use mathlib.Core.Path.{_≡_}
+use mathlib.Core.List.{List, []}
+use mathlib.Core.Option.{Option, none, some}
+use mathlib.Core.Bool.{true}
+use Prim.Native.Nat.{ℕ, zero, suc, _≤_}
+use lib.Dec.{ltb}
+use lib.ListN.{length, drop}
+use Rattle.logic.specs.Choice.{pick}
+use Rattle.request.specs.declared.Kind.{Kind}
+use Rattle.request.specs.Range.{formulaNumber}
+use Rattle.request.specs.Text.{andThen}
+use Rattle.request.specs.Reader.{Reader, return, _>>=_}
+use Rattle.request.specs.Read.{number, interval, formulaLine}
+use Rattle.ledger.specs.declared.Credential.{Credential}
+use Rattle.ledger.specs.Ledger.{Ledger}
+use Rattle.ledger.specs.Checks.{first}
+use Rattle.snapshot.specs.Snapshot.{Title, longestText, titleLine, credentialLine, snapshotOf, rising, openChecks}
+use Rattle.snapshot.specs.InForm.{TitleInRange}
+use Rattle.read_formulas.specs.Line.{readLine}
+use Rattle.read_rest.specs.LinesRead.{readLines}
+use Rattle.text_read.specs.declared.Heading.{Heading}
+use Rattle.text_read.specs.declared.TextRead.{TextRead}
+use Rattle.text_read.specs.declared.TextRead.the-variants.{Read, Broken}
+use Rattle.text_read.specs.declared.CredentialLine.{CredentialLine}
+use Rattle.text_read.specs.declared.CredentialLine.the-variants.{Read as OneRead, Broken as NoCredential}
+
+-- what a heading says
+abbrev pub titleAt : Heading → Title
+titleAt h = record { next = h .next; lines = h .lines; live = h .live }
+
+abbrev pub titleFrom : List ℕ → TextRead → Option (Title × List ℕ)
+titleFrom s (Read h) = some (titleAt h, drop (h .body) s)
+titleFrom s Broken = none
+
+abbrev pub credentialFrom : List ℕ → CredentialLine → Option (Credential × List ℕ)
+credentialFrom s (OneRead c i) = some (c, drop i s)
+credentialFrom s NoCredential = none
+
+-- the fields of a credential after its serial and its kind
+unfoldable pub afterKind : ℕ → Kind → Reader Credential
+afterKind s k = do
+  n ← number formulaNumber
+  i ← interval
+  return (record { serial = s; kind = k; formula = n; interval = i })
+
+-- what follows the first n lines, where r reads each
+unfoldable pub linesPast : {A : Type 0} → ℕ → Reader A → List ℕ → Option (List ℕ)
+linesPast zero r b = some b
+linesPast (suc n) r b = andThen (readLine r b) (λ p. linesPast n r (p .1))
+
+-- the same of credential lines, serials rising above lo
+unfoldable pub risingPast : ℕ → ℕ → List ℕ → Option (List ℕ)
+risingPast lo zero b = some b
+risingPast lo (suc n) b =
+    andThen (readLine credentialLine b) (λ p.
+    pick (ltb lo (p .0 .serial)) (risingPast (p .0 .serial) n (p .1)) none)
+
+-- check 50 is the first that fails
+abbrev pub Fails50 : List ℕ → Type 0
+Fails50 b = first (openChecks b) ≡ some (record { number = 50; step = 0 })
+
+-- A text that is not too long, and its first line
+pub record Titled (b : List ℕ) (h : Heading) : Type 0 where
+  pub short : length b ≤ longestText
+  pub reads : readLine titleLine b ≡ some (titleAt h, drop (h .body) b)
+  pub range : TitleInRange (titleAt h)
+
+abbrev pub TitleIs : List ℕ → TextRead → Type 0
+TitleIs b (Read h) = Titled b h
+TitleIs b Broken = Fails50 b
+
+-- A text in its form, serials rising: the ledger that it says, and where its lines stand
+pub record Formed (b : List ℕ) (h : Heading) : Type 0 where
+  pub ledger : Ledger
+  pub rest : List ℕ
+  pub reads : snapshotOf b ≡ some ledger
+  pub next : ledger .next ≡ h .next
+  pub rises : rising 0 (ledger .live) ≡ true
+  pub lines : readLines (h .lines) formulaLine (drop (h .body) b) ≡ some (ledger .lines, rest)
+  pub live : readLines (h .live) credentialLine rest ≡ some (ledger .live, [])
+
+abbrev pub FormIs : List ℕ → TextRead → Type 0
+FormIs b (Read h) = Formed b h
+FormIs b Broken = Fails50 b
