@@ -38,6 +38,12 @@ def full_till():
     return begin, turns
 
 
+def withdrawals():
+    """512 coupons live; then each is withdrawn, all over the till."""
+    begin = words(M1) + ["issue,s,0,0,9,0,0"] * 512
+    return begin, [f"withdraw,{1 + (n * 173) % 512}" for n in range(512)]
+
+
 def tallies():
     """200 wordings of 50 sessions and 512 coupons over all of them, of which each minute is in one fewer than the last.
     A session has a seat, the same under ⟨1⟩, so that half of the seats are the house's, and a place or an atom that
@@ -72,6 +78,26 @@ def booked_256():
     steps = ["sr", "af"] * 63 + ["cp,0", "cp,1", "hl,4", "ol,5", "ll,3,0000000000000000,0,9,0,0"] + ["sr", "af"] * 61
     steps += ["or", "ol,6", "ax,2"]
     return begin, [book("5,63,0,9,0,0", [1, 2, 3 + n], steps) for n in range(40)]
+
+
+def joined(low, count):
+    """Steps that join the labels from low on, a power of two of them, in halves."""
+    if count == 1:
+        return [f"ax,{low}"]
+    half = count // 2
+    return [f"tr,{sum(1 << low + k for k in range(half)):016x}", *joined(low, half), *joined(low + half, half)]
+
+
+def held_32_single():
+    """A party of 32: bookings of 32 single-use coupons into one, in 63 steps."""
+    begin = words(["a,9,7"] + [f"t,{n},{n}" for n in range(5)]) + ["issue,s,0,0,9,0,0"] * 480
+    return begin, [book("5,5,0,9,0,0", range(1 + 32 * n, 33 + 32 * n), joined(0, 32)) for n in range(15)]
+
+
+def held_32_standing():
+    """Bookings with 32 holds, all but one standing, and one step."""
+    begin = words(M1) + ["issue,r,7,0,9999,0,0"] * 31 + ["issue,s,0,0,9,0,0"] * 100
+    return begin, [book("5,0,0,9,0,0", [32 + n, *range(1, 32)], ["ax,0"]) for n in range(100)]
 
 
 def text(next_serial, lines, coupons):
@@ -129,9 +155,12 @@ def refused():
 LISTS = {
     "M1": m1,
     "full_till": full_till,
+    "withdrawals": withdrawals,
     "tallies": tallies,
     "bookings_15_steps": booked_15,
     "bookings_256_steps": booked_256,
+    "held_32_single": held_32_single,
+    "held_32_standing": held_32_standing,
     "three_live": lambda: three_live(2000),
     "closing": lambda: ([full()], [":close"] * 100),
     "closing_longest": lambda: ([longest()], [":close"] * 100),

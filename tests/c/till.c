@@ -291,6 +291,91 @@ static void serials(void) {
     ask(&block, "issue,s,0,0,9,0,0\n", 0, 23, 0, 0);
 }
 
+/* Coupons of one minute each, by which a hold tells them: the last serial given, and the minute of each that is live. */
+static struct Known {
+    struct Block block;
+    uint32_t last, minute[4096]; /* 0 of a serial that is not live */
+} known;
+
+static void give(void) {
+    char sheet[40];
+    uint32_t n = ++known.last;
+    snprintf(sheet, sizeof sheet, "issue,s,0,%u,%u,0,0\n", n, n);
+    ask(&known.block, sheet, 1, n, 0, 0);
+    known.minute[n] = n;
+}
+
+static void leave(uint32_t n) {
+    char sheet[40];
+    uint32_t live = known.minute[n] > 0;
+    snprintf(sheet, sizeof sheet, "withdraw,%u\n", n);
+    ask(&known.block, sheet, live, live ? n : 24, 0, 0);
+    known.minute[n] = 0;
+}
+
+/* A hold with a line after the close: 42 if just the coupon of that serial was found, 40 if another one, 24 if none. */
+static void found(uint32_t n) {
+    char sheet[80];
+    uint32_t m = known.minute[n];
+    snprintf(sheet, sizeof sheet, "book,%u,0,%u,%u,0,0,1,2\nhold,%u\nax,0\nax,0\n", m, m, m, n);
+    ask(&known.block, sheet, 0, m ? 42 : 24, m ? 2 : 0, 0);
+}
+
+/* Every serial given, the next one, those that share its hint, and the last of all. */
+static void all_found(void) {
+    for (uint32_t n = 1; n <= known.last + 1; n++) found(n);
+    found(known.last + 1024);
+    found(known.last + 1025);
+    ask(&known.block, "withdraw,999999\n", 0, 24, 0, 0);
+}
+
+/* A live coupon is booked into one of its own minute. */
+static void spend(uint32_t n) {
+    char sheet[80];
+    uint32_t m = known.minute[n];
+    snprintf(sheet, sizeof sheet, "book,%u,0,%u,%u,0,0,1,1\nhold,%u\nax,0\n", m, m, m, n);
+    ask(&known.block, sheet, 1, ++known.last, 0, 0);
+    known.minute[n] = 0;
+    known.minute[known.last] = m;
+}
+
+/* Which coupon a hold and a withdrawal find: first, last, middle, withdrawn, spent, never given; with gaps before, at and
+ * after; with rows that are all in use, and that moved together; where a serial 1,024 higher was given since. */
+static void lookup(void) {
+    memset(&known, 0, sizeof known);
+    begin(&known.block);
+    ask(&known.block, "withdraw,1\n", 0, 24, 0, 0);
+    ask(&known.block, "word,a,1,7\n", 1, 0, 0, 0);
+    all_found();
+    while (known.last < 40) give();
+    all_found();
+    static const uint32_t LEAVE[] = {1, 40, 20, 20, 1, 40, 41, 2, 39, 19, 21};
+    for (size_t i = 0; i < sizeof LEAVE / sizeof *LEAVE; i++) {
+        leave(LEAVE[i]);
+        all_found();
+    }
+    spend(30);
+    leave(30);
+    spend(3);
+    spend(38);
+    leave(42);
+    all_found();
+    while (known.last < 512 + 11) give(); /* 512 are live, 11 have left */
+    for (uint32_t oldest = 1; known.last < 1600; oldest++) {
+        if (!known.minute[oldest] || oldest % 16 == 0) continue; /* every sixteenth stays, and its hint will lie */
+        if (known.last == 1024 || known.last == 1025) all_found();
+        leave(oldest);
+        give();
+    }
+    all_found();
+    leave(16);
+    spend(32);
+    leave(1024 + 48);
+    spend(1024 + 64);
+    leave(1024 + 16);
+    all_found();
+}
+
 /* Two tills, call by call. */
 static void two(void) {
     static struct Block one, other;
@@ -462,7 +547,8 @@ static const struct Group {
     void (*play)(void);
 } GROUPS[] = {{"calls", calls},   {"refusals", refusals}, {"lengths", lengths}, {"sessions", sessions},
               {"breaks", breaks}, {"houses", houses},     {"full", full},       {"serials", serials},
-              {"two", two},       {"bookings", bookings}, {"stack", stack},     {"texts", texts}};
+              {"lookup", lookup}, {"two", two},           {"bookings", bookings}, {"stack", stack},
+              {"texts", texts}};
 
 int main(int count, char **names) {
     if (count < 2) return 2;

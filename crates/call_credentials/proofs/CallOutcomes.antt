@@ -11,19 +11,18 @@ use Rattle.logic.specs.Interval.{reversed, broken}
 use Rattle.request.specs.declared.Kind.{Kind}
 use Rattle.request.specs.Range.{serial}
 use Rattle.request.specs.Request.{issue, withdraw, tally, intervals}
-use Rattle.ledger.specs.declared.Credential.{Credential}
 use Rattle.ledger.specs.declared.Answer.the-variants.{Accepted, Counted, Refused}
-use Rattle.ledger.specs.Ledger.{formula, withoutSerial, isNone}
+use Rattle.ledger.specs.Ledger.{formula, withoutSerial}
 use Rattle.ledger.specs.Checks.{Check, _if_, anyOf, maxLive, missing, unissuable, unissuableNumber, noRoom, usedUp}
 use Rattle.ledger.specs.Checks.{checks}
 use Rattle.ledger.specs.Calls.{openSeats, shutSeats, withLive, withCredential, accept}
 use Rattle.ledger.specs.Statements.{from-start, _▸_}
 use Rattle.ledger.proofs.Firsts.{if-false, if-true, no-intervals}
-use Rattle.store_lookup.specs.declared.Found.the-variants.{At, Nothing}
 use Rattle.store_cells.specs.Layout.{credentialAt}
-use Rattle.store_lookup.proofs.Halves.{found-serial}
 use Rattle.store.specs.Store.{ledgerOf, Good, StandsFor, Givable}
-use Rattle.store_lookup.specs.Lookup.{Finds}
+use Rattle.store_lookup.specs.declared.Place.the-variants.{At, Nothing}
+use Rattle.store_lookup.specs.Lookup.{LooksUp}
+use Rattle.store_lookup.proofs.Places.{its-serial, not-dead}
 use Rattle.formula_tally.specs.declared.Figures.{Figures}
 use Rattle.formula_tally.specs.Tally.{Tallied}
 use Rattle.call_checks.specs.declared.Verdict.{Verdict}
@@ -36,19 +35,19 @@ use Rattle.call_credentials.specs.Issue.{lastChecks, Past, Issuable}
 
 -- Withdraw
 
-pub withdraw-dead : (l : List ℕ) (n : ℕ) → Good l → Finds l n Nothing → Handled l (withdraw n) (Refused 24 0) l
+pub withdraw-dead : {l : List ℕ} {n : ℕ} → Good l → LooksUp l n Nothing → Handled l (withdraw n) (Refused 24 0) l
 unfolding checks intervals
-withdraw-dead l n g f =
-    refused g (no-intervals (ledgerOf l) (withdraw n) refl) (if-true 24 _ (sym (ap isNone (f .found))))
+withdraw-dead {l} {n} g h =
+    refused g (no-intervals (ledgerOf l) (withdraw n) refl) (if-true 24 _ (h .nothing .0 refl))
 
-pub withdraw-done : (l l′ : List ℕ) (n i : ℕ) (c : Credential) → Finds l n (At i c)
+pub withdraw-done : {l l′ : List ℕ} {n i : ℕ} → Good l → LooksUp l n (At i)
     → StandsFor l′ (withLive (ledgerOf l) (withoutSerial (ledgerOf l .live) (credentialAt l i .serial)))
     → Handled l (withdraw n) (Accepted n) l′
 unfolding checks intervals accept
-withdraw-done l l′ n i c f s =
+withdraw-done {l} {l′} {n} g h s =
     let t = ledgerOf l in
-    accepted (no-intervals t (withdraw n) refl ▸ if-false 24 _ (sym (ap isNone (f .found)))) refl tt
-    (subst (λ (k : ℕ). StandsFor l′ (withLive t (withoutSerial (t .live) k))) (found-serial l n f) s)
+    accepted (no-intervals t (withdraw n) refl ▸ if-false 24 _ (not-dead g h)) refl tt
+    (subst (λ (k : ℕ). StandsFor l′ (withLive t (withoutSerial (t .live) k))) (its-serial g h) s)
 
 -- Tally
 

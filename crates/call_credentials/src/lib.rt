@@ -5,7 +5,7 @@ use ledger::Answer;
 use logic::Interval;
 use request::Kind;
 use store::Store;
-use store_lookup::Found;
+use store_lookup::Place;
 ghost use Rattle.request.specs.Request.{issue as issueRequest, withdraw as withdrawRequest, tally as tallyRequest};
 ghost use Rattle.store.specs.Store.{Good};
 ghost use Rattle.call_contracts.specs.Called.{Handled};
@@ -53,13 +53,13 @@ pub fn issue(store: &mut Store, kind: Kind, formula: u32, interval: Interval) ->
     issue_checked(store, kind, formula, interval)
 }
 
-// Withdraw: 24.
+// Withdraw: 24. What leaves is not read.
 pub fn withdraw(store: &mut Store, serial: u32) -> Answer
     requires { ⌜ Good (now store) ⌝ }
     ensures { λ r. ⌜ Handled (now (store .entry)) (withdrawRequest serial) r (now (store .exit)) ⌝ }
 {
-    let found = store_lookup::find(store, serial);
-    let Found::At(at, c) = found else {
+    let found = store_lookup::locate(store, serial);
+    let Place::At(at) = found else {
         return Answer::Refused(24, 0);
     };
     store_credentials::withdraw(store, at);

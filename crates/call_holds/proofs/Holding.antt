@@ -1,7 +1,7 @@
 -- Holding: what holds before each hold is looked up, and after the last.
 use mathlib.Core.Path.{_≡_, refl, _∙_}
 use mathlib.Core.List.{List, [], _∷_, map}
-use mathlib.Core.Option.{none, some}
+use mathlib.Core.Option.{some}
 use mathlib.Core.Bool.{true}
 use Prim.Native.Nat.{ℕ, _+_, _≤_}
 use native.Mathlib.Omega.{arith}
@@ -39,7 +39,7 @@ module _ (t : Ledger) (ns table₀ : List ℕ) where
 
   module _ {k r d n : ℕ} {table : List ℕ} (h : Holding k r d n table) where
     module _ {m : ℕ} (e : drop k ns ≡ m ∷ drop (k + 1) ns) where
-      pub dead-hold : find (t .live) m ≡ none → anyOf (dead t) ns ≡ true
+      pub dead-hold : dead t m ≡ true → anyOf (dead t) ns ≡ true
       unfolding anyOf
       dead-hold q = h .alive ∙ rw (e, anyOf, q)
 

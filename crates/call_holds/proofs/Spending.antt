@@ -1,48 +1,56 @@
 -- Spending: what holds before each hold is spent, and after the last.
 use mathlib.Core.Path.{_≡_, refl, sym, ap, subst, _∙_}
 use mathlib.Core.List.{List, [], _∷_}
-use mathlib.Core.Bool.{false}
+use mathlib.Core.Bool.{true, false}
 use Prim.Native.Nat.{ℕ, _+_}
 use lib.ListN.{drop}
 use Rattle.logic.specs.Multiset.{Every}
+use Rattle.logic.proofs.Tests.{no-truth}
+use Rattle.request.specs.declared.Kind.{Kind}
 use Rattle.request.specs.declared.Kind.the-variants.{Linear, Unrestricted}
 use Rattle.ledger.specs.declared.Credential.{Credential}
-use Rattle.ledger.specs.Ledger.{Ledger, withoutSerial, held, spend}
+use Rattle.ledger.specs.Ledger.{Ledger, isKind, withoutSerial, held, spend}
 use Rattle.ledger.specs.Checks.{anyOf, dead, twice}
 use Rattle.ledger.specs.Calls.{withLive}
 use Rattle.ledger.proofs.Credentials.{Alive, Apart, any-none, twice-apart, spend-first, alive-after}
-use Rattle.store_lookup.specs.declared.Found.{Found}
-use Rattle.store_lookup.specs.declared.Found.the-variants.{At, Nothing}
 use Rattle.store_cells.specs.Layout.{credentialAt}
 use Rattle.store.specs.Store.{ledgerOf, Good, StandsFor}
-use Rattle.store_lookup.specs.Lookup.{Finds}
+use Rattle.store_lookup.specs.declared.Place.the-variants.{At, Nothing}
+use Rattle.store_lookup.specs.Lookup.{LooksUp}
+use Rattle.store_lookup.proofs.Places.{none-found, one-found}
 use Rattle.call_holds.specs.Holds.{spent}
 
 -- One hold
 
--- what was found, by the match on it
-pub found-as : {l : List ℕ} {n : ℕ} {x y : Found} → Finds l n x → x ≡ y → Finds l n y
-found-as {l} {n} h e = subst (Finds l n) e h
+-- its kind, by the test of it
+is-linear : (k : Kind) → isKind Linear k ≡ true → k ≡ Linear
+is-linear Linear e = refl
+is-linear Unrestricted e = absurd (no-truth e)
 
-module _ (l : List ℕ) (n : ℕ) (g : Good l) where
-  pub spent-nothing : Finds l n Nothing → StandsFor l (withLive (ledgerOf l) (spent (ledgerOf l .live) n))
+not-linear : (k : Kind) → isKind Linear k ≡ false → k ≡ Unrestricted
+not-linear Linear e = absurd (no-truth (sym e))
+not-linear Unrestricted e = refl
+
+module _ {l : List ℕ} {n : ℕ} (g : Good l) where
+  pub spent-nothing : LooksUp l n Nothing → StandsFor l (withLive (ledgerOf l) (spent (ledgerOf l .live) n))
   unfolding held spend
-  spent-nothing f = record { good = g; ledger = rw (← f .found, held, spend) }
+  spent-nothing h = record { good = g; ledger = rw (none-found g h, held, spend) }
 
-  module _ {i : ℕ} {c : Credential} (f : Finds l n (At i c)) where
-    pub spent-unrestricted : c .kind ≡ Unrestricted
+  module _ {i : ℕ} (h : LooksUp l n (At i)) where
+    pub spent-unrestricted : isKind Linear (credentialAt l i .kind) ≡ false
         → StandsFor l (withLive (ledgerOf l) (spent (ledgerOf l .live) n))
     unfolding held spend
-    spent-unrestricted e = record { good = g; ledger = rw (← f .found, held, spend, e) }
+    spent-unrestricted e =
+        record { good = g; ledger = rw (one-found g h, held, spend, not-linear (credentialAt l i .kind) e) }
 
-    pub spent-linear : c .kind ≡ Linear → {l′ : List ℕ}
+    pub spent-linear : isKind Linear (credentialAt l i .kind) ≡ true → {l′ : List ℕ}
         → StandsFor l′ (withLive (ledgerOf l) (withoutSerial (ledgerOf l .live) (credentialAt l i .serial)))
         → StandsFor l′ (withLive (ledgerOf l) (spent (ledgerOf l .live) n))
     unfolding held spend
     spent-linear e {l′} s =
-        subst (λ (cs : List Credential). StandsFor l′ (withLive (ledgerOf l) cs))
-        (rw (← f .found, held, spend, e)
-        (ap (λ (d : Credential). withoutSerial (ledgerOf l .live) (d .serial)) (f .placed .1))) s
+        let taken : spent (ledgerOf l .live) n ≡ withoutSerial (ledgerOf l .live) (credentialAt l i .serial) =
+        rw (one-found g h, held, spend, is-linear (credentialAt l i .kind) e) in
+        subst (λ (cs : List Credential). StandsFor l′ (withLive (ledgerOf l) cs)) (sym taken) s
 
 -- All of them
 

@@ -6,7 +6,7 @@ use step_rows::Serials;
 use step_rows::label_rows::put_label;
 use steps::Hypothesis;
 use store::Store;
-use store_lookup::Found;
+use store_lookup::Place;
 ghost use mathlib.Core.Path.{_≡_};
 ghost use Prim.Native.Nat.{_≤_, _<_};
 ghost use lib.Dec.{eqb};
@@ -75,7 +75,7 @@ fn hypothesis(c: Credential) -> Hypothesis
     }
 }
 
-// 24 for all holds: their credentials take labels 0, 1, .. in order.
+// 24 for all holds: their credentials take labels 0, 1, .. in order. The one found is copied, once.
 pub fn hold_all(store: &Store, serials: &Serials, count: u32, table: &mut LabelRows) -> Held
     requires { ⌜ Good (now store) × Serials (now serials) count ⌝ }
     ensures { λ r. ⌜ HeldIs (ledgerOf (now (store .entry))) (take count (now (serials .entry))) (now (table .entry)) r
@@ -86,10 +86,11 @@ pub fn hold_all(store: &Store, serials: &Serials, count: u32, table: &mut LabelR
     let mut linears: u32 = 0;
     let mut k: u32 = 0;
     while k < count {
-        let found = store_lookup::find(store, serials[k as usize]);
-        let Found::At(_, c) = found else {
+        let found = store_lookup::locate(store, serials[k as usize]);
+        let Place::At(at) = found else {
             return Held::Dead;
         };
+        let c = store::credential_at(store, at);
         let kind = c.kind;
         put_label(table, k, hypothesis(c));
         unrestricted = unrestricted_with(unrestricted, k, kind);
@@ -134,20 +135,18 @@ pub fn twice(serials: &Serials, count: u32) -> bool
     false
 }
 
-// A hold leaves if it is linear.
+// A hold leaves if it is linear: of the one found only the kind is read.
 fn spend_one(store: &mut Store, serial: u32)
     requires { ⌜ Good (now store) ⌝ }
     ensures { λ _. ⌜ StandsFor (now (store .exit)) (withLive (ledgerOf (now (store .entry)))
         (spent (ledgerOf (now (store .entry)) .live) serial)) ⌝ }
 {
-    let found = store_lookup::find(store, serial);
-    let Found::At(at, c) = found else {
+    let found = store_lookup::locate(store, serial);
+    let Place::At(at) = found else {
         return;
     };
-    let kind = c.kind;
-    match kind {
-        Kind::Linear => store_credentials::remove(store, at),
-        Kind::Unrestricted => {}
+    if store::linear_at(store, at) {
+        store_credentials::remove(store, at);
     }
 }
 

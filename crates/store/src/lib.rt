@@ -12,9 +12,10 @@ ghost use Prim.Native.Nat.{_<_};
 ghost use lib.ListN.{length};
 ghost use Rattle.logic.specs.Formula.{size, plain};
 ghost use Rattle.logic.specs.Counts.{balanced};
+ghost use Rattle.request.specs.declared.Kind.the-variants.{Linear};
 ghost use Rattle.request.specs.Request.{Line};
 ghost use Rattle.ledger.specs.Table.{rowOf};
-ghost use Rattle.ledger.specs.Ledger.{empty, formula};
+ghost use Rattle.ledger.specs.Ledger.{empty, formula, isKind};
 ghost use Rattle.store_cells.specs.Layout.{rowCount, rowAt, credentialAt};
 ghost use Rattle.store.specs.Store.{ledgerOf, Good, StandsFor};
 
@@ -118,4 +119,12 @@ pub fn credential_at(store: &Store, i: u32) -> Credential
     ensures { λ r. ⌜ r ≡ credentialAt (now (store .entry)) i ⌝ }
 {
     credentials::credential(store, i)
+}
+
+// Whether the credential of a row is linear (document 01: single-use), by its kind alone.
+pub fn linear_at(store: &Store, i: u32) -> bool
+    requires { ⌜ Good (now store) × (i < rowCount (now store)) ⌝ }
+    ensures { λ r. ⌜ r ≡ isKind Linear (credentialAt (now (store .entry)) i .kind) ⌝ }
+{
+    credentials::linear(store, i)
 }

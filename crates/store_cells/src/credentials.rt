@@ -9,17 +9,23 @@ use logic::Interval;
 use request::Kind;
 ghost use mathlib.Core.Path.{_≡_};
 ghost use Prim.Native.Nat.{_<_};
+ghost use Rattle.request.specs.declared.Kind.the-variants.{Linear};
+ghost use Rattle.ledger.specs.Ledger.{isKind};
 ghost use Rattle.store_cells.specs.Layout.{maxRows};
 ghost use Rattle.store_cells.specs.Layout.{kindFrom, kindNumber, credentialAt, gapAt, putCredential, putGap};
 ghost use Rattle.store_cells.specs.Layout.{hintAt, putHint};
 
-// the kind of a credential that has left
+// how a kind is kept: linear, unrestricted, that of a credential that has left
+const LINEAR: u32 = 0;
+
+const UNRESTRICTED: u32 = 1;
+
 const GAP: u32 = 2;
 
 fn kind_from(n: u32) -> Kind
     ensures { λ r. ⌜ r ≡ kindFrom n ⌝ }
 {
-    if n == 0 {
+    if n == LINEAR {
         Kind::Linear
     } else {
         Kind::Unrestricted
@@ -30,8 +36,8 @@ fn kind_number(k: Kind) -> u32
     ensures { λ r. ⌜ r ≡ kindNumber k ⌝ }
 {
     match k {
-        Kind::Linear => 0,
-        Kind::Unrestricted => 1,
+        Kind::Linear => LINEAR,
+        Kind::Unrestricted => UNRESTRICTED,
     }
 }
 
@@ -66,6 +72,14 @@ pub fn gap(store: &Store, i: u32) -> bool
     ensures { λ r. ⌜ r ≡ gapAt (now (store .entry)) i ⌝ }
 {
     store[CREDENTIALS + (i as usize) * CREDENTIAL_WIDTH + 1] == GAP
+}
+
+// Whether the credential of a row is linear: one number is read.
+pub fn linear(store: &Store, i: u32) -> bool
+    requires { ⌜ i < maxRows ⌝ }
+    ensures { λ r. ⌜ r ≡ isKind Linear (credentialAt (now (store .entry)) i .kind) ⌝ }
+{
+    store[CREDENTIALS + (i as usize) * CREDENTIAL_WIDTH + 1] == LINEAR
 }
 
 pub fn put_gap(store: &mut Store, i: u32)

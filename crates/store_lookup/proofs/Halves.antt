@@ -1,23 +1,11 @@
--- A search by halves, and what a row that is found says.
-use mathlib.Core.Path.{_≡_, refl, sym, ap, subst, _∙_}
+-- A search by halves: what is left after each look.
+use mathlib.Core.Path.{_≡_}
 use mathlib.Core.List.{List}
-use mathlib.Core.Option.{none, some}
-use mathlib.Core.Bool.{Bool, true, false}
 use Prim.Native.Nat.{ℕ, _+_, _≤_, _<_}
 use native.Mathlib.Omega.{arith}
 use native.Mathlib.Decide.{decLt}
-use Rattle.logic.specs.Choice.{pick}
-use Rattle.ledger.specs.declared.Credential.{Credential}
-use Rattle.ledger.specs.Ledger.{find}
-use Rattle.ledger.proofs.Credentials.{take-out}
-use Rattle.store_cells.specs.Layout.{rowCount, credentialAt, gapAt, entryAt}
-use Rattle.store_cells.proofs.CredentialRows.{entry-there}
-use Rattle.store.specs.Store.{ledgerOf, Good}
-use Rattle.store.proofs.Search.{find-none, find-row}
-use Rattle.store.proofs.Views.{only-here}
-use Rattle.store_lookup.specs.declared.Found.{Found}
-use Rattle.store_lookup.specs.declared.Found.the-variants.{At, Nothing}
-use Rattle.store_lookup.specs.Lookup.{foundAt, Finds}
+use Rattle.store_cells.specs.Layout.{rowCount, credentialAt}
+use Rattle.store.specs.Store.{Good}
 
 module _ (l : List ℕ) where
   -- A search by halves: serials before row `low` are smaller, those from `high` on are larger.
@@ -57,29 +45,10 @@ module _ (l : List ℕ) where
           above k z y (yes x) = omega (arith, g .ordered .between i k x y)
           above k z y (no x) = let w : k ≡ i = omega arith in rw w e
 
-      pub found-nothing : high ≤ low → Finds l s Nothing
-      unfolding ledgerOf entryAt
-      found-nothing z = record {
-        found = sym (find-none s (rowCount l) (credentialAt l) (gapAt l) (λ k q e. apart k q e (decLt k low)));
-        placed = tt;
-      }
+      -- nothing is left: no row has the serial
+      pub none-left : high ≤ low → (k : ℕ) → k < rowCount l → credentialAt l k .serial ≡ s → ⊥
+      none-left z k q e = go (decLt k low)
         where
-          apart : (k : ℕ) → k < rowCount l → credentialAt l k .serial ≡ s → Dec (k < low) → ⊥
-          apart k q e (yes y) = omega (arith, h .smaller k y)
-          apart k q e (no y) = omega (arith, h .larger k (omega arith) q)
-
-    pub found-row : (i : ℕ) {r : Found} → r ≡ foundAt l i → i < rowCount l → credentialAt l i .serial ≡ s → Finds l s r
-    unfolding foundAt ledgerOf entryAt
-    found-row i e q n =
-        subst (Finds l s) (sym e) (go (gapAt l i) refl (find-row s (rowCount l) (credentialAt l) (gapAt l) i q
-        (only-here l g s i q n)))
-      where
-        go : (b : Bool) → gapAt l i ≡ b → find (ledgerOf l .live) s ≡ pick b none (some (credentialAt l i))
-            → Finds l s (pick b Nothing (At i (credentialAt l i)))
-        go true e f = record { found = sym f; placed = tt }
-        go false e f = record { found = sym f; placed = ((q, entry-there l i e), refl) }
-
-  -- it is the credential of that serial that stands at the place found
-  pub found-serial : (s : ℕ) {i : ℕ} {c : Credential} → Finds l s (At i c) → credentialAt l i .serial ≡ s
-  found-serial s h =
-      ap (λ (d : Credential). d .serial) (h .placed .1) ∙ take-out (ledgerOf l .live) s (sym (h .found)) .0
+          go : Dec (k < low) → ⊥
+          go (yes y) = omega (arith, h .smaller k y)
+          go (no y) = omega (arith, h .larger k (omega arith) q)

@@ -1,29 +1,17 @@
--- What a lookup by serial answers.
+-- What the look-up of a serial answers.
 use mathlib.Core.Path.{_≡_}
 use mathlib.Core.List.{List}
-use mathlib.Core.Option.{Option, none, some}
+use mathlib.Core.Bool.{true}
+use mathlib.Core.Logic.{_↔_}
 use Prim.Native.Nat.{ℕ}
-use Rattle.logic.specs.Choice.{pick}
-use Rattle.ledger.specs.declared.Credential.{Credential}
-use Rattle.ledger.specs.Ledger.{find}
-use Rattle.store_cells.specs.Layout.{credentialAt, gapAt}
+use Rattle.ledger.specs.Checks.{dead}
+use Rattle.store_cells.specs.Layout.{credentialAt}
 use Rattle.store.specs.Store.{ledgerOf, Occupied}
-use Rattle.store_lookup.specs.declared.Found.{Found}
-use Rattle.store_lookup.specs.declared.Found.the-variants.{At, Nothing}
+use Rattle.store_lookup.specs.declared.Place.{Place}
+use Rattle.store_lookup.specs.declared.Place.the-variants.{At, Nothing}
 
--- what is found in row i
-unfoldable pub foundAt : List ℕ → ℕ → Found
-foundAt l i = pick (gapAt l i) Nothing (At i (credentialAt l i))
-
--- the credential of an answer of `find`, and where it stands
-abbrev pub credentialOf : Found → Option Credential
-credentialOf (At i c) = some c
-credentialOf Nothing = none
-
-abbrev pub Placed : List ℕ → Found → Type 0
-Placed l (At i c) = Occupied l i × (credentialAt l i ≡ c)
-Placed l Nothing = Unit {0}
-
-pub record Finds (l : List ℕ) (n : ℕ) (r : Found) : Type 0 where
-  pub found : credentialOf r ≡ find (ledgerOf l .live) n
-  pub placed : Placed l r
+-- Document 02, ask 6: "It answers where the live coupon with that serial is, or nothing exactly if none is live". It
+-- answers row i exactly if a live credential stands there and has the serial n; so no other row has it.
+pub record LooksUp (l : List ℕ) (n : ℕ) (r : Place) : Type 0 where
+  pub nothing : (r ≡ Nothing) ↔ (dead (ledgerOf l) n ≡ true)
+  pub place : (i : ℕ) → (r ≡ At i) ↔ (Occupied l i × (credentialAt l i .serial ≡ n))

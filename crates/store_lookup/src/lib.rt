@@ -1,35 +1,20 @@
-// Looking up a live credential by its serial.
-use ledger::Credential;
+// Looking up a live credential by its serial: where it stands. Serials are compared and nothing is copied.
 use store::Store;
 use store_cells::credentials;
 use store_cells::head;
-ghost use mathlib.Core.Path.{_≡_};
-ghost use Prim.Native.Nat.{_<_};
-ghost use Rattle.store_cells.specs.Layout.{maxRows};
 ghost use Rattle.store.specs.Store.{Good};
-ghost use Rattle.store_lookup.specs.Lookup.{foundAt, Finds};
+ghost use Rattle.store_lookup.specs.Lookup.{LooksUp};
 
-// What `find` answers: where a live credential (document 01: a coupon) stands, and the credential.
-pub enum Found {
-    At(u32, Credential),
+// Where the live credential (document 01: a coupon) of a serial stands, by its row.
+pub enum Place {
+    At(u32),
     Nothing,
 }
 
-// What is found in a row: nothing in a gap.
-fn found_at(store: &Store, i: u32) -> Found
-    requires { ⌜ i < maxRows ⌝ }
-    ensures { λ r. ⌜ r ≡ foundAt (now (store .entry)) i ⌝ }
-{
-    if credentials::gap(store, i) {
-        return Found::Nothing;
-    }
-    Found::At(i, credentials::credential(store, i))
-}
-
-// The live credential of a serial: serials rise, so half of what is left goes with each look.
-fn find_by_halves(store: &Store, serial: u32) -> Found
+// The search: serials rise over the gaps too, so half of what is left goes with each look.
+fn by_halves(store: &Store, serial: u32) -> Place
     requires { ⌜ Good (now store) ⌝ }
-    ensures { λ r. ⌜ Finds (now (store .entry)) serial r ⌝ }
+    ensures { λ r. ⌜ LooksUp (now (store .entry)) serial r ⌝ }
 {
     let mut low = 0;
     let mut high = head::row_count(store);
@@ -37,7 +22,10 @@ fn find_by_halves(store: &Store, serial: u32) -> Found
         let middle = (low + high) / 2;
         let seen = credentials::serial(store, middle);
         if seen == serial {
-            return found_at(store, middle);
+            if credentials::gap(store, middle) {
+                return Place::Nothing;
+            }
+            return Place::At(middle);
         }
         if seen < serial {
             low = middle + 1;
@@ -45,19 +33,21 @@ fn find_by_halves(store: &Store, serial: u32) -> Found
             high = middle;
         }
     }
-    Found::Nothing
+    Place::Nothing
 }
 
-// The live credential of a serial: where the hint says, or else by halves.
-pub fn find(store: &Store, serial: u32) -> Found
+// The one look-up: where the hint says, if it stands there, or else by halves.
+pub fn locate(store: &Store, serial: u32) -> Place
     requires { ⌜ Good (now store) ⌝ }
-    ensures { λ r. ⌜ Finds (now (store .entry)) serial r ⌝ }
+    ensures { λ r. ⌜ LooksUp (now (store .entry)) serial r ⌝ }
 {
     let i = credentials::hint(store, serial);
     if i < head::row_count(store) {
         if credentials::serial(store, i) == serial {
-            return found_at(store, i);
+            if !credentials::gap(store, i) {
+                return Place::At(i);
+            }
         }
     }
-    find_by_halves(store, serial)
+    by_halves(store, serial)
 }

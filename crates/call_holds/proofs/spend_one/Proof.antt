@@ -1,33 +1,44 @@
 -- `spend_one` meets its contract.
+use mathlib.Core.Path.{sym, _∙_}
 use borrow.Author.Needs.{needs}
-use Rattle.call_holds.proofs.Spending.{found-as, spent-nothing, spent-linear, spent-unrestricted}
+use Rattle.store_lookup.proofs.Places.{looked-up-as, occupied}
+use Rattle.call_holds.proofs.Spending.{spent-nothing, spent-linear, spent-unrestricted}
 use Rattle.call_holds.proofs.spend_one.Statement.{statement}
 use Rattle.call_holds.proofs.spend_one.Tie as tie
 
 returns : tie.Need-returns
 returns c =
-    let find = c .before .before in
-    spent-nothing _ _ (find .before .before .pre) (found-as (find .find .ensures) (c .enum-told .given .1))
+    let look = c .before .before in
+    spent-nothing (look .before .before .pre) (looked-up-as (look .locate .ensures) (c .enum-told .given .1))
+
+linear-at-requires : tie.Need-linear-at-requires
+linear-at-requires c κs =
+    let found = c .before .before in
+    let look = found .before .before in
+    let g = look .before .before .pre in
+    (g, occupied g (looked-up-as (look .locate .ensures) (found .found .given .1)) .0)
 
 remove-requires : tie.Need-remove-requires
 remove-requires c κs =
-    let read = c .before .before .before .before in
-    let find = read .before .before in
-    (find .before .before .pre, found-as (find .find .ensures) (read .found .given .1) .placed .0)
+    let found = c .before .before .before .before .before in
+    let look = found .before .before in
+    let g = look .before .before .pre in
+    (g, occupied g (looked-up-as (look .locate .ensures) (found .found .given .1)))
 
 returns-2 : tie.Need-returns-2
 returns-2 c =
-    let read = c .before .before .before .before .before in
-    let find = read .before .before in
-    spent-linear _ _ (find .before .before .pre) (found-as (find .find .ensures) (read .found .given .1))
-    (c .before .before .enum-told2 .given .1) (c .remove .ensures)
+    let test = c .before .before in
+    let found = test .before .before .before .before in
+    let look = found .before .before in
+    spent-linear (look .before .before .pre) (looked-up-as (look .locate .ensures) (found .found .given .1))
+    (sym (test .before .linear-at .ensures) ∙ test .if1 .taken) (c .remove .ensures)
 
 returns-3 : tie.Need-returns-3
 returns-3 c =
-    let read = c .before .before .before in
-    let find = read .before .before in
-    spent-unrestricted _ _ (find .before .before .pre) (found-as (find .find .ensures) (read .found .given .1))
-    (c .enum-told3 .given .1)
+    let found = c .before .before .before .before in
+    let look = found .before .before in
+    spent-unrestricted (look .before .before .pre) (looked-up-as (look .locate .ensures) (found .found .given .1))
+    (sym (c .before .linear-at .ensures) ∙ c .if1 .left)
 
 pub spend-one-spec : {M : Type 1} → statement M
 spend-one-spec =
@@ -37,8 +48,7 @@ spend-one-spec =
     (λ c. search needs)
     (λ c. search needs)
     returns
-    (λ c. search needs)
+    linear-at-requires
     remove-requires
-    (λ c. search needs)
     returns-2
     returns-3)

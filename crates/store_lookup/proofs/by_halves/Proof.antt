@@ -1,11 +1,12 @@
--- `find_by_halves` meets its contract. The loop: serials before `low` are smaller, those from `high` on are larger.
+-- `by_halves` meets its contract. The loop: serials before `low` are smaller, those from `high` on are larger.
 use Prim.Native.Nat.{_-_}
 use borrow.Author.Needs.{needs}
 use native.Mathlib.Omega.{arith}
 use mathlib.Core.Path.{sym, _∙_}
-use Rattle.store_lookup.proofs.Halves.{Halving, first-half, upper-half, lower-half, found-row, found-nothing}
-use Rattle.store_lookup.proofs.find_by_halves.Statement.{statement}
-use Rattle.store_lookup.proofs.find_by_halves.Tie as tie
+use Rattle.store_lookup.proofs.Halves.{Halving, first-half, upper-half, lower-half, none-left}
+use Rattle.store_lookup.proofs.Places.{nowhere, has-left, stands}
+use Rattle.store_lookup.proofs.by_halves.Statement.{statement}
+use Rattle.store_lookup.proofs.by_halves.Tie as tie
 
 abbrev Inv-loop : tie.InvT-loop
 Inv-loop store serial low₀ high₀ low high = Halving store serial low high
@@ -26,20 +27,27 @@ serial-requires c κs =
     let at = c .before in
     omega (arith, c .loop-test .taken, at .loop .inv .ends .1, at .before .before .pre .ordered .few)
 
-found-at-requires : tie.Need-found-at-requires Inv-loop μ-loop
-found-at-requires c κs =
+gap-requires : tie.Need-gap-requires Inv-loop μ-loop
+gap-requires c κs =
     let turn = c .before .before in
     let at = turn .before in
     omega (arith, turn .loop-test .taken, at .loop .inv .ends .1, at .before .before .pre .ordered .few)
 
 returns : tie.Need-returns Inv-loop μ-loop
 returns c =
-    let look = c .before .before in
-    let turn = look .before in
+    let same = c .before .before in
+    let turn = same .before .before in
     let at = turn .before in
-    found-row _ (at .before .before .pre) _ _ (c .found-at .ensures)
-    (omega (arith, turn .loop-test .taken, at .loop .inv .ends .1))
-    (sym (look .serial .ensures) ∙ c .before .if1 .taken)
+    has-left (at .before .before .pre) (omega (arith, turn .loop-test .taken, at .loop .inv .ends .1))
+    (sym (same .before .serial .ensures) ∙ same .if1 .taken) (sym (c .before .gap .ensures) ∙ c .if2 .taken)
+
+returns-2 : tie.Need-returns-2 Inv-loop μ-loop
+returns-2 c =
+    let same = c .before .before in
+    let turn = same .before .before in
+    let at = turn .before in
+    stands (at .before .before .pre) (omega (arith, turn .loop-test .taken, at .loop .inv .ends .1))
+    (sym (same .before .serial .ensures) ∙ same .if1 .taken) (sym (c .before .gap .ensures) ∙ c .if2 .left)
 
 loop-again : tie.Need-loop-again Inv-loop μ-loop
 loop-again c =
@@ -47,7 +55,7 @@ loop-again c =
     let turn = look .before in
     let at = turn .before in
     upper-half _ (at .before .before .pre) _ (at .loop .inv) _ (omega (arith, turn .loop-test .taken))
-    (omega (arith, turn .loop-test .taken)) (omega (arith, look .serial .ensures, c .if2 .taken))
+    (omega (arith, turn .loop-test .taken)) (omega (arith, look .serial .ensures, c .if3 .taken))
 
 loop-again-2 : tie.Need-loop-again-2 Inv-loop μ-loop
 loop-again-2 c =
@@ -56,15 +64,16 @@ loop-again-2 c =
     let at = turn .before in
     lower-half _ (at .before .before .pre) _ (at .loop .inv) _ (omega (arith, turn .loop-test .taken))
     (omega (arith, turn .loop-test .taken))
-    (omega (arith, look .serial .ensures, c .before .if1 .left, c .if2 .left))
+    (omega (arith, look .serial .ensures, c .before .if1 .left, c .if3 .left))
 
-returns-2 : tie.Need-returns-2 Inv-loop μ-loop
-returns-2 c =
+returns-3 : tie.Need-returns-3 Inv-loop μ-loop
+returns-3 c =
     let at = c .before in
-    found-nothing _ (at .before .before .pre) _ (at .loop .inv) (c .loop-test .left)
+    nowhere (at .before .before .pre)
+    (none-left _ (at .before .before .pre) _ (at .loop .inv) (c .loop-test .left))
 
-pub find-by-halves-spec : {M : Type 1} → statement M
-find-by-halves-spec =
+pub by-halves-spec : {M : Type 1} → statement M
+by-halves-spec =
     tie.close
     (tie.spec
     Inv-loop
@@ -73,11 +82,12 @@ find-by-halves-spec =
     loop-holds
     add-middle
     serial-requires
-    found-at-requires
+    gap-requires
     returns
+    returns-2
     (λ c. search needs)
     (λ c. search needs)
     loop-again
     (λ c. search needs)
     loop-again-2
-    returns-2)
+    returns-3)
