@@ -22,15 +22,15 @@ pub fn interval(s: &[u8], at: u32, stop: u8) -> Span
     requires { ⌜ (length (now s) ≤ maxReach) × Stop stop ⌝ }
     ensures { λ r. ⌜ spanOf (now (s .entry)) r ≡ intervalTo stop (drop at (now (s .entry))) ⌝ }
 {
-    let f = number(s, at, 0, ranges::MINUTE_LAST, 44);
+    let f = number(s, at, 0, ranges::MINUTE_LAST, b',');
     let Decimal::Number(from, i) = f else {
         return Span::Broken;
     };
-    let g = number(s, i, 0, ranges::MINUTE_LAST, 44);
+    let g = number(s, i, 0, ranges::MINUTE_LAST, b',');
     let Decimal::Number(to, j) = g else {
         return Span::Broken;
     };
-    let h = number(s, j, 0, ranges::MINUTE_LAST, 44);
+    let h = number(s, j, 0, ranges::MINUTE_LAST, b',');
     let Decimal::Number(first, k) = h else {
         return Span::Broken;
     };
@@ -67,7 +67,7 @@ fn one_field(s: &[u8], at: u32, letter: u32) -> FormulaLine
     requires { ⌜ length (now s) ≤ maxReach ⌝ }
     ensures { λ r. ⌜ formulaOf (now (s .entry)) r ≡ oneField letter (drop at (now (s .entry))) ⌝ }
 {
-    let f = number(s, at, 0, ranges::FORMULA_LAST, 10);
+    let f = number(s, at, 0, ranges::FORMULA_LAST, b'\n');
     let Decimal::Number(a, i) = f else {
         return FormulaLine::Broken;
     };
@@ -78,11 +78,11 @@ fn two_fields(s: &[u8], at: u32, letter: u32, m: u32, n: u32) -> FormulaLine
     requires { ⌜ TwoAsked (now s) m n ⌝ }
     ensures { λ r. ⌜ formulaOf (now (s .entry)) r ≡ twoFields letter m n (drop at (now (s .entry))) ⌝ }
 {
-    let f = number(s, at, 0, m, 44);
+    let f = number(s, at, 0, m, b',');
     let Decimal::Number(a, i) = f else {
         return FormulaLine::Broken;
     };
-    let g = number(s, i, 0, n, 10);
+    let g = number(s, i, 0, n, b'\n');
     let Decimal::Number(b, j) = g else {
         return FormulaLine::Broken;
     };
@@ -93,11 +93,11 @@ fn at_fields(s: &[u8], at: u32, letter: u32) -> FormulaLine
     requires { ⌜ length (now s) ≤ maxReach ⌝ }
     ensures { λ r. ⌜ formulaOf (now (s .entry)) r ≡ atFields letter (drop at (now (s .entry))) ⌝ }
 {
-    let f = number(s, at, 0, ranges::FORMULA_LAST, 44);
+    let f = number(s, at, 0, ranges::FORMULA_LAST, b',');
     let Decimal::Number(a, i) = f else {
         return FormulaLine::Broken;
     };
-    let g = interval(s, i, 10);
+    let g = interval(s, i, b'\n');
     let Span::Minutes(w, j) = g else {
         return FormulaLine::Broken;
     };
@@ -117,11 +117,11 @@ fn superset_fields(s: &[u8], at: u32, letter: u32) -> FormulaLine
     requires { ⌜ length (now s) ≤ maxReach ⌝ }
     ensures { λ r. ⌜ formulaOf (now (s .entry)) r ≡ supersetFields letter (drop at (now (s .entry))) ⌝ }
 {
-    let f = interval(s, at, 44);
+    let f = interval(s, at, b',');
     let Span::Minutes(v, i) = f else {
         return FormulaLine::Broken;
     };
-    let g = interval(s, i, 10);
+    let g = interval(s, i, b'\n');
     let Span::Minutes(w, j) = g else {
         return FormulaLine::Broken;
     };
@@ -151,12 +151,12 @@ pub fn formula_line(s: &[u8], at: u32) -> FormulaLine
     let x = letter as u32;
     let j = at + 2;
     if x == letters::ONE {
-        if stop == 10 {
+        if stop == b'\n' {
             return FormulaLine::Formula(lettered(letters::ONE, 0, 0), j);
         }
         return FormulaLine::Broken;
     }
-    if stop != 44 {
+    if stop != b',' {
         return FormulaLine::Broken;
     }
     match x {

@@ -39,11 +39,11 @@ fn issued(s: &[u8], at: u32, k: Kind) -> FirstRead
     requires { ⌜ length (now s) ≤ maxBytes ⌝ }
     ensures { λ r. ⌜ FirstIs (requestFrom (readLine (issueFields k) (drop at (now (s .entry))))) (now (s .entry)) r ⌝ }
 {
-    let f = number(s, at, 0, ranges::FORMULA_LAST, 44);
+    let f = number(s, at, 0, ranges::FORMULA_LAST, b',');
     let Decimal::Number(n, i) = f else {
         return FirstRead::Broken;
     };
-    let g = interval(s, i, 10);
+    let g = interval(s, i, b'\n');
     let Span::Minutes(w, j) = g else {
         return FirstRead::Broken;
     };
@@ -74,7 +74,7 @@ fn withdraw(s: &[u8], at: u32) -> FirstRead
     requires { ⌜ length (now s) ≤ maxBytes ⌝ }
     ensures { λ r. ⌜ FirstAfter "withdraw" (now (s .entry)) at r ⌝ }
 {
-    let f = number(s, at, ranges::SERIAL_FIRST, ranges::SERIAL_LAST, 10);
+    let f = number(s, at, ranges::SERIAL_FIRST, ranges::SERIAL_LAST, b'\n');
     let Decimal::Number(n, i) = f else {
         return FirstRead::Broken;
     };
@@ -89,11 +89,11 @@ fn tally(s: &[u8], at: u32) -> FirstRead
     requires { ⌜ length (now s) ≤ maxBytes ⌝ }
     ensures { λ r. ⌜ FirstAfter "tally" (now (s .entry)) at r ⌝ }
 {
-    let f = number(s, at, 0, ranges::SESSION_LAST, 44);
+    let f = number(s, at, 0, ranges::SESSION_LAST, b',');
     let Decimal::Number(a, i) = f else {
         return FirstRead::Broken;
     };
-    let g = number(s, i, 0, ranges::MINUTE_LAST, 10);
+    let g = number(s, i, 0, ranges::MINUTE_LAST, b'\n');
     let Decimal::Number(m, j) = g else {
         return FirstRead::Broken;
     };
@@ -108,23 +108,23 @@ fn book(s: &[u8], at: u32) -> FirstRead
     requires { ⌜ length (now s) ≤ maxBytes ⌝ }
     ensures { λ r. ⌜ FirstAfter "book" (now (s .entry)) at r ⌝ }
 {
-    let a = number(s, at, 0, ranges::MINUTE_LAST, 44);
+    let a = number(s, at, 0, ranges::MINUTE_LAST, b',');
     let Decimal::Number(now, i) = a else {
         return FirstRead::Broken;
     };
-    let b = number(s, i, 0, ranges::FORMULA_LAST, 44);
+    let b = number(s, i, 0, ranges::FORMULA_LAST, b',');
     let Decimal::Number(formula, j) = b else {
         return FirstRead::Broken;
     };
-    let c = interval(s, j, 44);
+    let c = interval(s, j, b',');
     let Span::Minutes(interval, k) = c else {
         return FirstRead::Broken;
     };
-    let d = number(s, k, 0, ranges::HOLDS_LAST, 44);
+    let d = number(s, k, 0, ranges::HOLDS_LAST, b',');
     let Decimal::Number(holds, l) = d else {
         return FirstRead::Broken;
     };
-    let e = number(s, l, ranges::STEPS_FIRST, ranges::STEPS_LAST, 10);
+    let e = number(s, l, ranges::STEPS_FIRST, ranges::STEPS_LAST, b'\n');
     let Decimal::Number(steps, next) = e else {
         return FirstRead::Broken;
     };

@@ -22,7 +22,7 @@ pub fn read_hold(s: &[u8], at: u32) -> HoldLine
     let Prefix::Past(i) = p else {
         return HoldLine::Broken;
     };
-    let f = number(s, i, ranges::SERIAL_FIRST, ranges::SERIAL_LAST, 10);
+    let f = number(s, i, ranges::SERIAL_FIRST, ranges::SERIAL_LAST, b'\n');
     let Decimal::Number(n, j) = f else {
         return HoldLine::Broken;
     };

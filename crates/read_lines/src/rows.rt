@@ -10,6 +10,7 @@ use read_formulas::formulas::interval;
 use request::ranges;
 use step_rows::StepRow;
 use step_rows::lines::HALF;
+use step_rows::ops;
 ghost use mathlib.Core.Path.{_≡_};
 ghost use mathlib.Core.List.{[], _∷_};
 ghost use Prim.Native.Nat.{_≤_};
@@ -21,35 +22,35 @@ ghost use Rattle.read_formulas.specs.Line.{readLine};
 ghost use Rattle.step_rows.specs.StepRows.{stepRow};
 ghost use Rattle.read_lines.specs.Step.{opOf, stepReader, labelReader, stepLineOf};
 
-// The number of the step whose word is the two letters; 22 for no step.
+// The number of the step whose word is the two letters.
 fn op_of(a: u8, b: u8) -> u32
     ensures { λ r. ⌜ r ≡ opOf (a ∷ b ∷ []) ⌝ }
 {
     let n = (a as u32) * words::BASE + (b as u32);
     match n {
-        words::AF => 0,
-        words::OR => 1,
-        words::GR => 2,
-        words::P1 => 3,
-        words::P2 => 4,
-        words::BR => 5,
-        words::HR => 6,
-        words::SR => 7,
-        words::WR => 8,
-        words::TR => 9,
-        words::AX => 10,
-        words::CP => 11,
-        words::OL => 12,
-        words::W1 => 13,
-        words::W2 => 14,
-        words::BL => 15,
-        words::HL => 16,
-        words::SL => 17,
-        words::TL => 18,
-        words::PL => 19,
-        words::LL => 20,
-        words::UL => 21,
-        _ => 22,
+        words::AF => ops::AF,
+        words::OR => ops::OR,
+        words::GR => ops::GR,
+        words::P1 => ops::P1,
+        words::P2 => ops::P2,
+        words::BR => ops::BR,
+        words::HR => ops::HR,
+        words::SR => ops::SR,
+        words::WR => ops::WR,
+        words::TR => ops::TR,
+        words::AX => ops::AX,
+        words::CP => ops::CP,
+        words::OL => ops::OL,
+        words::W1 => ops::W1,
+        words::W2 => ops::W2,
+        words::BL => ops::BL,
+        words::HL => ops::HL,
+        words::SL => ops::SL,
+        words::TL => ops::TL,
+        words::PL => ops::PL,
+        words::LL => ops::LL,
+        words::UL => ops::UL,
+        _ => ops::NONE,
     }
 }
 
@@ -71,13 +72,13 @@ fn set_fields(s: &[u8], at: u32) -> StepLine
     requires { ⌜ length (now s) ≤ maxBytes ⌝ }
     ensures { λ r. ⌜ stepLineOf (now (s .entry)) r ≡ readLine (stepReader 9) (drop at (now (s .entry))) ⌝ }
 {
-    let f = label_set(s, at, 10);
+    let f = label_set(s, at, b'\n');
     let Labels::Set(v, i) = f else {
         return StepLine::Broken;
     };
     let high = (v / HALF) as u32;
     let low = (v % HALF) as u32;
-    StepLine::Step(plain_step(9, 0, high, low), i)
+    StepLine::Step(plain_step(ops::TR, 0, high, low), i)
 }
 
 // A label alone.
@@ -85,7 +86,7 @@ fn label_fields(s: &[u8], at: u32, op: u32) -> StepLine
     requires { ⌜ length (now s) ≤ maxBytes ⌝ }
     ensures { λ r. ⌜ stepLineOf (now (s .entry)) r ≡ readLine (labelReader op) (drop at (now (s .entry))) ⌝ }
 {
-    let f = number(s, at, 0, ranges::LABEL_LAST, 10);
+    let f = number(s, at, 0, ranges::LABEL_LAST, b'\n');
     let Decimal::Number(label, i) = f else {
         return StepLine::Broken;
     };
@@ -97,15 +98,15 @@ fn lolli_fields(s: &[u8], at: u32) -> StepLine
     requires { ⌜ length (now s) ≤ maxBytes ⌝ }
     ensures { λ r. ⌜ stepLineOf (now (s .entry)) r ≡ readLine (stepReader 20) (drop at (now (s .entry))) ⌝ }
 {
-    let f = number(s, at, 0, ranges::LABEL_LAST, 44);
+    let f = number(s, at, 0, ranges::LABEL_LAST, b',');
     let Decimal::Number(label, i) = f else {
         return StepLine::Broken;
     };
-    let g = label_set(s, i, 44);
+    let g = label_set(s, i, b',');
     let Labels::Set(v, j) = g else {
         return StepLine::Broken;
     };
-    let h = interval(s, j, 10);
+    let h = interval(s, j, b'\n');
     let Span::Minutes(w, k) = h else {
         return StepLine::Broken;
     };
@@ -113,7 +114,7 @@ fn lolli_fields(s: &[u8], at: u32) -> StepLine
     let low = (v % HALF) as u32;
     StepLine::Step(
         StepRow {
-            op: 20,
+            op: ops::LL,
             label,
             high,
             low,
@@ -128,17 +129,17 @@ fn implies_fields(s: &[u8], at: u32) -> StepLine
     requires { ⌜ length (now s) ≤ maxBytes ⌝ }
     ensures { λ r. ⌜ stepLineOf (now (s .entry)) r ≡ readLine (stepReader 21) (drop at (now (s .entry))) ⌝ }
 {
-    let f = number(s, at, 0, ranges::LABEL_LAST, 44);
+    let f = number(s, at, 0, ranges::LABEL_LAST, b',');
     let Decimal::Number(label, i) = f else {
         return StepLine::Broken;
     };
-    let g = interval(s, i, 10);
+    let g = interval(s, i, b'\n');
     let Span::Minutes(w, j) = g else {
         return StepLine::Broken;
     };
     StepLine::Step(
         StepRow {
-            op: 21,
+            op: ops::UL,
             label,
             high: 0,
             low: 0,
@@ -160,25 +161,25 @@ pub fn read_step(s: &[u8], at: u32) -> StepLine
     let op = op_of(s[i], s[i + 1]);
     let stop = s[i + 2];
     let j = at + 3;
-    if op < 9 {
-        if stop != 10 {
+    if op < ops::TR {
+        if stop != b'\n' {
             return StepLine::Broken;
         }
         return StepLine::Step(plain_step(op, 0, 0, 0), j);
     }
-    if stop != 44 {
+    if stop != b',' {
         return StepLine::Broken;
     }
-    if op == 9 {
+    if op == ops::TR {
         return set_fields(s, j);
     }
-    if op < 20 {
+    if op < ops::LL {
         return label_fields(s, j, op);
     }
-    if op == 20 {
+    if op == ops::LL {
         return lolli_fields(s, j);
     }
-    if op == 21 {
+    if op == ops::UL {
         return implies_fields(s, j);
     }
     StepLine::Broken

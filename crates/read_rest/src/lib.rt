@@ -7,6 +7,7 @@ use step_rows::Serials;
 use step_rows::StepRow;
 use step_rows::StepRows;
 use step_rows::lines::put_step;
+use step_rows::ops;
 ghost use mathlib.Core.Path.{_≡_};
 ghost use Prim.Native.Nat.{_≤_};
 ghost use lib.ListN.{length, drop};
@@ -63,10 +64,10 @@ pub fn read_holds(s: &[u8], at: u32, count: u32, serials: &mut Serials) -> Holds
 }
 
 // 1 for a step whose interval is reversed, else 0.
-fn turns(r: StepRow) -> u32
+fn reversed_count(r: StepRow) -> u32
     ensures { λ n. ⌜ (n ≡ pick (rowReversed r) 1 0) × (n ≤ 1) ⌝ }
 {
-    if r.op < 20 {
+    if r.op < ops::LL {
         return 0;
     }
     if intervals::reversed(r.interval) {
@@ -76,10 +77,10 @@ fn turns(r: StepRow) -> u32
 }
 
 // 1 for a step whose interval is broken, else 0.
-fn breaks(r: StepRow) -> u32
+fn broken_count(r: StepRow) -> u32
     ensures { λ n. ⌜ (n ≡ pick (rowBroken r) 1 0) × (n ≤ 1) ⌝ }
 {
-    if r.op < 20 {
+    if r.op < ops::LL {
         return 0;
     }
     if intervals::broken(r.interval) {
@@ -104,8 +105,8 @@ pub fn read_steps(s: &[u8], count: u32, rows: &mut StepRows) -> StepsRead
         let StepLine::Step(row, next) = line else {
             return StepsRead::Broken;
         };
-        reversed = reversed + turns(row);
-        broken = broken + breaks(row);
+        reversed = reversed + reversed_count(row);
+        broken = broken + broken_count(row);
         put_step(rows, k, row);
         at = next;
         k += 1;

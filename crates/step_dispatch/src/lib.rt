@@ -5,6 +5,7 @@ use step_rows::LabelRows;
 use step_rows::StepRow;
 use step_rows::label_rows;
 use step_rows::lines;
+use step_rows::ops;
 use step_rules::left;
 use step_rules::right;
 use steps::Goal;
@@ -28,16 +29,16 @@ fn at_right(store: &Store, table: &LabelRows, q: Sequent, n: u32, i: Window, s: 
     let d = q.linear;
     let op = s.op;
     match op {
-        1 => right::or(d, x),
-        2 => right::gr(d, x),
-        3 => right::p1(d, x, i),
-        4 => right::p2(d, x, i),
-        5 => right::br(d, x, i),
-        6 => right::hr(d, x),
-        7 => right::sr(d, x, i),
-        8 => right::wr(d, x, i),
-        9 => right::tr(d, x, i, lines::share(s)),
-        // `ax`, 10: the last of them
+        ops::OR => right::or(d, x),
+        ops::GR => right::gr(d, x),
+        ops::P1 => right::p1(d, x, i),
+        ops::P2 => right::p2(d, x, i),
+        ops::BR => right::br(d, x, i),
+        ops::HR => right::hr(d, x),
+        ops::SR => right::sr(d, x, i),
+        ops::WR => right::wr(d, x, i),
+        ops::TR => right::tr(d, x, i, lines::share(s)),
+        // `ax`, the last of them
         _ => {
             if ranges::LABELS <= s.label {
                 return Plan::Refused;
@@ -65,19 +66,19 @@ fn at_left(store: &Store, table: &LabelRows, q: Sequent, s: StepRow) -> Plan
     let j = s.interval;
     let op = s.op;
     match op {
-        12 => left::ol(d, g, x),
-        13 => left::w1(d, g, x, i),
-        14 => left::w2(d, g, x, i),
-        15 => left::bl(d, g, x, i),
-        16 => left::hl(d, g, x),
-        17 => match g {
+        ops::OL => left::ol(d, g, x),
+        ops::W1 => left::w1(d, g, x, i),
+        ops::W2 => left::w2(d, g, x, i),
+        ops::BL => left::bl(d, g, x, i),
+        ops::HL => left::hl(d, g, x),
+        ops::SL => match g {
             Goal::Holds(_, _) => Plan::Refused,
             Goal::Affirms(_, v, k) => left::sl(d, g, x, i, k, v),
         },
-        18 => left::tl(d, g, x, i),
-        19 => left::pl(d, g, x, i),
-        20 => left::ll(d, g, x, i, lines::share(s), j),
-        // `ul`, 21: a row with a number past it reads as `ul` too
+        ops::TL => left::tl(d, g, x, i),
+        ops::PL => left::pl(d, g, x, i),
+        ops::LL => left::ll(d, g, x, i, lines::share(s), j),
+        // `ul`; a row with a number past it reads as `ul` too
         _ => left::ul(d, g, x, i, j),
     }
 }
@@ -90,15 +91,15 @@ pub fn rule(store: &Store, table: &LabelRows, q: Sequent, s: StepRow) -> Plan
     let g = q.goal;
     let op = s.op;
     match op {
-        0 => match g {
+        ops::AF => match g {
             Goal::Holds(_, _) => Plan::Refused,
             Goal::Affirms(n, i, _) => step_plans::goal(true, q.linear, n, i),
         },
-        1..=10 => match g {
+        ops::OR..=ops::AX => match g {
             Goal::Holds(n, i) => at_right(store, table, q, n, i, s),
             Goal::Affirms(_, _, _) => Plan::Refused,
         },
-        11 => left::cp(table, q, s.label),
-        12.. => at_left(store, table, q, s),
+        ops::CP => left::cp(table, q, s.label),
+        ops::OL.. => at_left(store, table, q, s),
     }
 }

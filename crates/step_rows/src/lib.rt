@@ -2,6 +2,7 @@
 // read.
 pub mod label_rows;
 pub mod lines;
+pub mod ops;
 
 use request::ranges;
 

@@ -22,7 +22,7 @@ pub enum End {
 fn both_ten(x: u8, y: u8) -> u8
     ensures { λ r. ⌜ BothTen x y r ⌝ }
 {
-    ((x == 10) & (y == 10)) as u8
+    ((x == b'\n') & (y == b'\n')) as u8
 }
 
 // Whether an empty line stands in the bytes, where no line begins before them. No byte decides how to go on, so that
@@ -62,17 +62,17 @@ pub fn sheet_end(piece: &[u8], fresh: bool) -> End
     requires { ⌜ 0 < length (now piece) ⌝ }
     ensures { λ r. ⌜ EndIs (now (piece .entry)) fresh r ⌝ }
 {
-    if fresh & (piece[0] == 10) {
+    if fresh & (piece[0] == b'\n') {
         return End::At(0);
     }
     let mut i = skip(piece);
     while i + 1 < piece.len() {
-        if (piece[i] == 10) & (piece[i + 1] == 10) {
+        if (piece[i] == b'\n') & (piece[i + 1] == b'\n') {
             return End::At(i + 1);
         }
         i += 1;
     }
-    End::Open(piece[i] == 10)
+    End::Open(piece[i] == b'\n')
 }
 
 // The bytes after those held, for which there is room.

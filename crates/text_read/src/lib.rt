@@ -57,16 +57,16 @@ fn first_edition(s: &[u8], at: u32) -> TextRead
         at,
         ranges::NEXT_SERIAL_FIRST,
         ranges::NEXT_SERIAL_LAST,
-        44,
+        b',',
     );
     let Decimal::Number(next, i) = f else {
         return TextRead::Broken;
     };
-    let g = number(s, i, 0, ledger::MAX_FORMULAS, 44);
+    let g = number(s, i, 0, ledger::MAX_FORMULAS, b',');
     let Decimal::Number(lines, j) = g else {
         return TextRead::Broken;
     };
-    let h = number(s, j, 0, ledger::MAX_LIVE, 10);
+    let h = number(s, j, 0, ledger::MAX_LIVE, b'\n');
     let Decimal::Number(live, body) = h else {
         return TextRead::Broken;
     };
@@ -99,11 +99,11 @@ fn credential_rest(s: &[u8], at: u32, serial: u32, kind: Kind) -> CredentialLine
     requires { ⌜ length (now s) ≤ maxReach ⌝ }
     ensures { λ r. ⌜ credentialFrom (now (s .entry)) r ≡ readLine (afterKind serial kind) (drop at (now (s .entry))) ⌝ }
 {
-    let f = number(s, at, 0, ranges::FORMULA_LAST, 44);
+    let f = number(s, at, 0, ranges::FORMULA_LAST, b',');
     let Decimal::Number(formula, i) = f else {
         return CredentialLine::Broken;
     };
-    let g = interval(s, i, 10);
+    let g = interval(s, i, b'\n');
     let Span::Minutes(w, j) = g else {
         return CredentialLine::Broken;
     };
@@ -123,7 +123,7 @@ pub fn credential_line(s: &[u8], at: u32) -> CredentialLine
     requires { ⌜ length (now s) ≤ maxReach ⌝ }
     ensures { λ r. ⌜ credentialFrom (now (s .entry)) r ≡ readLine credentialLine (drop at (now (s .entry))) ⌝ }
 {
-    let f = number(s, at, ranges::SERIAL_FIRST, ranges::SERIAL_LAST, 44);
+    let f = number(s, at, ranges::SERIAL_FIRST, ranges::SERIAL_LAST, b',');
     let Decimal::Number(serial, i) = f else {
         return CredentialLine::Broken;
     };

@@ -41,7 +41,7 @@ read-steps-spec =
     next-reading (l .before .loop .inv) _ _ _ _ _ (l .loop-test .taken)
     (l .before .before .before .before .before .pre .few)
     (seen (stepLineOf _) (d .before .before .read-step .ensures) (d .line .given .1)) (c .put-step .ensures)
-    (e .before .turns .ensures) (e .breaks .ensures)
+    (e .before .reversed-count .ensures) (e .broken-count .ensures)
     (search needs))
     (λ c. search needs)
     (λ c. more-bytes (c .before .before .loop .inv) (c .before .loop-test .left) (c .if1 .taken))

@@ -1,14 +1,14 @@
--- `breaks` meets its contract.
+-- `broken_count` meets its contract.
 use mathlib.Core.Path.{sym, _∙_}
 use borrow.Author.Needs.{needs}
 use borrow.Author.Tests.{lt-ltb, le-ltb}
 use Rattle.read_rest.specs.LinesRead.{rowFails}
-use Rattle.read_rest.proofs.breaks.Statement.{statement}
-use Rattle.read_rest.proofs.breaks.Tie as tie
+use Rattle.read_rest.proofs.broken_count.Statement.{statement}
+use Rattle.read_rest.proofs.broken_count.Tie as tie
 
-pub breaks-spec : {M : Type 1} → statement M
+pub broken-count-spec : {M : Type 1} → statement M
 unfolding rowFails
-breaks-spec =
+broken-count-spec =
     tie.close
     (tie.spec
     (λ c. (simp (lt-ltb _ _ (c .if1 .taken)), search needs))
