@@ -1,132 +1,78 @@
 #include "recount.h"
+#include "fields.h"
+#include <stdio.h>
 #include <stdlib.h>
-#include <string.h>
 
-enum { FIELDS = 10, MOST_HOLDS = 32, STANDING = 1, SINGLE = 2 };
-
-struct Field {
-    const uint8_t *at;
-    size_t length;
-};
+enum { MOST_HOLDS = 32 };
 
 struct History *history_new(void) { return calloc(1, sizeof(struct History)); }
 
 void history_clear(struct History *history) { memset(history, 0, sizeof *history); }
 
-/* The fields of the first line; 0 where it has no end or too many of them. */
-static size_t split(const uint8_t *sheet, size_t length, struct Field fields[FIELDS]) {
-    size_t count = 0, from = 0;
-    memset(fields, 0, FIELDS * sizeof *fields);
-    for (size_t i = 0; i < length; i++) {
-        if (sheet[i] != ',' && sheet[i] != '\n') continue;
-        if (count == FIELDS) return 0;
-        fields[count++] = (struct Field){sheet + from, i - from};
-        from = i + 1;
-        if (sheet[i] == '\n') return count;
-    }
-    return 0;
-}
-
-/* To the line after the first; 0 where that has no end. */
-static int next_line(const uint8_t **at, size_t *length) {
-    const uint8_t *end = memchr(*at, '\n', *length);
-    if (!end) return 0;
-    *length -= (size_t)(end + 1 - *at);
-    *at = end + 1;
-    return 1;
-}
-
-static int is(struct Field field, const char *word) {
-    return field.length == strlen(word) && memcmp(field.at, word, field.length) == 0;
-}
-
-/* A decimal number up to `most`, without leading zeros. */
-static int number(struct Field field, uint32_t most, uint32_t *value) {
-    uint64_t sum = 0;
-    if (field.length == 0 || (field.length > 1 && field.at[0] == '0')) return 0;
-    for (size_t i = 0; i < field.length; i++) {
-        if (field.at[i] < '0' || field.at[i] > '9') return 0;
-        sum = sum * 10 + (field.at[i] - '0');
-        if (sum > most) return 0;
-    }
-    *value = (uint32_t)sum;
-    return 1;
-}
+/* ---- Wordings ---- */
 
 /* A wording that was given before. */
 static int wording(const struct History *history, struct Field field, uint32_t *value) {
     return number(field, WORDINGS - 1, value) && *value < history->wordings;
 }
 
-/* Adds a part to a wording: it counts as often as it stands there. */
-static int add_part(struct History *history, struct Wording *to, struct Field field) {
-    uint32_t part;
-    if (!wording(history, field, &part)) return 0;
-    to->part[to->parts++] = part;
-    to->size += history->wording[part].size;
-    return to->size <= MOST_SIZE;
+/* The place of a session in the list; a new one joins it. A wording names one at most, so there is room. */
+static uint32_t place_of(struct History *history, uint32_t session) {
+    uint32_t k = 0;
+    while (k < history->sessions && history->session[k] != session) k++;
+    if (k == history->sessions) history->session[history->sessions++] = session;
+    return k;
 }
 
-static int set_atom(struct Wording *to, const struct Field *fields) {
-    uint32_t predicate;
-    if (!number(fields[2], LAST_PREDICATE, &predicate) || !number(fields[3], LAST_SESSION, &to->session)) return 0;
-    to->seats = predicate == 1;
-    to->places = predicate == 2;
+static void add_held(struct Wording *to, const struct Held *part) {
+    uint32_t k = 0;
+    while (k < to->holds && to->held[k].at != part->at) k++;
+    if (k == to->holds) to->held[to->holds++] = (struct Held){.at = part->at};
+    to->held[k].seats += part->seats;
+    to->held[k].places += part->places;
+    to->held[k].house += part->house;
+    to->held[k].under += part->under;
+}
+
+/* Adds a part to a wording: it counts as often as it stands there. */
+static int add_part(struct History *history, struct Wording *to, struct Field field) {
+    uint32_t n;
+    if (!wording(history, field, &n)) return 0;
+    const struct Wording *part = &history->wording[n];
+    to->size += part->size;
+    if (to->size > MOST_SIZE) return 0;
+    for (uint32_t k = 0; k < part->holds; k++) add_held(to, &part->held[k]);
     return 1;
 }
 
+static int set_atom(struct History *history, struct Wording *to, const struct Field *fields) {
+    uint32_t predicate;
+    if (!number(fields[2], LAST_PREDICATE, &predicate) || !number(fields[3], LAST_SESSION, &to->session)) return 0;
+    uint32_t seat = predicate == SEAT, place = predicate == PLACE;
+    if (!seat && !place) return 1;
+    struct Held held = {place_of(history, to->session), seat, place, 0, seat};
+    add_held(to, &held);
+    return 1;
+}
+
+/* Under <1> every seat that has no nearer <K> is the house's; under another <K> none of these. */
 static int set_says(struct History *history, struct Wording *to, const struct Field *fields) {
-    to->says = 1;
-    return number(fields[2], LAST_PRINCIPAL, &to->principal) && add_part(history, to, fields[3]);
-}
-
-/* What a wording holds of a session. Of its seats those are the house's whose nearest <K> is <1>: so many are it where
- * <1> is the nearest above the whole wording (`under`), and where another or none is (`house`). */
-struct Held {
-    uint32_t seats, places, house, under;
-};
-
-static struct Held held(const struct Wording *w, const struct Held *of, uint32_t session) {
-    uint32_t own = w->session == session;
-    struct Held sum = {own ? w->seats : 0, own ? w->places : 0, 0, own ? w->seats : 0};
-    for (uint32_t k = 0; k < w->parts; k++) {
-        const struct Held *part = &of[w->part[k]];
-        sum.seats += part->seats;
-        sum.places += part->places;
-        sum.house += part->house;
-        sum.under += part->under;
+    uint32_t principal;
+    if (!number(fields[2], LAST_PRINCIPAL, &principal) || !add_part(history, to, fields[3])) return 0;
+    for (struct Held *held = to->held; held < to->held + to->holds; held++) {
+        if (principal == HOUSE) held->house = held->under;
+        else held->under = held->house;
     }
-    if (w->says && w->principal == HOUSE) sum.house = sum.under;
-    if (w->says) sum.under = sum.house;
-    return sum;
+    return 1;
 }
 
-static int has(const struct Single *single, uint32_t minute) {
-    int paused = single->last > 0 && single->first <= minute && minute <= single->last;
-    return single->from <= minute && minute <= single->to && !paused;
-}
-
-struct Counted history_count(const struct History *history, uint32_t session, uint32_t minute) {
-    struct Counted sum = {0, 0, 0, 0, 0};
-    struct Held of[WORDINGS];
-    for (uint32_t n = 0; n < history->wordings; n++) {
-        const struct Wording *w = &history->wording[n];
-        of[n] = held(w, of, session);
-        sum.issued += w->issued * (of[n].seats + of[n].places);
-        sum.withdrawn += w->withdrawn * (of[n].seats + of[n].places);
-    }
-    for (uint32_t k = 0; k < history->singles; k++) {
-        const struct Held *single = &of[history->single[k].wording];
-        uint32_t open = has(&history->single[k], minute) ? single->house : 0;
-        sum.open += open;
-        sum.shut += single->seats - open;
-        sum.placed += single->places;
-    }
-    return sum;
-}
-
-int history_agrees(const struct Counted *counted, const uint32_t answer[4]) {
-    return answer[1] == counted->open && answer[2] == counted->shut && answer[3] == counted->placed;
+/* The line from its second field on, with its end. */
+static int keep_line(struct Wording *to, const struct Field *fields, size_t count) {
+    size_t length = (size_t)(fields[count - 1].at - fields[1].at) + fields[count - 1].length + 1;
+    if (length > sizeof to->line) return 0;
+    memcpy(to->line, fields[1].at, length);
+    to->length = (uint32_t)length;
+    return 1;
 }
 
 static int note_word(struct History *history, const struct Field *fields, size_t count, uint32_t answer) {
@@ -135,7 +81,7 @@ static int note_word(struct History *history, const struct Field *fields, size_t
     struct Wording *to = &history->wording[answer];
     *to = (struct Wording){.size = 1};
     switch (fields[1].at[0]) {
-    case 'a': good = count == 4 && set_atom(to, fields); break;
+    case 'a': good = count == 4 && set_atom(history, to, fields); break;
     case 'o': good = count == 2; break;
     case 'g': good = count == 10; break;
     case 't': case 'w': case 'p': case 'l': case 'u':
@@ -147,71 +93,126 @@ static int note_word(struct History *history, const struct Field *fields, size_t
     default: good = 0;
     }
     history->wordings++;
-    return good;
+    return keep_line(to, fields, count) && good;
 }
 
-/* A coupon with a new serial, the next one. */
-static int give(struct History *history, uint32_t serial, uint32_t kind) {
-    if (serial != history->serial + 1 || serial > LAST_SERIAL || history->coupon[serial] != 0) return 0;
-    history->coupon[serial] = (uint16_t)kind;
+/* ---- Coupons ---- */
+
+/* Where the coupon with that serial is in the list, or the first with a higher one. */
+static uint32_t find(const struct History *history, uint32_t serial) {
+    uint32_t from = 0, to = history->live;
+    while (from < to) {
+        uint32_t middle = (from + to) / 2;
+        if (history->coupon[middle].serial < serial) from = middle + 1;
+        else to = middle;
+    }
+    return from;
+}
+
+const struct Coupon *history_find(const struct History *history, uint32_t serial) {
+    uint32_t k = find(history, serial);
+    return k < history->live && history->coupon[k].serial == serial ? &history->coupon[k] : NULL;
+}
+
+/* A coupon with the next serial. Its wording and window are fields 2 to 6, in an issue, a booking and a text. */
+static int give(struct History *history, uint32_t serial, uint32_t single, const struct Field *fields) {
+    struct Coupon coupon = {.serial = serial, .single = single};
+    uint32_t *const MINUTES[] = {&coupon.from, &coupon.to, &coupon.first, &coupon.last};
+    if (serial != history->serial + 1 || serial > LAST_SERIAL || history->live == MOST_LIVE) return 0;
+    if (!wording(history, fields[2], &coupon.wording)) return 0;
+    for (int k = 0; k < 4; k++)
+        if (!number(fields[3 + k], LAST_MINUTE, MINUTES[k])) return 0;
+    int length = (int)(fields[6].at - fields[2].at) + (int)fields[6].length;
+    coupon.length = (uint32_t)snprintf((char *)coupon.line, sizeof coupon.line, "%u,%c,%.*s\n", serial,
+                                       single ? 's' : 'r', length, (const char *)fields[2].at);
+    history->coupon[history->live++] = coupon;
     history->serial = serial;
     return 1;
 }
 
-/* A live single with a new serial; its window's four fields. */
-static int give_single(struct History *history, uint32_t serial, uint32_t n, const struct Field *window) {
-    struct Single single = {.serial = serial, .wording = n};
-    uint32_t *const MINUTES[] = {&single.from, &single.to, &single.first, &single.last};
-    for (int k = 0; k < 4; k++)
-        if (!number(window[k], LAST_MINUTE, MINUTES[k])) return 0;
-    if (history->singles == MOST_LIVE || !give(history, serial, SINGLE + n)) return 0;
-    history->single[history->singles++] = single;
-    return 1;
-}
-
-/* A coupon is withdrawn or held by a booking: a single has to be live, and is so no longer. */
-static int take(struct History *history, uint32_t serial) {
-    uint32_t k = 0;
-    if (history->coupon[serial] < SINGLE) return history->coupon[serial] == STANDING;
-    while (k < history->singles && history->single[k].serial != serial) k++;
-    if (k == history->singles) return 0;
-    history->single[k] = history->single[--history->singles];
-    return 1;
+/* A live coupon is withdrawn, or a single is held by a booking. */
+static void remove_coupon(struct History *history, uint32_t serial) {
+    uint32_t k = find(history, serial);
+    history->live--;
+    memmove(&history->coupon[k], &history->coupon[k + 1], (history->live - k) * sizeof *history->coupon);
 }
 
 static int note_issue(struct History *history, const struct Field *fields, size_t count, uint32_t answer) {
-    uint32_t n;
     int single = is(fields[1], "s");
-    if (count != 7 || (!single && !is(fields[1], "r")) || !wording(history, fields[2], &n)) return 0;
-    if (!single) return give(history, answer, STANDING);
-    history->wording[n].issued++;
-    return give_single(history, answer, n, fields + 3);
+    if (count != 7 || (!single && !is(fields[1], "r")) || !give(history, answer, (uint32_t)single, fields)) return 0;
+    if (single) history->wording[history->coupon[history->live - 1].wording].issued++;
+    return 1;
 }
 
-/* The coupons of the lines `hold,serial` that follow the first line. */
+/* The coupons of the lines `hold,serial` that follow the first line: each is live, and a single is so no longer. */
 static int take_holds(struct History *history, const uint8_t *sheet, size_t length, uint32_t holds) {
     struct Field fields[FIELDS];
     for (; holds > 0; holds--) {
         uint32_t serial;
         if (!next_line(&sheet, &length) || split(sheet, length, fields) != 2 || !is(fields[0], "hold")) return 0;
-        if (!number(fields[1], LAST_SERIAL, &serial) || !take(history, serial)) return 0;
+        if (!number(fields[1], LAST_SERIAL, &serial)) return 0;
+        const struct Coupon *coupon = history_find(history, serial);
+        if (!coupon) return 0;
+        if (coupon->single) remove_coupon(history, serial);
     }
     return 1;
 }
 
 static int note_book(struct History *history, const struct Field *fields, size_t count, uint32_t answer,
                      const uint8_t *sheet, size_t length) {
-    uint32_t n, holds;
-    return count == 9 && wording(history, fields[2], &n) && number(fields[7], MOST_HOLDS, &holds) &&
-           take_holds(history, sheet, length, holds) && give_single(history, answer, n, fields + 3);
+    uint32_t holds;
+    return count == 9 && number(fields[7], MOST_HOLDS, &holds) && take_holds(history, sheet, length, holds) &&
+           give(history, answer, 1, fields);
 }
 
 static int note_withdraw(struct History *history, const struct Field *fields, size_t count, uint32_t answer) {
     uint32_t serial;
     if (count != 2 || !number(fields[1], LAST_SERIAL, &serial) || serial != answer) return 0;
-    uint32_t coupon = history->coupon[serial];
-    if (coupon >= SINGLE) history->wording[coupon - SINGLE].withdrawn++;
-    return take(history, serial);
+    const struct Coupon *coupon = history_find(history, serial);
+    if (!coupon) return 0;
+    if (coupon->single) history->wording[coupon->wording].withdrawn++;
+    remove_coupon(history, serial);
+    return 1;
+}
+
+/* ---- Counts ---- */
+
+static int has(const struct Coupon *coupon, uint32_t minute) {
+    int paused = coupon->last > 0 && coupon->first <= minute && minute <= coupon->last;
+    return coupon->from <= minute && minute <= coupon->to && !paused;
+}
+
+void history_count_all(const struct History *history, uint32_t minute, struct Counted counted[WORDINGS]) {
+    memset(counted, 0, history->sessions * sizeof *counted);
+    for (const struct Wording *w = history->wording; w < history->wording + history->wordings; w++) {
+        for (uint32_t k = 0; k < w->holds && w->issued + w->withdrawn > 0; k++) {
+            const struct Held *held = &w->held[k];
+            counted[held->at].issued += w->issued * (held->seats + held->places);
+            counted[held->at].withdrawn += w->withdrawn * (held->seats + held->places);
+        }
+    }
+    for (const struct Coupon *c = history->coupon; c < history->coupon + history->live; c++) {
+        const struct Wording *w = &history->wording[c->wording];
+        for (uint32_t k = 0; k < w->holds && c->single; k++) {
+            const struct Held *held = &w->held[k];
+            uint32_t open = has(c, minute) ? held->house : 0;
+            counted[held->at].open += open;
+            counted[held->at].shut += held->seats - open;
+            counted[held->at].placed += held->places;
+        }
+    }
+}
+
+struct Counted history_count(const struct History *history, uint32_t session, uint32_t minute) {
+    struct Counted counted[WORDINGS];
+    history_count_all(history, minute, counted);
+    for (uint32_t k = 0; k < history->sessions; k++)
+        if (history->session[k] == session) return counted[k];
+    return (struct Counted){0};
+}
+
+int history_agrees(const struct Counted *counted, const uint32_t answer[4]) {
+    return answer[1] == counted->open && answer[2] == counted->shut && answer[3] == counted->placed;
 }
 
 static int note_tally(struct History *history, const struct Field *fields, size_t count, const uint32_t answer[4]) {
@@ -220,6 +221,8 @@ static int note_tally(struct History *history, const struct Field *fields, size_
     struct Counted counted = history_count(history, session, minute);
     return history_agrees(&counted, answer);
 }
+
+/* ---- Sheets and texts ---- */
 
 int history_note(struct History *history, const uint8_t *sheet, size_t length, const uint32_t answer[4]) {
     struct Field fields[FIELDS];
@@ -234,6 +237,20 @@ int history_note(struct History *history, const uint8_t *sheet, size_t length, c
     else if (is(fields[0], "withdraw")) good = note_withdraw(history, fields, count, answer[1]);
     if (!good) history->unread++;
     return good;
+}
+
+size_t history_text(const struct History *history, uint8_t text[MOST_TEXT]) {
+    size_t length = (size_t)snprintf((char *)text, MOST_TEXT, "till,1,%u,%u,%u\n", history->serial + 1,
+                                     history->wordings, history->live);
+    for (uint32_t n = 0; n < history->wordings; n++) {
+        memcpy(text + length, history->wording[n].line, history->wording[n].length);
+        length += history->wording[n].length;
+    }
+    for (uint32_t k = 0; k < history->live; k++) {
+        memcpy(text + length, history->coupon[k].line, history->coupon[k].length);
+        length += history->coupon[k].length;
+    }
+    return length;
 }
 
 /* The lines of a text: wordings without the word `word`, coupons with the serial in the place of `issue`. */

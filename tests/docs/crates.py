@@ -1,13 +1,15 @@
 #!/usr/bin/env python3
-"""The crates: what each names, and crates/README.md, which is made of that.
+"""The crates: what each names, and what is made of that: crates/README.md, the map docs/crates.svg, its words in
+docs/READING.md.
 
-    tests/docs/crates.py           writes crates/README.md
-    tests/docs/crates.py --check   says where crates.txt or crates/README.md is not what the crates give
+    tests/docs/crates.py           writes them
+    tests/docs/crates.py --check   says where crates.txt or one of these is not what the crates give
     tests/docs/crates.py --list    prints the lines of crates.txt as they should be
 
 A crate is listed in crates.txt with those that it uses: the ones that its files name, and the ones that declare a type
 which a function that it calls takes or returns. The README's sentences are the first ones of each src/lib.rt (or
-main.rt).
+main.rt). The map has a line from a crate to each that it uses and does not reach through another, and the way of a
+sheet's bytes: from crate to crate, the calls that hand bytes on.
 """
 import glob
 import os
@@ -24,6 +26,12 @@ KIT = {"io", "libc", "os", "bytes", "check"}
 ENTRY = ("entry", "till_call")
 OTHER_REQUESTS = {"word", "issue", "withdraw", "tally"}
 README = f"{ROOT}/crates/README.md"
+MAP = f"{ROOT}/docs/crates.svg"
+READING = f"{ROOT}/docs/READING.md"
+WAY = re.compile(r"(<!-- made by tests/docs/crates.py -->\n).*?(<!-- end -->\n)", re.S)
+# the map: width of a column and of a crate's box, height of a box, of the gap between floors and of the head, in pixels
+COLUMN, BOX, HIGH, GAP, HEAD = 152, 126, 20, 34, 44
+COLOURS = ["#eef3fb", "#eaf6ee", "#fdf3e3", "#f6ecf7", "#e8f6f6", "#fbeceb", "#f4f4e4", "#f0f0f0", "#efeafa"]
 
 
 def listed():
@@ -237,6 +245,97 @@ def way(names):
     return lines
 
 
+def handed(names):
+    """The calls, from ENTRY on, that hand bytes on to another function that takes a `&[u8]`: pairs of functions, each
+    function reached once, in the order of the callers' texts."""
+    calls, takes, seen, found = Calls(names), set(), set(), []
+    for name in names:
+        for path, text in sources(name).items():
+            if path.endswith(".rt"):
+                heads = re.findall(r'^(?:pub )?(?:extern "C" )?fn (\w+)\((.*?)\)(?= ->|\n| \{)', plain(text), re.M | re.S)
+                takes.update((name, own) for own, head in heads if "&[u8]" in head)
+
+    def walk(at):
+        for other in calls.of(at):
+            if other in takes:
+                found.append((at, other))
+                if other not in seen:
+                    seen.add(other)
+                    walk(other)
+
+    walk(ENTRY)
+    return found
+
+
+def hops(names):
+    """The same from crate to crate, each pair once."""
+    return list(dict.fromkeys((at[0], to[0]) for at, to in handed(names) if at[0] != to[0]))
+
+
+def places(uses):
+    """Where each crate stands on the map: x and y of its box; and the height of the map."""
+    at, found, y = floors(uses), {}, HEAD
+    for floor in reversed(range(max(at.values()) + 1)):
+        rows = [[name for name in names if at[name] == floor] for _, names in groups()]
+        for column, names in enumerate(rows):
+            for k, name in enumerate(names):
+                found[name] = (column * COLUMN + (COLUMN - BOX) // 2, y + k * (HIGH + 6))
+        y += max(map(len, rows)) * (HIGH + 6) + GAP
+    return found, y
+
+
+def line(place, name, other, style):
+    """A curve from below a box to above another; it bends aside where boxes of its own column lie between."""
+    (x, y), (to_x, to_y) = place[name], place[other]
+    between = any(x == to_x == at and y < down < to_y for at, down in place.values())
+    x, y, to_x, aside = x + BOX // 2, y + HIGH, to_x + BOX // 2, (BOX // 2 + 14) * between
+    bend = max(GAP // 2, (to_y - y) // 3)
+    return f'<path d="M{x} {y} C{x + aside} {y + bend} {to_x + aside} {to_y - bend} {to_x} {to_y}" {style}/>'
+
+
+def drawn():
+    """The text of docs/crates.svg."""
+    uses = listed()
+    place, high = places(uses)
+    own = {name: [other for other in used if other in uses] for name, used in uses.items()}
+    wide = COLUMN * len(groups())
+    out = [f'<svg xmlns="http://www.w3.org/2000/svg" viewBox="0 0 {wide} {high}" font-family="monospace" font-size="12">',
+           "<!-- made by tests/docs/crates.py from crates.txt -->",
+           '<defs><marker id="tip" markerWidth="8" markerHeight="8" refX="6" refY="3" orient="auto">'
+           '<path d="M0 0 L7 3 L0 6 Z" fill="#b3261e"/></marker></defs>',
+           f'<rect width="{wide}" height="{high}" fill="#ffffff"/>']
+    for column, (heading, _) in enumerate(groups()):
+        x, name = column * COLUMN, heading.partition(":")[0]
+        out.append(f'<rect x="{x + 3}" width="{COLUMN - 6}" height="{high}" fill="{COLOURS[column % len(COLOURS)]}"/>')
+        out.append(f'<text x="{x + COLUMN // 2}" y="24" text-anchor="middle" font-weight="bold">{name}</text>')
+    for name, used in nearest(own).items():
+        out += [line(place, name, other, 'fill="none" stroke="#8a8f98"') for other in used]
+    way = hops(list(uses))
+    for at, to in way:
+        out.append(line(place, at, to, 'fill="none" stroke="#b3261e" stroke-width="2" marker-end="url(#tip)"'))
+    reached = {name for pair in way for name in pair}
+    for name, (x, y) in place.items():
+        edge = 'stroke="#b3261e" stroke-width="2"' if name in reached else 'stroke="#4a4f57"'
+        out.append(f'<rect x="{x}" y="{y}" width="{BOX}" height="{HIGH}" rx="3" fill="#ffffff" {edge}/>')
+        out.append(f'<text x="{x + BOX // 2}" y="{y + 14}" text-anchor="middle">{name}</text>')
+    return "\n".join(out + ["</svg>"]) + "\n"
+
+
+def told():
+    """The words beside the map: from crate to crate, with the functions that are handed bytes."""
+    names = list(listed())
+    rows = ["| from | to | functions that are handed bytes, in the order in which they are first called |", "|---|---|---|"]
+    for at, to in hops(names):
+        functions = dict.fromkeys(f"`{other[1]}`" for caller, other in handed(names) if (caller[0], other[0]) == (at, to))
+        rows.append(f"| `{at}` | `{to}` | {', '.join(functions)} |")
+    return "\n".join(rows) + "\n"
+
+
+def made():
+    """The files that are made of the crates: from the path to the text."""
+    return {README: written(), MAP: drawn(), READING: WAY.sub(lambda found: found[1] + told() + found[2], read(READING))}
+
+
 def written():
     """The text of crates/README.md."""
     uses = listed()
@@ -267,8 +366,11 @@ def faults():
     grouped = [name for _, names in groups() for name in names]
     if sorted(grouped) != sorted(there):
         yield "crates.txt: a crate stands in no group"
-    if not os.path.isfile(README) or read(README) != written():
-        yield "crates/README.md is not what the crates give: run tests/docs/crates.py"
+    for path, text in made().items():
+        if not os.path.isfile(path) or read(path) != text:
+            yield f"{os.path.relpath(path, ROOT)} is not what the crates give: run tests/docs/crates.py"
+    if not WAY.search(read(READING)):
+        yield "docs/READING.md has no place for the way of a sheet's bytes"
 
 
 def main(words):
@@ -279,8 +381,9 @@ def main(words):
         print("\n".join(wrong), end="\n" if wrong else "")
         return not wrong
     elif not words:
-        with open(README, "w", encoding="utf-8") as file:
-            file.write(written())
+        for path, text in made().items():
+            with open(path, "w", encoding="utf-8") as file:
+                file.write(text)
     else:
         sys.exit(__doc__)
     return True

@@ -164,9 +164,9 @@ void draft_make(struct Draft *draft, const struct History *history, uint64_t *se
     case 2: length = snprintf(text, 128, "withdraw,%u\n", serial); break;
     case 3: length = snprintf(text, 128, "issue,r,%u,%s\n", wording, window(w, from, to, seed)); break;
     case 4: case 5: {
-        uint32_t coupon = serial <= history->serial ? history->coupon[serial] : 0;
-        uint32_t goal = coupon >= 2 ? coupon - 2 : wording;
-        const char *copied = coupon == 1 ? "2\nhold,%u\ncp,0\nax,1\n" : "1\nhold,%u\nax,0\n";
+        const struct Coupon *coupon = history_find(history, serial);
+        uint32_t goal = coupon && coupon->single ? coupon->wording : wording;
+        const char *copied = coupon && !coupon->single ? "2\nhold,%u\ncp,0\nax,1\n" : "1\nhold,%u\nax,0\n";
         length = snprintf(text, 128, "book,%u,%u,%u,%u,0,0,1,", from, goal, from, from);
         length += snprintf(text + length, 128 - (size_t)length, copied, serial);
         break;

@@ -7,11 +7,11 @@ pub const MAX_BYTES: usize = 16_384;
 pub const MAX_HOLDS: usize = 32;
 pub const MAX_STEPS: usize = 256;
 
-const MAX_BYTE_FIELD: u32 = 255;
-const MAX_SESSION: u32 = 65_535;
-const MAX_MINUTE: u32 = 9_999_999;
-const MAX_FORMULA: u32 = 999;
-const MAX_LABEL: u32 = 63;
+pub const MAX_BYTE_FIELD: u32 = 255;
+pub const MAX_SESSION: u32 = 65_535;
+pub const MAX_MINUTE: u32 = 9_999_999;
+pub const MAX_FORMULA: u32 = 999;
+pub const MAX_LABEL: u32 = 63;
 pub const MAX_SERIAL: u32 = 999_999;
 
 pub const COMMA: u8 = b',';

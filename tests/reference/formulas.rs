@@ -5,7 +5,7 @@ use super::logic::{Formula, FormulaId};
 use super::refusal;
 
 pub const MAX_FORMULAS: usize = 200;
-const MAX_SIZE: u32 = 64;
+pub const MAX_SIZE: u32 = 64;
 
 /// A set of formulas: bit n % 64 of word n / 64 stands for formula n.
 type Set = [u64; SET_WORDS];
@@ -115,7 +115,7 @@ impl Formulas {
         Ok((self.count - 1) as FormulaId)
     }
 
-    fn content(&self, id: FormulaId) -> &Content {
+    pub fn content(&self, id: FormulaId) -> &Content {
         &self.contents[id as usize]
     }
 

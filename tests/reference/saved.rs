@@ -9,7 +9,7 @@ use super::{refusal, Till};
 /// How the first line begins: the edition is 1.
 const EDITION: &[u8] = b"till,1,";
 /// What the next serial may be at most: then none is left.
-const MAX_NEXT: u32 = MAX_SERIAL + 1;
+pub const MAX_NEXT: u32 = MAX_SERIAL + 1;
 
 /// Bytes of the longest text: the first line, 200 lines `g` and 512 credentials, every number as long
 /// as its range has one.
@@ -89,7 +89,7 @@ impl Till {
 }
 
 /// A line `serial,kind,wording,from,to,first,last`.
-fn read_credential(reader: &mut Reader) -> Option<Credential> {
+pub fn read_credential(reader: &mut Reader) -> Option<Credential> {
     Some(Credential {
         serial: reader.serial(COMMA)?,
         linear: reader.kind()?,

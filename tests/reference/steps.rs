@@ -56,17 +56,17 @@ impl Sequent {
 
 /// Hypotheses that enter with a premise; they take their labels in order when it begins.
 #[derive(Clone, Copy)]
-enum Entering {
+pub enum Entering {
     Nothing,
     Linear(Hypothesis),
     Linear2(Hypothesis, Hypothesis),
     Unrestricted(Hypothesis),
 }
 
-type Premise = (Sequent, Entering);
+pub type Premise = (Sequent, Entering);
 
 /// What a step that keeps its rule leaves to prove.
-enum Outcome {
+pub enum Outcome {
     Closed,
     One(Premise),
     Two(Premise, Premise),
@@ -83,9 +83,9 @@ pub struct Checker<'a> {
     steps: &'a [Step],
     /// How many steps were read.
     read: usize,
-    hypotheses: [Hypothesis; MAX_LABELS],
+    pub hypotheses: [Hypothesis; MAX_LABELS],
     /// How many labels were taken in this request; the next new label is this number.
-    taken: usize,
+    pub taken: usize,
 }
 
 impl<'a> Checker<'a> {
@@ -137,7 +137,7 @@ impl<'a> Checker<'a> {
     }
 
     /// Begins a premise: what enters takes its labels. None if label 64 is needed.
-    fn begin(&mut self, (mut sequent, entering): Premise) -> Option<Sequent> {
+    pub fn begin(&mut self, (mut sequent, entering): Premise) -> Option<Sequent> {
         match entering {
             Nothing => {}
             Linear(hypothesis) => sequent.linear |= self.take(hypothesis)?,
@@ -148,7 +148,7 @@ impl<'a> Checker<'a> {
     }
 
     /// What the step leaves to prove; None if it breaks its rule.
-    fn rule(&self, step: Step, sequent: Sequent) -> Option<Outcome> {
+    pub fn rule(&self, step: Step, sequent: Sequent) -> Option<Outcome> {
         match step {
             Step::Copy(label) => self.copy(label, sequent),
             Step::Affirms => affirms(sequent),

@@ -1,21 +1,21 @@
 //! The booking till: formulas, live credentials, and the one call that answers a request.
 
 #[path = "content.rs"]
-mod content;
+pub mod content;
 #[path = "credentials.rs"]
-mod credentials;
+pub mod credentials;
 #[path = "form.rs"]
-mod form;
+pub mod form;
 #[path = "formulas.rs"]
-mod formulas;
+pub mod formulas;
 #[path = "logic.rs"]
-mod logic;
+pub mod logic;
 #[path = "refusal.rs"]
-mod refusal;
+pub mod refusal;
 #[path = "saved.rs"]
 pub mod saved;
 #[path = "steps.rs"]
-mod steps;
+pub mod steps;
 #[cfg(test)]
 #[path = "tests/mod.rs"]
 mod tests;
@@ -28,8 +28,8 @@ use steps::{Checker, Goal, Hypothesis, Sequent, Stop};
 
 /// The state: what calls give, beginning from the empty till.
 pub struct Till {
-    formulas: Formulas,
-    credentials: Credentials,
+    pub formulas: Formulas,
+    pub credentials: Credentials,
     /// Room for the lines of a booking while it is answered; no part of the state.
     page: Page,
 }

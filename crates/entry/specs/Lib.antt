@@ -1,3 +1,4 @@
+pub mod Edition
 pub mod Entered
 pub mod Played
 pub mod Saved

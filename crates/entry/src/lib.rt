@@ -2,14 +2,58 @@
 // with a length, and the caller lends 2,048 numbers to work on and four for the answer. Closing and opening are in
 // crate entry_text.
 use ledger::Answer;
+use request::ranges;
 use step_rows::StepRows;
 use store::Store;
 ghost use mathlib.Core.Path.{_≡_};
+ghost use Rattle.request.specs.Range.{maxBytes};
 ghost use Rattle.ledger.specs.Ledger.{empty};
 ghost use Rattle.ledger.specs.Calls.{told};
+ghost use Rattle.store_cells.specs.Layout.{cells};
 ghost use Rattle.store.specs.Store.{Good, StandsFor};
+ghost use Rattle.step_rows.specs.StepRows.{stepCells};
+ghost use Rattle.entry.specs.Edition.{edition};
 ghost use Rattle.entry.specs.Entered.{numbers, Entered};
 ghost use Rattle.entry.specs.Played.{PlayedIs, CallsAnswered, BookingsExact, CallsAddUp};
+
+const EDITION: u32 = 1;
+
+// The edition, under a name that only a library of this edition has: the header's till_start and till_open refer to it.
+#[no_mangle]
+pub extern "C" fn till_edition_1() -> u32
+    ensures { λ r. ⌜ r ≡ edition ⌝ }
+{
+    EDITION
+}
+
+// The edition; how many numbers a till has, and how many are lent to work on; the most bytes of a sheet.
+#[no_mangle]
+pub extern "C" fn till_edition() -> u32
+    ensures { λ r. ⌜ r ≡ edition ⌝ }
+{
+    till_edition_1()
+}
+
+#[no_mangle]
+pub extern "C" fn till_numbers() -> usize
+    ensures { λ r. ⌜ r ≡ cells ⌝ }
+{
+    store_cells::CELLS
+}
+
+#[no_mangle]
+pub extern "C" fn till_scratch() -> usize
+    ensures { λ r. ⌜ r ≡ stepCells ⌝ }
+{
+    step_rows::STEP_CELLS
+}
+
+#[no_mangle]
+pub extern "C" fn till_sheet_bytes() -> usize
+    ensures { λ r. ⌜ r ≡ maxBytes ⌝ }
+{
+    ranges::MAX_BYTES
+}
 
 // Makes the block an empty till.
 #[no_mangle]

@@ -1,8 +1,18 @@
 // Closing and opening from C (document 02, ask 5). They are compiled apart from till_call, with which they share code,
 // so that a sheet costs what it did.
 use store::Store;
+ghost use mathlib.Core.Path.{_≡_};
+ghost use Rattle.snapshot.specs.Snapshot.{longestText};
 ghost use Rattle.store.specs.Store.{Good};
 ghost use Rattle.entry.specs.Saved.{Closed, Reopened};
+
+// The most bytes of a text.
+#[no_mangle]
+pub extern "C" fn till_text_bytes() -> usize
+    ensures { λ r. ⌜ r ≡ longestText ⌝ }
+{
+    text_read::LONGEST_TEXT
+}
 
 // Closes the till (document 02, ask 5): writes it as text into the lent buffer: {1, bytes, 0, 0}, or {0, 52, 0, 0} and
 // the buffer as it was.

@@ -10,7 +10,7 @@ use Rattle.stream_console.specs.declared.Output.{Output}
 
 -- nothing is read
 abbrev pub unread : ℤ → Input
-unread d = record { from = d; reads = 0; bytes = 0; got = 0; ended = false }
+unread d = record { from = d; reads = 0; bytes = 0; got = 0; ended = false; misread = false }
 
 -- nothing is written
 abbrev pub unwritten : ℤ → Output
@@ -23,6 +23,7 @@ pub record Received (i : Input) (n : ℕ) (i′ : Input) : Type 0 where
   pub bytes : i′ .bytes ≡ (i .bytes + i′ .got) % 2 ^ 64
   pub few : i′ .got ≤ n
   pub ended : i′ .ended ≡ eqb (i′ .got) 0
+  pub misread : i′ .misread ≡ true → i′ .got ≡ 0
 
 -- bytes handed over to be written, n at most
 pub record Sent (u : Output) (n : ℕ) (u′ : Output) : Type 0 where

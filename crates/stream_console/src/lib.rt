@@ -1,19 +1,20 @@
-// Standard input and output. No contract can say which bytes a read gives and where a write puts them. So `receive` and
-// `send`, a call of C's each, note what they were asked and what they were given; these two are to be read. The
-// contracts of whatever calls them speak of the notes, which no other crate can make or change.
+// Standard input, output and error. No contract can say which bytes a read gives and where a write puts them. So
+// `receive` and `send`, a call of C's each, note what they were asked and what they were given; these two are to be
+// read. The contracts of whatever calls them speak of the notes, which no other crate can make or change.
 ghost use mathlib.Core.Path.{_≡_};
 ghost use Prim.Native.Nat.{_≤_};
 ghost use lib.ListN.{length};
 ghost use Rattle.stream_console.specs.Console.{unread, unwritten, Received, Sent, GoesOn};
 
-// A descriptor to read from; the reads and the bytes read, both modulo 2^64; the bytes that the last read gave, and
-// whether it gave none.
+// A descriptor to read from; the reads and the bytes read, both modulo 2^64; the bytes that the last read gave, whether
+// it gave none, and whether it failed.
 pub struct Input {
     from: i32,
     reads: u64,
     bytes: u64,
     got: usize,
     ended: bool,
+    misread: bool,
 }
 
 // A descriptor to write to; the bytes handed to it, modulo 2^64; those of the last write, and whether it failed.
@@ -34,6 +35,7 @@ pub fn reading(from: i32) -> Input
         bytes: 0,
         got: 0,
         ended: false,
+        misread: false,
     }
 }
 
@@ -64,6 +66,7 @@ pub fn receive(input: Input, piece: &mut [u8]) -> Input
         bytes,
         got,
         ended: got == 0,
+        misread: given < 0,
     }
 }
 
@@ -88,6 +91,13 @@ pub fn got(input: Input) -> usize
     ensures { λ r. ⌜ r ≡ input .got ⌝ }
 {
     input.got
+}
+
+// Whether the last read failed.
+pub fn misread(input: Input) -> bool
+    ensures { λ r. ⌜ r ≡ input .misread ⌝ }
+{
+    input.misread
 }
 
 // Whether the last write failed.

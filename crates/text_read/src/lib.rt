@@ -24,7 +24,7 @@ ghost use Rattle.text_read.specs.TextForm.{TitleIs, FormIs};
 
 // No text that is read is longer (specs/Snapshot.antt, `longestText`): the first line, the formula lines and the
 // credential lines at their longest.
-const LONGEST_TEXT: usize = 36_263;
+pub const LONGEST_TEXT: usize = 36_263;
 
 // What the first line says: the next serial, how many formula lines and how many live credentials follow; and the
 // position of the line after it.

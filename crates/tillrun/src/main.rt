@@ -1,5 +1,6 @@
 // `tillrun` (document 01, "Kiosk"): reads sheets from standard input and prints their answers, starting with an empty
-// till. What is read in one piece is answered and written before more input is waited for.
+// till. What is read in one piece is answered and written before more input is waited for. What could not be read or
+// written, and arguments, get a line on standard error.
 use request::ranges;
 use step_rows::StepRows;
 use store::Store;
@@ -16,6 +17,7 @@ ghost use Rattle.stream_print.specs.Printed.{longest};
 ghost use Rattle.stream_sheets.specs.Sheets.{most};
 ghost use Rattle.stream.specs.Stream.{Ready};
 ghost use Rattle.tillrun.specs.Program.{Turned, Played};
+ghost use Rattle.tillrun.specs.Complaints.{Said, Warned, Complained};
 
 // The first bytes of a sheet that has begun: one more than a sheet may have.
 type Begun = [u8; stream_sheets::MOST];
@@ -113,12 +115,54 @@ fn play(
     }
 }
 
+// Writes a line, where it is to be said. Whether that fails is of no concern.
+fn say(errors: Output, wrong: bool, line: &[u8]) -> Output
+    ensures { λ r. ⌜ Said errors wrong (now (line .entry)) r ⌝ }
+{
+    if wrong {
+        return stream_console::send(errors, line, line.len());
+    }
+    errors
+}
+
+// Says that arguments are not taken, where there is one beside the program's own name.
+fn warn(words: usize) -> Output
+    ensures { λ r. ⌜ Warned words r ⌝ }
+{
+    let errors = stream_console::writing(2);
+    say(
+        errors,
+        1 < words,
+        b"tillrun: takes no arguments; sheets are read from standard input, as in: tillrun <FILE\n",
+    )
+}
+
+// Says what could not be done.
+fn complain(errors: Output, run: Run) -> Output
+    ensures { λ r. ⌜ Complained errors (run .input) (run .output) r ⌝ }
+{
+    let unread = stream_console::misread(run.input);
+    let then = say(
+        errors,
+        unread,
+        b"tillrun: the input could not be read; it is taken to end there\n",
+    );
+    let unwritten = stream_console::failed(run.output);
+    say(
+        then,
+        unwritten,
+        b"tillrun: the answers could not be written; nothing more is read\n",
+    )
+}
+
 fn main() {
+    let errors = warn(os::arg_count());
     let mut store = [0u32; store_cells::CELLS];
     store::start(&mut store);
     let mut begun = [0u8; stream_sheets::MOST];
     let mut text = [0u8; TEXT];
     let mut piece = [0u8; PIECE];
     let mut rows = [0u32; step_rows::STEP_CELLS];
-    play(&mut store, &mut rows, &mut begun, &mut text, &mut piece);
+    let run = play(&mut store, &mut rows, &mut begun, &mut text, &mut piece);
+    complain(errors, run);
 }

@@ -1,0 +1,6 @@
+-- What C is told of the library before it lends anything.
+use Prim.Native.Nat.{ℕ}
+
+-- The first edition. Other sizes, other refusals, or sheets and texts that mean something else, are another one.
+abbrev pub edition : ℕ
+edition = 1
