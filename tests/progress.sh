@@ -1,7 +1,7 @@
 # shellcheck shell=bash
-# Signs of life: what a script is doing, how far it is, for how many seconds. Sourced, from the repository's root, by the
-# scripts that prove or test for long. On a terminal one line of standard error is written over each second; elsewhere a
-# line comes when it has changed, or after ten seconds. Standard output is left alone.
+# Signs of life: what a script is doing, how far it is, for how many seconds. Sourced, from the repository's root, by
+# the scripts that prove or test for long. On a terminal one line of standard error is written over each second;
+# elsewhere a line comes when it has changed, or after ten seconds. Standard output is left alone.
 
 toolchain() { # rt is there; or says what is missing and where it comes from
   local kit=${RATTLE_HOME:-/opt/rattle}
@@ -58,7 +58,7 @@ watched() { # watched WHAT COMMAND..: runs the command; meanwhile tells what WHA
   return $status
 }
 
-crates_of() { # crates_of NAME..: how many crates these are, with all that they use; all of crates.txt where none is named
+crates_of() { # crates_of NAME..: how many crates these are, with all that they use; all crates where none is named
   awk -v names="$*" '
     function visit(name,  used, n, k) {
       if (!(name in uses) || name in seen) return

@@ -299,7 +299,8 @@ def drawn():
     place, high = places(uses)
     own = {name: [other for other in used if other in uses] for name, used in uses.items()}
     wide = COLUMN * len(groups())
-    out = [f'<svg xmlns="http://www.w3.org/2000/svg" viewBox="0 0 {wide} {high}" font-family="monospace" font-size="12">',
+    out = [f'<svg xmlns="http://www.w3.org/2000/svg" viewBox="0 0 {wide} {high}" '
+           'font-family="monospace" font-size="12">',
            "<!-- made by tests/docs/crates.py from crates.txt -->",
            '<defs><marker id="tip" markerWidth="8" markerHeight="8" refX="6" refY="3" orient="auto">'
            '<path d="M0 0 L7 3 L0 6 Z" fill="#b3261e"/></marker></defs>',
@@ -326,14 +327,15 @@ def told():
     names = list(listed())
     rows = ["| from | to | functions that are handed bytes, in the order in which they are first called |", "|---|---|---|"]
     for at, to in hops(names):
-        functions = dict.fromkeys(f"`{other[1]}`" for caller, other in handed(names) if (caller[0], other[0]) == (at, to))
-        rows.append(f"| `{at}` | `{to}` | {', '.join(functions)} |")
+        own = dict.fromkeys(f"`{other[1]}`" for caller, other in handed(names) if (caller[0], other[0]) == (at, to))
+        rows.append(f"| `{at}` | `{to}` | {', '.join(own)} |")
     return "\n".join(rows) + "\n"
 
 
 def made():
     """The files that are made of the crates: from the path to the text."""
-    return {README: written(), MAP: drawn(), READING: WAY.sub(lambda found: found[1] + told() + found[2], read(READING))}
+    reading = WAY.sub(lambda found: found[1] + told() + found[2], read(READING))
+    return {README: written(), MAP: drawn(), READING: reading}
 
 
 def written():
@@ -382,8 +384,9 @@ def main(words):
         return not wrong
     elif not words:
         for path, text in made().items():
-            with open(path, "w", encoding="utf-8") as file:
-                file.write(text)
+            if not os.path.isfile(path) or read(path) != text:
+                with open(path, "w", encoding="utf-8") as file:
+                    file.write(text)
     else:
         sys.exit(__doc__)
     return True

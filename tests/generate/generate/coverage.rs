@@ -121,9 +121,9 @@ impl Coverage {
 
     /// Prints what was reached; gives the number of required things that were not.
     pub fn report(&self, wish: &Wish) -> u32 {
-        println!("coverage of {} sheets. {} of them are bookings whose steps were damaged at random, and what follows", self.sheets,
+        println!("coverage of {} sheets. To {} of them, bookings whose steps were damaged at random and what", self.sheets,
                  self.unknown);
-        println!("them in their lists: there the generator foretells no answer, and tests/tillrun/run compares programs alone.");
+        println!("follows them in a list, the generator foretells no answer; tests/tillrun/run compares programs there.");
         let mut missing = 0;
         for (group, names) in required(wish) {
             let count = |name: &String| self.marks.get(name).copied().unwrap_or(0);
