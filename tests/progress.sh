@@ -22,6 +22,17 @@ installed() { # installed COMMAND PACKAGE..: a machine without the command insta
   apt-get update -qq >&2 && apt-get install -y -qq "${@:2}" >&2
 }
 
+in_memory() { # temporary files go to memory where it has 4 GB to spare; the caller removes $TMPDIR if this answers 0
+  local free
+  # a check writes and removes some thousand small files, which on a disk takes long (docs/DECISIONS.md, 137)
+  [ -z "${TMPDIR:-}" ] && [ -w /dev/shm ] || return 1
+  free=$(df -k --output=avail /dev/shm | tail -n 1)
+  [ "$free" -ge 4000000 ] && [ "$(awk '/^MemAvailable/ { print $2 }' /proc/meminfo)" -ge 8000000 ] || return 1
+  TMPDIR=$(mktemp -d /dev/shm/oysterbrim.XXXXXX) && chmod 755 "$TMPDIR" || return 1 # rt runs programs as nobody
+  cp /bin/true "$TMPDIR/true" && "$TMPDIR/true" 2>/dev/null || { rm -rf "$TMPDIR"; unset TMPDIR; return 1; }
+  export TMPDIR
+}
+
 tell() { # tell LINE: in the place of the line before on a terminal
   if [ -t 2 ]; then printf '\r\033[K%s' "${1:0:$((${COLUMNS:-80} - 1))}" >&2; else printf '%s\n' "$1" >&2; fi
 }

@@ -344,7 +344,7 @@ def written():
     near = nearest({name: [other for other in used if other in uses] for name, used in uses.items()})
     out = ["# The crates", "", "Made by `tests/docs/crates.py` from crates.txt and the head of each crate's `src/lib.rt`; a test compares.",
            "Names group them; in a group the lower ones come first. \"Uses\" leaves out what is used through another. A",
-           "slip is a wrong edit that the proofs must refuse; those that do not meet share an edit (docs/CONTRIBUTING.md).", ""]
+           "slip is a wrong edit that the proofs must refuse; those that can be told apart share an edit (docs/CONTRIBUTING.md).", ""]
     for heading, names in groups():
         out += [f"## {heading}", "", "| crate | what it is | uses | slips | edits |", "|---|---|---|---|---|"]
         for name in names:

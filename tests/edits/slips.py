@@ -10,13 +10,17 @@ A slip is a file crates/NAME/slips/LABEL.edit:
     new: what takes its place
 
 The functions are named as a check prints them, without the crate: `book_steps`, `formulas::interval`. A slip of a
-definition that only laws for other crates rest on names such a law: `Rows.stays-credential`, of proofs/Rows.antt. The
-line '# at:' may be left out. It names a law in the proof file of each of the functions, in their order, at which the
-slip is refused; such a law is looked at even where a function that this one calls is not proved.
+definition that only laws for other crates rest on names such a law: `Rows.stays-credential`, of proofs/Rows.antt.
+
+The line '# at:' names every place at which the slip is refused when it is tried by itself (proofs.py says what a place
+is called); tests/edits/run NAME --at writes it. A line '# apart: LABEL LABEL ..' names slips that hide it if they are
+tried with it: wrong together, they come out right.
 """
 import glob
 import os
 import re
+
+from proofs import Proofs, declaration_of
 
 ROOT = os.path.dirname(os.path.dirname(os.path.dirname(os.path.abspath(__file__))))
 FUNCTION = re.compile(r'(?:pub )?(?:extern "C" )?fn (\w+)')
@@ -37,6 +41,32 @@ def crates():
     return re.findall(r"^(\w+):", read(f"{ROOT}/crates.txt"), re.M)
 
 
+def each_place(word):
+    """FILE.DECLARATION:A,B,.. is each of FILE.DECLARATION:A, FILE.DECLARATION:B, ..; any other word is itself."""
+    declaration, _, names = word.partition(":")
+    return [f"{declaration}:{name}" for name in names.split(",")] if "." in declaration and names else [word]
+
+
+def write_at(path, places):
+    """Writes the '# at:' lines of a slip, after its '# refused:' line, none wider than 120 columns."""
+    words, wrapped = [], [["# at:"]]
+    for place in sorted(places, key=lambda place: [int(n) if n.isdigit() else n for n in re.split(r"(\d+)", place)]):
+        declaration, _, name = place.partition(":")
+        if name and "." in declaration and words and words[-1].startswith(f"{declaration}:"):
+            words[-1] += f",{name}"
+        else:
+            words.append(place)
+    for word in words:
+        if len(" ".join(wrapped[-1] + [word])) > 120:
+            wrapped.append(["# at:"])
+        wrapped[-1].append(word)
+    lines = [line for line in read(path).splitlines() if not line.startswith("# at:")]
+    after = next(k for k, line in enumerate(lines) if line.startswith("# refused:")) + 1
+    lines[after:after] = [" ".join(words) for words in wrapped if len(words) > 1]
+    with open(path, "w", encoding="utf-8") as file:
+        file.write("\n".join(lines) + "\n")
+
+
 class Function:
     """A function of a crate: its name, its file, the lines where its body begins and ends, and the body's text."""
 
@@ -51,6 +81,7 @@ class Crate:
             for file in sorted(names):
                 self.take_functions(os.path.relpath(f"{folder}/{file}", self.folder))
         self.reached = self.reach()
+        self.proofs = Proofs(self)
 
     def lines(self, file):
         if file not in self.files:
@@ -118,7 +149,7 @@ class Crate:
         path, name = function.replace("::", "/"), function.split("::")[-1]
         if os.path.isfile(f"{self.folder}/proofs/{path}/Proof.antt"):
             return path
-        cycles = glob.glob(f"{self.folder}/proofs/**/+*", recursive=True)
+        cycles = glob.glob("**/+*", root_dir=f"{self.folder}/proofs", recursive=True)
         return next((cycle for cycle in cycles if name in os.path.basename(cycle).split("+")[1:]), "")
 
     def slips(self):
@@ -139,13 +170,15 @@ def replaced(text, pairs):
 class Slip:
     def __init__(self, crate, path):
         self.crate, self.label = crate, os.path.basename(path)[: -len(".edit")]
-        self.says, self.refused, self.at, self.pairs, self.body = "", [], [], [], []
+        self.says, self.refused, self.at, self.apart, self.pairs, self.body = "", [], [], [], [], []
         file = old = ""
         for line in read(path).splitlines():
             if line.startswith("# refused:"):
                 self.refused = line[len("# refused:") :].split()
             elif line.startswith("# at:"):
-                self.at = line[len("# at:") :].split()
+                self.at += [place for word in line[len("# at:") :].split() for place in each_place(word)]
+            elif line.startswith("# apart:"):
+                self.apart += line[len("# apart:") :].split()
             elif line.startswith("#"):
                 self.says = self.says or line[1:].strip()
             else:
@@ -157,14 +190,13 @@ class Slip:
             elif line.startswith("new:"):
                 self.pairs.append((file, old, line[len("new:") :].removeprefix(" ")))
                 old = ""
-        self.changes, self.touched, self.alone = self.look()
-        self.defines = any(file.startswith("specs/") for file, _, _ in self.pairs)
+        self.changes, self.touched, self.bodies = self.look()
 
     def fault(self, why):
         return Bad(f"crates/{self.crate.name}/slips/{self.label}.edit: {why}")
 
     def look(self):
-        """The lines that it changes, the functions whose bodies they are in, whether it has to be tried by itself."""
+        """The lines that it changes, the functions whose bodies they are in, whether all of them are in bodies."""
         if not self.says or not self.pairs:
             raise self.fault("its first line says what is wrong, and a pair 'old:' and 'new:' follows")
         if self.label.startswith("together_"):
@@ -175,7 +207,7 @@ class Slip:
             after = replaced(lambda file: "\n".join(self.crate.lines(file)), self.pairs)
         except Bad as bad:
             raise self.fault(bad) from None
-        changes, touched, alone = {}, set(), False
+        changes, touched, bodies = {}, set(), True
         for file, text in after.items():
             for k, (before, now) in enumerate(zip(self.crate.lines(file), text.split("\n"))):
                 if before != now:
@@ -183,32 +215,36 @@ class Slip:
                     found = [f for f in self.crate.functions.values() if f.file == file and f.body <= k <= f.end]
                     found = found or self.crate.using(file, k)
                     touched.update(f.name for f in found)
-                    alone = alone or not found
-        return changes, touched, alone
+                    bodies = bodies and bool(found)
+        return changes, touched, bodies
 
     def check_refused(self):
         """Its '# refused:' line names functions, or laws, of the crate; for a slip of bodies those that it changes."""
         unknown = [name for name in self.refused if not self.crate.has(name)]
         if unknown or not self.refused:
             raise self.fault("'# refused:' names no function of the crate: " + " ".join(unknown))
-        if self.at and (len(self.at) != len(self.refused) or self.alone):
-            raise self.fault("'# at:' names a law for each of the functions, of a slip of bodies")
-        if not self.alone and set(self.refused) != self.touched:
+        if not self.at or not all(self.crate.proofs.has(place) for place in self.at):
+            raise self.fault("'# at:' names the places at which it is refused: tests/edits/run NAME --at writes it")
+        if self.bodies and set(self.refused) != self.touched:
             raise self.fault("'# refused:' must name the functions that it changes: " + " ".join(sorted(self.touched)))
 
-    def rests(self, other):
-        """Whether what refuses this slip may rest on what the other changes: one proof, or a body that is called."""
-        crate = self.crate
-        for a in self.touched:
-            for b in other.touched:
-                if a == b or (crate.proof(a) and crate.proof(a) == crate.proof(b)):
-                    return True
-                if not self.at and b in crate.reached[a]:
-                    return True
-        return False
+    def own(self, group):
+        """Its places at which no other slip of the group is refused, and which rest on none that another is refused at."""
+        others = {place for other in group if other is not self for place in other.at}
+        declared, under = {declaration_of(place) for place in others}, self.crate.proofs.under
+        return {place for place in self.at if place not in others and not under(declaration_of(place)) & declared}
 
-    def meets(self, other):
-        return self.rests(other) or other.rests(self)
+    def seen(self, places):
+        """Whether it is known by these places to be refused: a slip of bodies by one of each function, else by any."""
+        if not self.bodies:
+            return bool(places)
+        return all(any(self.crate.proofs.in_proof(place, function) for place in places) for function in self.refused)
+
+
+def apart(group):
+    """Whether each slip of the group is known to be refused by its own places, and none is to be kept from another."""
+    labels = {slip.label for slip in group}
+    return all(slip.seen(slip.own(group)) and not labels & set(slip.apart) for slip in group)
 
 
 def fit(slips):
@@ -229,81 +265,15 @@ def fit(slips):
 
 
 def together(slips):
-    """The runs in which the slips of a crate are tried: lists of slips, those of a run not meeting one another."""
+    """The runs in which the slips of a crate are tried: lists of slips, those of a run apart from one another."""
     groups = []
-    mixable = [slip for slip in slips if not slip.alone]
-    degree = {slip.label: sum(slip.meets(other) for other in mixable) for slip in mixable}
-    for slip in sorted(mixable, key=lambda slip: (-degree[slip.label], slip.label)):
+    met = {slip.label: sum(not apart([slip, other]) for other in slips if other is not slip) for slip in slips}
+    for slip in sorted(slips, key=lambda slip: (-met[slip.label], slip.label)):
         for group in groups:
             grown = sorted(group + [slip], key=lambda slip: slip.label)
-            if not any(slip.meets(other) for other in group) and fit(grown):
+            if apart(grown) and fit(grown):
                 group[:] = grown
                 break
         else:
             groups.append([slip])
-    return groups + [[slip] for slip in slips if slip.alone]
-
-
-class Log:
-    """What a check printed of a crate with slips: how each function stands, and the errors in the proofs."""
-
-    STATE = re.compile(r"^fn (\w+)::([\w:]+): (proved|not proved|no proof)(.*)$", re.M)
-    # what it says may go on in lines that are indented
-    ERROR = re.compile(r"^(?:.*/)?proofs/(.+?)\.antt:\d+:\d+: error: (?:`([^`]+)`: )?(.*(?:\n  .*)*)$", re.M)
-    # the proof no longer fits the code's shape, or gave up: nothing is shown
-    SHAPE = re.compile(r"has no\s+`Need-|has no\s+field|broke off")
-    FOLLOWS = re.compile(r"^`([^`]+)` was not admitted")
-
-    def __init__(self, crate, text):
-        self.text = text
-        self.states = {name: (state, more) for c, name, state, more in self.STATE.findall(text) if c == crate}
-        self.errors = self.ERROR.findall(text)
-
-    def own(self, function):
-        """The errors in the function's own proof file, or in that of the cycle of functions which it is in."""
-        path, name = function.replace("::", "/"), function.split("::")[-1]
-        for file, declaration, said in self.errors:
-            folder = file.rpartition("/")[0]
-            if folder == path or name in folder.split("/")[-1].split("+")[1:]:
-                yield declaration, said
-
-    def code_fault(self, function, law):
-        """Why the function is not refused at a fact of its own, at the law if one is named; None where it is."""
-        state, more = self.states.get(function, ("not in the log", ""))
-        if state not in ("not proved", "no proof"):
-            return f"{function} is {state}"
-        own = list(self.own(function))
-        for _, said in own:
-            if self.SHAPE.search(said):
-                return f"{function}: the proof does not fit the code: {said[:200]}"
-        if law and all(self.FOLLOWS.match(said) for name, said in own if name == law):
-            return f"{function}: no error of its own at {law}"
-        if "; it calls" in more and not law:
-            return f"{function} is refused only because{more[1:]}"
-        if state == "no proof":
-            return None if "does not close" in more and not self.SHAPE.search(more) else f"{function}: no proof{more}"
-        if all(self.FOLLOWS.match(said) for _, said in own):
-            return f"{function}: no error of its own{more}"
-        return None
-
-    def definition_fault(self, function):
-        """Why the slip of a definition is not refused by a proof, with this function not proved; None where it is."""
-        if "." in function:
-            own = [said for file, law, said in self.errors if f"{file}.{law}" == function]
-            return None if any(not self.FOLLOWS.match(said) for said in own) else f"{function}: no error of its own"
-        state, _ = self.states.get(function, ("not in the log", ""))
-        if state not in ("not proved", "no proof"):
-            return f"{function} is {state}"
-        said = [said for _, _, said in self.errors if not self.FOLLOWS.match(said)]
-        if state == "not proved" and not said:
-            return "no proof has an error of its own"
-        return None
-
-    def faults(self, slip):
-        if "logic=not-proved" not in self.text:
-            return ["NOT REFUSED" if "logic=proved" in self.text else "the prover was not reached"]
-        if slip.defines:
-            found = map(self.definition_fault, slip.refused)
-        else:
-            found = map(self.code_fault, slip.refused, slip.at or [""] * len(slip.refused))
-        return [why for why in found if why]
+    return groups

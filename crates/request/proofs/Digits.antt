@@ -167,6 +167,15 @@ digits-more v d h l =
     ∙ written-more (v * 10 + d) v d h l
     ∙ ap (λ (t : List ℕ). t ++ ((48 + d) ∷ [])) (written-enough (v * 10 + d) v v (omega arith) (omega arith))
 
+-- the last digit, and the others; they need room for one byte more than those of the tenth
+pub digits-high : (n : ℕ) → 10 ≤ n → digits n ≡ digits (n / 10) ++ ((48 + n % 10) ∷ [])
+digits-high n h =
+    let e : n ≡ n / 10 * 10 + n % 10 = omega arith in
+    ap digits e ∙ digits-more (n / 10) (n % 10) (omega arith) (omega arith)
+
+pub digits-room : (n : ℕ) → 10 ≤ n → length (digits n) ≡ length (digits (n / 10)) + 1
+digits-room n h = ap length (digits-high n h) ∙ length-append (digits (n / 10)) _
+
 -- every number is a digit, or has one digit after those of a smaller one
 by-digits : (P : ℕ → Type 0) → ((d : ℕ) → d < 10 → P d)
     → ((v d : ℕ) → 1 ≤ v → d < 10 → P v → P (v * 10 + d)) → (n : ℕ) → P n

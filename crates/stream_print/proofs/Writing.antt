@@ -1,14 +1,14 @@
 -- Text written piece after piece, digits, and the lines of answers.
 use mathlib.Core.Path.{_≡_, refl, ap, _∙_}
 use mathlib.Core.List.{List, [], _∷_, _++_, append-assoc}
-use Prim.Native.Nat.{ℕ, _+_, _*_, _/_, _%_, _^_, _≤_, _<_}
+use Prim.Native.Nat.{ℕ, _+_, _^_, _≤_, _<_}
 use native.Mathlib.Numerals.{add-one}
 use native.Mathlib.Omega.{arith}
 use lib.ListN.{length, take, set, length-append, length-set}
 use lib.Seq.{take-suc-set}
 use Rattle.request.specs.Text.{bytes}
 use Rattle.request.specs.Write.{digits, joined}
-use Rattle.request.proofs.Digits.{digits-more, digits-length}
+use Rattle.request.proofs.Digits.{digits-length}
 use Rattle.ledger.specs.declared.Answer.the-variants.{Accepted, Counted, Refused}
 use Rattle.ledger.specs.Calls.{told}
 use Rattle.stream_print.specs.Printed.{line, Room, Wrote}
@@ -29,15 +29,6 @@ wrote-then {o} {x} {o₁} {y} {at = at} v w = record {
 
 pub wrote-as : {o x y o₁ : List ℕ} {at i : ℕ} → x ≡ y → Wrote o at x o₁ i → Wrote o at y o₁ i
 wrote-as {o} {o₁ = o₁} {at = at} {i = i} e w = rw e at w
-
-pub digits-high : (n : ℕ) → 10 ≤ n → digits n ≡ digits (n / 10) ++ ((48 + n % 10) ∷ [])
-digits-high n h =
-    let e : n ≡ n / 10 * 10 + n % 10 = omega arith in
-    ap digits e ∙ digits-more (n / 10) (n % 10) (omega arith) (omega arith)
-
--- so they need room for one byte more than those of the tenth
-pub digits-room : (n : ℕ) → 10 ≤ n → length (digits n) ≡ length (digits (n / 10)) + 1
-digits-room n h = ap length (digits-high n h) ∙ length-append (digits (n / 10)) _
 
 pub digits-few : (n : ℕ) → n < 2 ^ 32 → length (digits n) ≤ 10
 digits-few n h = digits-length n 9 (omega arith)

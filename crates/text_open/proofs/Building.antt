@@ -263,7 +263,7 @@ opened-refused l b {n} e =
     }
 
 -- a text in its form that does not pass
-pub fails-51 : {b : List ℕ} {h : Heading} → Formed b h → passing b ≡ none
+pub fails-51 : {b : List ℕ} → Formed b → passing b ≡ none
     → first (openChecks b) ≡ some (record { number = 51; step = 0 })
 unfolding passing sound openChecks first _if_ andThen
 fails-51 {b} f e =

@@ -141,11 +141,10 @@ fn refusal(text: &[u8]) -> u32
     requires { ⌜ passing (now text) ≡ none ⌝ }
     ensures { λ r. ⌜ RefusalIs (now (text .entry)) r ⌝ }
 {
-    let form = text_form(text);
-    let TextRead::Read(_) = form else {
-        return 50;
-    };
-    51
+    if text_form(text) {
+        return 51;
+    }
+    50
 }
 
 // Opening: 50, 51, or the text's ledger takes the place of whatever the till's block held, and the answer is the text's

@@ -6,12 +6,11 @@ use mathlib.Core.Bool.{true, false}
 use Prim.Native.Nat.{ℕ, zero, suc, _+_, _-_, _≤_, _<_}
 use native.Mathlib.Omega.{arith}
 use lib.Dec.{ltb}
-use lib.ListN.{length}
 use borrow.Author.Tests.{lt-ltb, le-ltb}
 use Rattle.logic.specs.Choice.{pick}
 use Rattle.request.specs.Text.{andThen}
 use Rattle.request.specs.Reader.{Reader}
-use Rattle.request.proofs.Gives.{Gives, nothing, just, given, gives-then}
+use Rattle.request.proofs.Gives.{Gives, nothing, just}
 use Rattle.ledger.specs.declared.Credential.{Credential}
 use Rattle.ledger.proofs.Answers.{some-none, some-inj}
 use Rattle.snapshot.specs.Snapshot.{credentialLine, rising}
@@ -126,13 +125,3 @@ none-risen lo p e = by-test (rising lo (p .0))
 pub whatever : {A : Type 0} (o : Option A) → Gives (λ a. Unit {0}) o
 whatever none = nothing
 whatever (some a) = just tt
-
--- as many as were asked for
-pub lines-length : {A : Type 0} (n : ℕ) (r : Reader A) (b : List ℕ) {xs : List A} {c : List ℕ}
-    → readLines n r b ≡ some (xs, c) → length xs ≡ n
-unfolding readLines
-lines-length {A} n r b e = given {P = λ p. length (p .0) ≡ n} (go n b) e
-  where
-    go : (n : ℕ) (b : List ℕ) → Gives {A = List A × List ℕ} (λ p. length (p .0) ≡ n) (readLines n r b)
-    go zero b = just refl
-    go (suc n) b = gives-then (whatever (readLine r b)) (λ p u. gives-then (go n (p .1)) (λ q h. just (ap suc h)))

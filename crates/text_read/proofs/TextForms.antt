@@ -108,14 +108,10 @@ module _ (b : List ℕ) where
             broken-text (read-so-far
             ∙ rw (allLines, risen .are, andThen, ne-eqb (length (drop j b)) 0 (λ e. omega (arith, length-drop j b))))
 
-        pub text-formed : length b ≤ j → Formed b h
+        pub text-formed : length b ≤ j → Formed b
         unfolding allLines andThen
         text-formed l = record {
           ledger = ledgerFrom (titleAt h) (passed .values) (risen .live);
-          rest = drop i b;
           reads = read-so-far ∙ rw (allLines, risen .are, andThen, past b j l);
-          next = refl;
           rises = risen .rises;
-          lines = passed .are;
-          live = risen .are ∙ rw (past b j l);
         }

@@ -1,8 +1,8 @@
 -- What the code's answers say of the bytes of a text, by `snapshotOf` and `openChecks` (crate snapshot, Snapshot.antt).
 use mathlib.Core.Path.{_≡_}
-use mathlib.Core.List.{List, []}
+use mathlib.Core.List.{List}
 use mathlib.Core.Option.{Option, none, some}
-use mathlib.Core.Bool.{true}
+use mathlib.Core.Bool.{Bool, true, false}
 use Prim.Native.Nat.{ℕ, zero, suc, _≤_}
 use lib.Dec.{ltb}
 use lib.ListN.{length, drop}
@@ -11,14 +11,13 @@ use Rattle.request.specs.declared.Kind.{Kind}
 use Rattle.request.specs.Range.{formulaNumber}
 use Rattle.request.specs.Text.{andThen}
 use Rattle.request.specs.Reader.{Reader, return, _>>=_}
-use Rattle.request.specs.Read.{number, interval, formulaLine}
+use Rattle.request.specs.Read.{number, interval}
 use Rattle.ledger.specs.declared.Credential.{Credential}
 use Rattle.ledger.specs.Ledger.{Ledger}
 use Rattle.ledger.specs.Checks.{first}
 use Rattle.snapshot.specs.Snapshot.{Title, longestText, titleLine, credentialLine, snapshotOf, rising, openChecks}
 use Rattle.snapshot.specs.InForm.{TitleInRange}
 use Rattle.read_formulas.specs.Line.{readLine}
-use Rattle.read_rest.specs.LinesRead.{readLines}
 use Rattle.text_read.specs.declared.Heading.{Heading}
 use Rattle.text_read.specs.declared.TextRead.{TextRead}
 use Rattle.text_read.specs.declared.TextRead.the-variants.{Read, Broken}
@@ -70,16 +69,12 @@ abbrev pub TitleIs : List ℕ → TextRead → Type 0
 TitleIs b (Read h) = Titled b h
 TitleIs b Broken = Fails50 b
 
--- A text in its form, serials rising: the ledger that it says, and where its lines stand
-pub record Formed (b : List ℕ) (h : Heading) : Type 0 where
+-- A text in its form, serials rising: the ledger that it says
+pub record Formed (b : List ℕ) : Type 0 where
   pub ledger : Ledger
-  pub rest : List ℕ
   pub reads : snapshotOf b ≡ some ledger
-  pub next : ledger .next ≡ h .next
   pub rises : rising 0 (ledger .live) ≡ true
-  pub lines : readLines (h .lines) formulaLine (drop (h .body) b) ≡ some (ledger .lines, rest)
-  pub live : readLines (h .live) credentialLine rest ≡ some (ledger .live, [])
 
-abbrev pub FormIs : List ℕ → TextRead → Type 0
-FormIs b (Read h) = Formed b h
-FormIs b Broken = Fails50 b
+abbrev pub FormIs : List ℕ → Bool → Type 0
+FormIs b true = Formed b
+FormIs b false = Fails50 b

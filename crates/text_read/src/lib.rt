@@ -189,24 +189,24 @@ pub fn text_title(text: &[u8]) -> TextRead
     read_title(text)
 }
 
-// 50, or the text has its form: what its first line announces follows, serials rising, and nothing after it.
-pub fn text_form(text: &[u8]) -> TextRead
+// Whether the text has its form (else 50): what its first line announces follows, serials rising, and nothing after it.
+pub fn text_form(text: &[u8]) -> bool
     ensures { λ r. ⌜ FormIs (now (text .entry)) r ⌝ }
 {
     let title = text_title(text);
     let TextRead::Read(h) = title else {
-        return TextRead::Broken;
+        return false;
     };
     let a = past_formulas(text, h.body, h.lines);
     let Prefix::Past(i) = a else {
-        return TextRead::Broken;
+        return false;
     };
     let b = past_credentials(text, i, h.live);
     let Prefix::Past(j) = b else {
-        return TextRead::Broken;
+        return false;
     };
     if (j as usize) < text.len() {
-        return TextRead::Broken;
+        return false;
     }
-    TextRead::Read(h)
+    true
 }

@@ -1,22 +1,14 @@
 -- The digits of a number: how many there are, and the last two.
-use mathlib.Core.Path.{_≡_, refl, sym, ap, _∙_}
+use mathlib.Core.Path.{_≡_, refl, ap, _∙_}
 use mathlib.Core.List.{List, [], _∷_, _++_, append-assoc}
-use Prim.Native.Nat.{ℕ, zero, suc, _+_, _*_, _/_, _%_, _^_, _≤_, _<_}
+use Prim.Native.Nat.{ℕ, zero, suc, _+_, _/_, _%_, _^_, _≤_, _<_}
 use native.Mathlib.Omega.{arith}
 use native.Mathlib.Decide.{decLt}
 use native.Mathlib.Nat.{pow-suc}
-use lib.ListN.{length, length-append}
+use lib.ListN.{length}
 use Rattle.request.specs.Write.{digits}
-use Rattle.request.proofs.Digits.{digits-one, digits-more, digits-length}
+use Rattle.request.proofs.Digits.{digits-one, digits-high, digits-room, digits-length}
 use Rattle.text_write.specs.Put.{Measured}
-
-digits-high : (n : ℕ) → 10 ≤ n → digits n ≡ digits (n / 10) ++ ((48 + n % 10) ∷ [])
-digits-high n h =
-    let e : n ≡ n / 10 * 10 + n % 10 = omega arith in
-    ap digits e ∙ digits-more (n / 10) (n % 10) (omega arith) (omega arith)
-
-digits-room : (n : ℕ) → 10 ≤ n → length (digits n) ≡ length (digits (n / 10)) + 1
-digits-room n h = ap length (digits-high n h) ∙ length-append (digits (n / 10)) _
 
 ten-power : (k : ℕ) → 1 ≤ 10 ^ k
 ten-power zero = omega arith

@@ -22,6 +22,10 @@ returns-2 : tie.Need-returns-2
 unfolding balanced
 returns-2 c = c .neutral-within .ensures .all
 
+neutral-within-requires : tie.Need-neutral-within-requires
+neutral-within-requires c κs =
+    let p = c .before .before .pre in (p, p, λ e. absurd (no-truth e))
+
 pub row-balanced-spec : {M : Type 1} → statement M
 row-balanced-spec =
     tie.close
@@ -30,5 +34,5 @@ row-balanced-spec =
     (λ c. search needs)
     balanced-at-requires
     returns
-    (λ c κs. let p = c .before .before .pre in (p, p, λ e. absurd (no-truth e)))
+    neutral-within-requires
     returns-2)

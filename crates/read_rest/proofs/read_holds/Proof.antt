@@ -22,6 +22,31 @@ Inv-loop s at count serials₀ i₀ k₀ serials i k =
 abbrev μ-loop : tie.MeasureT-loop
 μ-loop s at count serials₀ i₀ k₀ serials i k = count - k
 
+loop-again : tie.Need-loop-again Inv-loop μ-loop
+loop-again c =
+    let l = c .before .before .before .before in (
+      search needs,
+      (
+        simp length-set (l .before .loop .inv .1 .0),
+        l .before .loop .inv .1 .1 ∙ lines-turn _ _ _ _ (l .loop-test .taken)
+            (seen (holdOf _) (c .before .before .before .read-hold .ensures) (c .before .h .given .1)) _
+            ∙ take-next (l .before .loop .serials) (l .before .loop .k) _ _
+            (omega (
+              arith,
+              l .before .loop .inv .1 .0,
+              l .loop-test .taken,
+              l .before .before .before .before .before .pre .few,
+            )),
+      ),
+    )
+
+returns-2 : tie.Need-returns-2 Inv-loop μ-loop
+returns-2 c = (
+  take-here _ _ _ _ (c .before .loop .inv .0) (c .loop-test .left)
+      ∙ sym (c .before .loop .inv .1 .1 ∙ lines-end _ _ _ _ _ (c .loop-test .left)),
+  c .before .loop .inv .1 .0,
+)
+
 pub read-holds-spec : {M : Type 1} → statement M
 read-holds-spec =
     tie.close
@@ -43,23 +68,5 @@ read-holds-spec =
     (λ c. search needs)
     (λ c. search needs)
     (λ c. search needs)
-    (λ c. let l = c .before .before .before .before in (
-      search needs,
-      (
-        simp length-set (l .before .loop .inv .1 .0),
-        l .before .loop .inv .1 .1 ∙ lines-turn _ _ _ _ (l .loop-test .taken)
-            (seen (holdOf _) (c .before .before .before .read-hold .ensures) (c .before .h .given .1)) _
-            ∙ take-next (l .before .loop .serials) (l .before .loop .k) _ _
-            (omega (
-              arith,
-              l .before .loop .inv .1 .0,
-              l .loop-test .taken,
-              l .before .before .before .before .before .pre .few,
-            )),
-      ),
-    ))
-    (λ c. (
-      take-here _ _ _ _ (c .before .loop .inv .0) (c .loop-test .left)
-          ∙ sym (c .before .loop .inv .1 .1 ∙ lines-end _ _ _ _ _ (c .loop-test .left)),
-      c .before .loop .inv .1 .0,
-    )))
+    loop-again
+    returns-2)

@@ -14,6 +14,25 @@ Inv-loop s count rows₀ at₀ k₀ n₀ x₀ rows at k n x = Reading s count ro
 abbrev μ-loop : tie.MeasureT-loop
 μ-loop s count rows₀ at₀ k₀ n₀ x₀ rows at k n x = count - k
 
+loop-again : tie.Need-loop-again Inv-loop μ-loop
+loop-again c =
+    let e = c .before .before in
+    let d = e .before .before .before in
+    let l = d .before .before .before in
+    next-reading (l .before .loop .inv) _ _ _ _ _ (l .loop-test .taken)
+    (l .before .before .before .before .before .pre .few)
+    (seen (stepLineOf _) (d .before .before .read-step .ensures) (d .line .given .1)) (c .put-step .ensures)
+    (e .before .reversed-count .ensures) (e .broken-count .ensures)
+    (search needs)
+
+returns-2 : tie.Need-returns-2 Inv-loop μ-loop
+returns-2 c =
+    more-bytes (c .before .before .loop .inv) (c .before .loop-test .left) (c .if1 .taken)
+
+returns-3 : tie.Need-returns-3 Inv-loop μ-loop
+returns-3 c =
+    all-lines-read (c .before .before .loop .inv) (c .before .loop-test .left) (c .if1 .left)
+
 pub read-steps-spec : {M : Type 1} → statement M
 read-steps-spec =
     tie.close
@@ -35,14 +54,7 @@ read-steps-spec =
     (λ c κs. search needs)
     (λ c. search needs)
     (λ c. search needs)
-    (λ c. let e = c .before .before in
-    let d = e .before .before .before in
-    let l = d .before .before .before in
-    next-reading (l .before .loop .inv) _ _ _ _ _ (l .loop-test .taken)
-    (l .before .before .before .before .before .pre .few)
-    (seen (stepLineOf _) (d .before .before .read-step .ensures) (d .line .given .1)) (c .put-step .ensures)
-    (e .before .reversed-count .ensures) (e .broken-count .ensures)
-    (search needs))
+    loop-again
     (λ c. search needs)
-    (λ c. more-bytes (c .before .before .loop .inv) (c .before .loop-test .left) (c .if1 .taken))
-    (λ c. all-lines-read (c .before .before .loop .inv) (c .before .loop-test .left) (c .if1 .left)))
+    returns-2
+    returns-3)

@@ -6,8 +6,8 @@ use lib.ListN.{length}
 use borrow.Author.Needs.{needs}
 use borrow.Fn.Kinds.{In}
 use borrow.Fn.PlainCycle.{Measures, is, falls, and}
-use Rattle.request.proofs.Digits.{digits-one}
-use Rattle.stream_print.proofs.Writing.{wrote-then, wrote-as, digits-high, digits-room}
+use Rattle.request.proofs.Digits.{digits-one, digits-high, digits-room}
+use Rattle.stream_print.proofs.Writing.{wrote-then, wrote-as}
 use Rattle.stream_print.proofs.put_digits.Reads as put-digits
 use Rattle.stream_print.proofs.put_digits.Kinds as put-digits-kinds
 use Rattle.stream_print.proofs.+put_digits.Lts-put_digits as put-digits-lts

@@ -7,6 +7,10 @@ use Rattle.ledger.specs.Statements.{IsAccepted}
 use Rattle.text_open.proofs.accepted.Statement.{statement}
 use Rattle.text_open.proofs.accepted.Tie as tie
 
+returns-3 : tie.Need-returns-3
+returns-3 c h =
+    subst (λ (a : Answer). IsAccepted (told a)) (c .before .a3 .given .1) h
+
 pub accepted-spec : {M : Type 1} → statement M
 accepted-spec =
     tie.close
@@ -16,4 +20,4 @@ accepted-spec =
     (λ c. search needs)
     (λ c. subst (λ (a : Answer). IsAccepted (told a)) (sym (c .before .a .given .1)) tt)
     (λ c. subst (λ (a : Answer). IsAccepted (told a)) (sym (c .before .a2 .given .1)) tt)
-    (λ c h. subst (λ (a : Answer). IsAccepted (told a)) (c .before .a3 .given .1) h))
+    returns-3)

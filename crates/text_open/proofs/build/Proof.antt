@@ -9,6 +9,32 @@ use Rattle.text_open.proofs.Building.{built}
 use Rattle.text_open.proofs.build.Statement.{statement}
 use Rattle.text_open.proofs.build.Tie as tie
 
+take-credentials-requires : tie.Need-take-credentials-requires
+take-credentials-requires c κs =
+    let x = c .before .before in
+    let y = x .before .before .take-lines .ensures in
+    let s = x .before .before .before .before in
+    let t = s .before .before .before in
+    let h = subst (TitleIs _) (t .title .given .1) (t .before .before .text-title .ensures) in
+    live-asked h (x .l .given .0 .0) (s .start .ensures) (y .1)
+    (seen (linesLeft _ _) (y .0) (x .l .given .1))
+
+returns-4 : tie.Need-returns-4
+returns-4 c =
+    let m = c .before .before in
+    let x = m .before .before .before .before .before in
+    let y = x .before .before .take-lines .ensures in
+    let s = x .before .before .before .before in
+    let t = s .before .before .before in
+    let h = subst (TitleIs _) (t .title .given .1) (t .before .before .text-title .ensures) in
+    sym (left-over h (x .l .given .0 .0) (s .start .ensures) (y .1)
+    (seen (linesLeft _ _) (y .0) (x .l .given .1)) (m .m .given .0 .0)
+    (seen (linesLeft _ _) (m .before .before .take-credentials .ensures .0) (m .m .given .1)) (c .if1 .taken))
+
+set-next-requires : tie.Need-set-next-requires
+set-next-requires c κs =
+    c .before .before .before .before .before .take-credentials .ensures .1
+
 pub build-spec : {M : Type 1} → statement M
 build-spec =
     tie.close
@@ -28,13 +54,7 @@ build-spec =
     let h = subst (TitleIs _) (t .title .given .1) (t .before .before .text-title .ensures) in
     sym (lines-bad h (s .start .ensures)
     (seen (linesLeft _ _) (c .before .before .take-lines .ensures .0) (c .enum-told2 .given .1))))
-    (λ c κs. let x = c .before .before in
-    let y = x .before .before .take-lines .ensures in
-    let s = x .before .before .before .before in
-    let t = s .before .before .before in
-    let h = subst (TitleIs _) (t .title .given .1) (t .before .before .text-title .ensures) in
-    live-asked h (x .l .given .0 .0) (s .start .ensures) (y .1)
-    (seen (linesLeft _ _) (y .0) (x .l .given .1)))
+    take-credentials-requires
     (λ c. search needs)
     (λ c. search needs)
     (λ c. let x = c .before .before .before .before .before in
@@ -46,16 +66,8 @@ build-spec =
     (seen (linesLeft _ _) (y .0) (x .l .given .1))
     (seen (linesLeft _ _) (c .before .before .take-credentials .ensures .0) (c .enum-told3 .given .1))))
     (λ c. search needs)
-    (λ c. let m = c .before .before in
-    let x = m .before .before .before .before .before in
-    let y = x .before .before .take-lines .ensures in
-    let s = x .before .before .before .before in
-    let t = s .before .before .before in
-    let h = subst (TitleIs _) (t .title .given .1) (t .before .before .text-title .ensures) in
-    sym (left-over h (x .l .given .0 .0) (s .start .ensures) (y .1)
-    (seen (linesLeft _ _) (y .0) (x .l .given .1)) (m .m .given .0 .0)
-    (seen (linesLeft _ _) (m .before .before .take-credentials .ensures .0) (m .m .given .1)) (c .if1 .taken)))
-    (λ c κs. c .before .before .before .before .before .take-credentials .ensures .1)
+    returns-4
+    set-next-requires
     (λ c. let m = c .before .before .before .before in
     let x = m .before .before .before .before .before in
     let y = x .before .before .take-lines .ensures in

@@ -7,6 +7,15 @@ use Rattle.text_open.proofs.Building.{text-short, opened-refused, opene
 use Rattle.text_open.proofs.open.Statement.{statement}
 use Rattle.text_open.proofs.open.Tie as tie
 
+returns : tie.Need-returns
+returns c =
+    opened-refused _ _ (c .refusal .ensures)
+
+returns-2 : tie.Need-returns-2
+returns-2 c =
+    let x = subst (Built _ _) (c .before .enum-told .given .1) (c .before .before .before .build .ensures) in
+    opened _ _ _ (x .0) (x .1)
+
 pub open-spec : {M : Type 1} → statement M
 open-spec =
     tie.close
@@ -15,11 +24,10 @@ open-spec =
     (λ c. search needs)
     (λ c. search needs)
     (λ c κs. subst (Built _ _) (c .enum-told2 .given .1) (c .before .before .build .ensures))
-    (λ c. opened-refused _ _ (c .refusal .ensures))
+    returns
     (λ c. omega (
       arith,
       text-short _ (subst (Built _ _) (c .before .enum-told .given .1)
           (c .before .before .before .build .ensures) .0),
     ))
-    (λ c. let x = subst (Built _ _) (c .before .enum-told .given .1) (c .before .before .before .build .ensures) in
-    opened _ _ _ (x .0) (x .1)))
+    returns-2)

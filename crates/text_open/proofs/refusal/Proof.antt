@@ -6,13 +6,12 @@ use Rattle.text_open.proofs.Building.{fails-51}
 use Rattle.text_open.proofs.refusal.Statement.{statement}
 use Rattle.text_open.proofs.refusal.Tie as tie
 
+returns : tie.Need-returns
+returns c = fails-51 (subst (FormIs _) (c .if1 .taken) (c .before .text-form .ensures))
+    (c .before .before .before .pre)
+
+returns-2 : tie.Need-returns-2
+returns-2 c = subst (FormIs _) (c .if1 .left) (c .before .text-form .ensures)
+
 pub refusal-spec : {M : Type 1} → statement M
-refusal-spec =
-    tie.close
-    (tie.spec
-    (λ c κs. search needs)
-    (λ c. search needs)
-    (λ c. search needs)
-    (λ c. subst (FormIs _) (c .enum-told2 .given .1) (c .before .before .text-form .ensures))
-    (λ c. fails-51 (subst (FormIs _) (c .enum-told .given .1) (c .before .before .text-form .ensures))
-    (c .before .before .before .before .pre)))
+refusal-spec = tie.close (tie.spec (λ c κs. search needs) returns returns-2)

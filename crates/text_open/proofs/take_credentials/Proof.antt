@@ -18,6 +18,14 @@ Inv-loop spare₀ text at count next i₀ k₀ spare i k =
 abbrev μ-loop : tie.MeasureT-loop
 μ-loop spare₀ text at count next i₀ k₀ spare i k = count - k
 
+returns : tie.Need-returns Inv-loop μ-loop
+returns c =
+    let l = c .before .before .before in (
+      no-credential (l .before .loop .inv) (l .loop-test .taken)
+          (seen (credentialFrom _) (c .before .before .credential-line .ensures) (c .enum-told .given .1)),
+      l .before .loop .inv .asked .raisable,
+    )
+
 pub take-credentials-spec : {M : Type 1} → statement M
 take-credentials-spec =
     tie.close
@@ -28,11 +36,7 @@ take-credentials-spec =
     (λ c κs. c .before .loop .inv .asked .short)
     (λ c. search needs)
     (λ c. search needs)
-    (λ c. let l = c .before .before .before in (
-      no-credential (l .before .loop .inv) (l .loop-test .taken)
-          (seen (credentialFrom _) (c .before .before .credential-line .ensures) (c .enum-told .given .1)),
-      l .before .loop .inv .asked .raisable,
-    ))
+    returns
     (λ c κs. let l = c .before .before .before .before .before in
     credential-asked (l .before .loop .inv) (l .loop-test .taken) _
     (seen (credentialFrom _) (c .before .before .before .before .credential-line .ensures)

@@ -19,6 +19,14 @@ Inv-loop spare₀ text at count i₀ k₀ spare i k =
 abbrev μ-loop : tie.MeasureT-loop
 μ-loop spare₀ text at count i₀ k₀ spare i k = count - k
 
+returns : tie.Need-returns Inv-loop μ-loop
+returns c =
+    let l = c .before .before .before in (
+      no-line (l .before .loop .inv) (l .loop-test .taken)
+          (row-none _ (seen (formulaOf _) (c .before .before .formula-line .ensures) (c .enum-told .given .1))),
+      l .before .loop .inv .asked .good,
+    )
+
 pub take-lines-spec : {M : Type 1} → statement M
 take-lines-spec =
     tie.close
@@ -29,11 +37,7 @@ take-lines-spec =
     (λ c κs. c .before .loop .inv .asked .short)
     (λ c. search needs)
     (λ c. search needs)
-    (λ c. let l = c .before .before .before in (
-      no-line (l .before .loop .inv) (l .loop-test .taken)
-          (row-none _ (seen (formulaOf _) (c .before .before .formula-line .ensures) (c .enum-told .given .1))),
-      l .before .loop .inv .asked .good,
-    ))
+    returns
     (λ c κs. let l = c .before .before .before .before .before in
     line-asked (l .before .loop .inv) (l .loop-test .taken) _
     (row-read _ (seen (formulaOf _) (c .before .before .before .before .formula-line .ensures)

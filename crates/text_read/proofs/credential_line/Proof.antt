@@ -8,6 +8,21 @@ use Rattle.text_read.proofs.TextLines.{serial-line, kind-linear, kind-u
 use Rattle.text_read.proofs.credential_line.Statement.{statement}
 use Rattle.text_read.proofs.credential_line.Tie as tie
 
+returns : tie.Need-returns
+unfolding bytes
+returns c =
+    sym (serial-line _ ∙ then-no _ (seen (decimalOf _) (c .before .before .number .ensures)
+    (c .enum-told .given .1)))
+
+returns-2 : tie.Need-returns-2
+unfolding bytes
+returns-2 c =
+    let d = c .before .before .before .before in
+    let e = d .before .before .before in
+    c .credential-rest .ensures ∙ sym (
+    serial-line _ ∙ then-some _ (seen (decimalOf _) (e .before .before .number .ensures) (e .f .given .1))
+    ∙ kind-linear _ _ _ (seen (pastOf _) (d .past .ensures) (c .before .before .a .given .1)))
+
 pub credential-line-spec : {M : Type 1} → statement M
 unfolding bytes
 credential-line-spec =
@@ -16,17 +31,12 @@ credential-line-spec =
     (λ c κs. search needs)
     (λ c. search needs)
     (λ c. search needs)
-    (λ c. sym (serial-line _ ∙ then-no _ (seen (decimalOf _) (c .before .before .number .ensures)
-    (c .enum-told .given .1))))
+    returns
     (λ c. search needs)
     (λ c κs. search needs)
     (λ c. search needs)
     (λ c κs. search needs)
-    (λ c. let d = c .before .before .before .before in
-    let e = d .before .before .before in
-    c .credential-rest .ensures ∙ sym (
-    serial-line _ ∙ then-some _ (seen (decimalOf _) (e .before .before .number .ensures) (e .f .given .1))
-    ∙ kind-linear _ _ _ (seen (pastOf _) (d .past .ensures) (c .before .before .a .given .1))))
+    returns-2
     (λ c. search needs)
     (λ c. search needs)
     (λ c κs. search needs)

@@ -8,6 +8,13 @@ use Rattle.text_read.proofs.TextLines.{kind-line}
 use Rattle.text_read.proofs.credential_rest.Statement.{statement}
 use Rattle.text_read.proofs.credential_rest.Tie as tie
 
+returns-3 : tie.Need-returns-3
+returns-3 c =
+    let d = c .before .before .before .before in
+    sym (kind-line _ _ _ ∙ then-some _ (seen (decimalOf _) (d .before .before .before .number .ensures)
+    (d .before .f .given .1))
+    ∙ then-some _ (seen (spanOf _) (c .before .before .before .interval .ensures) (c .before .g .given .1)))
+
 pub credential-rest-spec : {M : Type 1} → statement M
 credential-rest-spec =
     tie.close
@@ -23,7 +30,4 @@ credential-rest-spec =
     (λ c. let d = c .before .before .before .before in
     sym (kind-line _ _ _ ∙ then-some _ (seen (decimalOf _) (d .before .before .number .ensures) (d .f .given .1))
     ∙ then-no _ (seen (spanOf _) (c .before .before .interval .ensures) (c .enum-told2 .given .1))))
-    (λ c. let d = c .before .before .before .before in
-    sym (kind-line _ _ _ ∙ then-some _ (seen (decimalOf _) (d .before .before .before .number .ensures)
-    (d .before .f .given .1))
-    ∙ then-some _ (seen (spanOf _) (c .before .before .before .interval .ensures) (c .before .g .given .1)))))
+    returns-3)

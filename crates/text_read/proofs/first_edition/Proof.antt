@@ -7,6 +7,34 @@ use Rattle.text_read.proofs.TextLines.{edition-line}
 use Rattle.text_read.proofs.first_edition.Statement.{statement}
 use Rattle.text_read.proofs.first_edition.Tie as tie
 
+returns : tie.Need-returns
+returns c =
+    sym (edition-line _ ∙ then-no _ (seen (decimalOf _) (c .before .before .number .ensures)
+    (c .enum-told .given .1)))
+
+returns-2 : tie.Need-returns-2
+returns-2 c =
+    let d = c .before .before .before .before in
+    sym (edition-line _ ∙ then-some _ (seen (decimalOf _) (d .before .before .number .ensures) (d .f .given .1))
+    ∙ then-no _ (seen (decimalOf _) (c .before .before .number2 .ensures) (c .enum-told2 .given .1)))
+
+returns-3 : tie.Need-returns-3
+returns-3 c =
+    let d = c .before .before .before .before in
+    let e = d .before .before .before .before in
+    sym (edition-line _ ∙ then-some _ (seen (decimalOf _) (e .before .before .number .ensures) (e .f .given .1))
+    ∙ then-some _ (seen (decimalOf _) (d .before .before .number2 .ensures) (d .g .given .1))
+    ∙ then-no _ (seen (decimalOf _) (c .before .before .number3 .ensures) (c .enum-told3 .given .1)))
+
+returns-4 : tie.Need-returns-4
+returns-4 c =
+    let d = c .before .before .before .before in
+    let e = d .before .before .before .before in
+    sym (edition-line _ ∙ then-some _ (seen (decimalOf _) (e .before .before .before .number .ensures)
+    (e .before .f .given .1))
+    ∙ then-some _ (seen (decimalOf _) (d .before .before .before .number2 .ensures) (d .before .g .given .1))
+    ∙ then-some _ (seen (decimalOf _) (c .before .before .before .number3 .ensures) (c .before .h .given .1)))
+
 pub first-edition-spec : {M : Type 1} → statement M
 first-edition-spec =
     tie.close
@@ -14,25 +42,13 @@ first-edition-spec =
     (λ c κs. search needs)
     (λ c. search needs)
     (λ c. search needs)
-    (λ c. sym (edition-line _ ∙ then-no _ (seen (decimalOf _) (c .before .before .number .ensures)
-    (c .enum-told .given .1))))
+    returns
     (λ c κs. search needs)
     (λ c. search needs)
     (λ c. search needs)
-    (λ c. let d = c .before .before .before .before in
-    sym (edition-line _ ∙ then-some _ (seen (decimalOf _) (d .before .before .number .ensures) (d .f .given .1))
-    ∙ then-no _ (seen (decimalOf _) (c .before .before .number2 .ensures) (c .enum-told2 .given .1))))
+    returns-2
     (λ c κs. search needs)
     (λ c. search needs)
     (λ c. search needs)
-    (λ c. let d = c .before .before .before .before in
-    let e = d .before .before .before .before in
-    sym (edition-line _ ∙ then-some _ (seen (decimalOf _) (e .before .before .number .ensures) (e .f .given .1))
-    ∙ then-some _ (seen (decimalOf _) (d .before .before .number2 .ensures) (d .g .given .1))
-    ∙ then-no _ (seen (decimalOf _) (c .before .before .number3 .ensures) (c .enum-told3 .given .1))))
-    (λ c. let d = c .before .before .before .before in
-    let e = d .before .before .before .before in
-    sym (edition-line _ ∙ then-some _ (seen (decimalOf _) (e .before .before .before .number .ensures)
-    (e .before .f .given .1))
-    ∙ then-some _ (seen (decimalOf _) (d .before .before .before .number2 .ensures) (d .before .g .given .1))
-    ∙ then-some _ (seen (decimalOf _) (c .before .before .before .number3 .ensures) (c .before .h .given .1)))))
+    returns-3
+    returns-4)

@@ -17,6 +17,13 @@ Inv-loop s at count i₀ last₀ k₀ i last k =
 abbrev μ-loop : tie.MeasureT-loop
 μ-loop s at count i₀ last₀ k₀ i last k = count - k
 
+returns-2 : tie.Need-returns-2 Inv-loop μ-loop
+returns-2 c =
+    let l = c .before .before .before .before .before .before in
+    sym (l .before .loop .inv ∙ rising-falls _ _ _ _ (l .loop-test .taken)
+    (seen (credentialFrom _) (c .before .before .before .before .before .credential-line .ensures)
+    (c .before .before .before .f .given .1)) (c .if1 .taken))
+
 pub past-credentials-spec : {M : Type 1} → statement M
 past-credentials-spec =
     tie.close
@@ -30,10 +37,7 @@ past-credentials-spec =
     (λ c. let l = c .before .before .before in
     sym (l .before .loop .inv ∙ rising-broken _ _ _ _ (l .loop-test .taken)
     (seen (credentialFrom _) (c .before .before .credential-line .ensures) (c .enum-told .given .1))))
-    (λ c. let l = c .before .before .before .before .before .before in
-    sym (l .before .loop .inv ∙ rising-falls _ _ _ _ (l .loop-test .taken)
-    (seen (credentialFrom _) (c .before .before .before .before .before .credential-line .ensures)
-    (c .before .before .before .f .given .1)) (c .if1 .taken)))
+    returns-2
     (λ c. search needs)
     (λ c. search needs)
     (λ c. let l = c .before .before .before .before .before .before in

@@ -19,6 +19,12 @@ Inv-loop s at count i₀ k₀ i k =
 abbrev μ-loop : tie.MeasureT-loop
 μ-loop s at count i₀ k₀ i k = count - k
 
+returns : tie.Need-returns Inv-loop μ-loop
+returns c =
+    let l = c .before .before .before in
+    sym (l .before .loop .inv ∙ past-broken _ _ _ _ (l .loop-test .taken)
+    (row-none _ (seen (formulaOf _) (c .before .before .formula-line .ensures) (c .enum-told .given .1))))
+
 pub past-formulas-spec : {M : Type 1} → statement M
 past-formulas-spec =
     tie.close
@@ -29,9 +35,7 @@ past-formulas-spec =
     (λ c κs. search needs)
     (λ c. search needs)
     (λ c. search needs)
-    (λ c. let l = c .before .before .before in
-    sym (l .before .loop .inv ∙ past-broken _ _ _ _ (l .loop-test .taken)
-    (row-none _ (seen (formulaOf _) (c .before .before .formula-line .ensures) (c .enum-told .given .1)))))
+    returns
     (λ c. search needs)
     (λ c. search needs)
     (λ c. let l = c .before .before .before .before in

@@ -8,6 +8,13 @@ use Rattle.text_read.proofs.TextLines.{title-found, no-title, edition-f
 use Rattle.text_read.proofs.read_title.Statement.{statement}
 use Rattle.text_read.proofs.read_title.Tie as tie
 
+returns-2 : tie.Need-returns-2
+unfolding bytes
+returns-2 c =
+    let d = c .before .before .before .before .before in
+    sym (title-found _ _ (seen (pastOf _) (d .before .before .past .ensures) (d .a .given .1))
+    ∙ no-edition _ (seen (pastOf _) (c .before .before .past2 .ensures) (c .enum-told2 .given .1)))
+
 pub read-title-spec : {M : Type 1} → statement M
 unfolding bytes
 read-title-spec =
@@ -22,9 +29,7 @@ read-title-spec =
     (λ c κs. search needs)
     (λ c. search needs)
     (λ c. search needs)
-    (λ c. let d = c .before .before .before .before .before in
-    sym (title-found _ _ (seen (pastOf _) (d .before .before .past .ensures) (d .a .given .1))
-    ∙ no-edition _ (seen (pastOf _) (c .before .before .past2 .ensures) (c .enum-told2 .given .1))))
+    returns-2
     (λ c κs. search needs)
     (λ c. let d = c .before .before .before .before .before .before .before in
     c .first-edition .ensures ∙ sym (

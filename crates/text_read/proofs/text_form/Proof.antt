@@ -9,6 +9,25 @@ use Rattle.text_read.proofs.TextForms.{no-formulas, no-credentials, lef
 use Rattle.text_read.proofs.text_form.Statement.{statement}
 use Rattle.text_read.proofs.text_form.Tie as tie
 
+returns-3 : tie.Need-returns-3
+returns-3 c =
+    let l = c .before .before .before .before in
+    let t = l .before .before .before .before in
+    no-credentials _ (t .title .given .0 .0) (subst (TitleIs _) (t .title .given .1)
+    (t .before .before .text-title .ensures) .reads) (l .a .given .0 .0)
+    (seen (pastOf _) (l .before .before .past-formulas .ensures) (l .a .given .1))
+    (seen (pastOf _) (c .before .before .past-credentials .ensures) (c .enum-told3 .given .1))
+
+returns-4 : tie.Need-returns-4
+returns-4 c =
+    let l = c .before .before .before .before .before .before in
+    let t = l .before .before .before .before in
+    left-over _ (t .title .given .0 .0) (subst (TitleIs _) (t .title .given .1) (t .before .before .text-title .ensures)
+    .reads) (l .a .given .0 .0)
+    (seen (pastOf _) (l .before .before .past-formulas .ensures) (l .a .given .1)) (c .before .before .b .given .0 .0)
+    (seen (pastOf _) (c .before .before .before .before .past-credentials .ensures) (c .before .before .b .given .1))
+    (c .if1 .taken)
+
 pub text-form-spec : {M : Type 1} → statement M
 text-form-spec =
     tie.close
@@ -32,20 +51,9 @@ text-form-spec =
     omega (arith, subst (TitleIs _) (t .title .given .1) (t .before .before .text-title .ensures) .short))
     (λ c. search needs)
     (λ c. search needs)
-    (λ c. let l = c .before .before .before .before in
-    let t = l .before .before .before .before in
-    no-credentials _ (t .title .given .0 .0) (subst (TitleIs _) (t .title .given .1)
-    (t .before .before .text-title .ensures) .reads) (l .a .given .0 .0)
-    (seen (pastOf _) (l .before .before .past-formulas .ensures) (l .a .given .1))
-    (seen (pastOf _) (c .before .before .past-credentials .ensures) (c .enum-told3 .given .1)))
+    returns-3
     (λ c. search needs)
-    (λ c. let l = c .before .before .before .before .before .before in
-    let t = l .before .before .before .before in
-    left-over _ (t .title .given .0 .0) (subst (TitleIs _) (t .title .given .1) (t .before .before .text-title .ensures)
-    .reads) (l .a .given .0 .0)
-    (seen (pastOf _) (l .before .before .past-formulas .ensures) (l .a .given .1)) (c .before .before .b .given .0 .0)
-    (seen (pastOf _) (c .before .before .before .before .past-credentials .ensures) (c .before .before .b .given .1))
-    (c .if1 .taken))
+    returns-4
     (λ c. let l = c .before .before .before .before .before .before in
     let t = l .before .before .before .before in
     text-formed _ (t .title .given .0 .0) (subst (TitleIs _) (t .title .given .1)

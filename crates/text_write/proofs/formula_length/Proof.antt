@@ -14,6 +14,12 @@ use Rattle.text_write.proofs.formula_length.Tie as tie
 text : {r s : Shape} {fs : List (List ℕ)} → shapeFields r ≡ fs → r ≡ s → ended 10 (shapeFields s) ≡ ended 10 fs
 text e q = ap (ended 10) (ap shapeFields (sym q) ∙ e)
 
+returns-3 : tie.Need-returns-3
+returns-3 c =
+    let told = c .before .before .before in
+    measured-as (text (told .before .before .shape-of .ensures) (told .shape2 .given .1))
+    (pair-measured _ _ _ (c .before .digits-length2 .ensures) (c .digits-length3 .ensures))
+
 pub formula-length-spec : {M : Type 1} → statement M
 formula-length-spec =
     tie.close
@@ -43,10 +49,7 @@ formula-length-spec =
     let told = c .before .before in
     measured-as (text (told .before .before .shape-of .ensures) (told .shape .given .1))
     (bang-measured _ (c .digits-length .ensures)))
-    (λ c.
-    let told = c .before .before .before in
-    measured-as (text (told .before .before .shape-of .ensures) (told .shape2 .given .1))
-    (pair-measured _ _ _ (c .before .digits-length2 .ensures) (c .digits-length3 .ensures)))
+    returns-3
     (λ c.
     let told = c .before .before .before in
     measured-as (text (told .before .before .shape-of .ensures) (told .shape3 .given .1))

@@ -13,20 +13,29 @@ parts : (c : tie.Start)
 unfolding credentialFields
 parts c = in-fields _ _ _ tt tt (c .pre)
 
+put-serial-requires : tie.Need-put-serial-requires
+unfolding credentialFields
+put-serial-requires c κs =
+    first-room (parts (c .before .before .before))
+
+put-of-requires : tie.Need-put-of-requires
+unfolding credentialFields
+put-of-requires c κs =
+    let start = c .before .before .before .before .before .before .before in
+    part-room (parts start) (c .before .before .before .put-serial .ensures)
+
 pub put-credential-spec : {M : Type 1} → statement M
 unfolding credentialFields
 put-credential-spec =
     tie.close
     (tie.spec
-    (λ c κs. first-room (parts (c .before .before .before)))
+    put-serial-requires
     (λ c.
     part-start (parts (c .before .before .before .before .before .before)) (c .before .before .put-serial .ensures))
     (λ c.
     part-start (parts (c .before .before .before .before .before .before)) (c .before .before .put-serial .ensures))
     (λ c. search needs)
-    (λ c κs.
-    let start = c .before .before .before .before .before .before .before in
-    part-room (parts start) (c .before .before .before .put-serial .ensures))
+    put-of-requires
     (λ c.
     let put = c .before .before .before .before .before .before in
     let start = put .before .before .before .before in

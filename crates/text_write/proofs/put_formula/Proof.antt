@@ -13,6 +13,20 @@ use Rattle.text_write.proofs.put_formula.Tie as tie
 text : {r s : Shape} {fs : List (List ℕ)} → shapeFields r ≡ fs → r ≡ s → ended 10 (shapeFields s) ≡ ended 10 fs
 text e q = ap (ended 10) (ap shapeFields (sym q) ∙ e)
 
+put-pair-requires : tie.Need-put-pair-requires
+unfolding shapeFields
+put-pair-requires c κs =
+    let told = c .before .before in
+    let shape = told .before .before in
+    room-as (sym (text (shape .shape-of .ensures) (told .shape2 .given .1))) (shape .before .before .pre)
+
+put-superset-requires : tie.Need-put-superset-requires
+unfolding shapeFields
+put-superset-requires c κs =
+    let told = c .before .before in
+    let shape = told .before .before in
+    room-as (sym (text (shape .shape-of .ensures) (told .shape4 .given .1))) (shape .before .before .pre)
+
 pub put-formula-spec : {M : Type 1} → statement M
 unfolding shapeFields
 put-formula-spec =
@@ -30,20 +44,14 @@ put-formula-spec =
     let shape = told .before .before in
     room-as (sym (text (shape .shape-of .ensures) (told .shape .given .1))) (shape .before .before .pre))
     (λ c. search needs)
-    (λ c κs.
-    let told = c .before .before in
-    let shape = told .before .before in
-    room-as (sym (text (shape .shape-of .ensures) (told .shape2 .given .1))) (shape .before .before .pre))
+    put-pair-requires
     (λ c. search needs)
     (λ c κs.
     let told = c .before .before in
     let shape = told .before .before in
     room-as (sym (text (shape .shape-of .ensures) (told .shape3 .given .1))) (shape .before .before .pre))
     (λ c. search needs)
-    (λ c κs.
-    let told = c .before .before in
-    let shape = told .before .before in
-    room-as (sym (text (shape .shape-of .ensures) (told .shape4 .given .1))) (shape .before .before .pre))
+    put-superset-requires
     (λ c. search needs)
     (λ c.
     let told = c .before .before .before .before in

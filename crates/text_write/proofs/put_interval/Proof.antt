@@ -12,6 +12,12 @@ parts : (c : tie.Start)
 unfolding minutes
 parts c = in-fields _ _ _ tt tt (c .pre)
 
+put-fields-requires-2 : tie.Need-put-fields-requires-2
+unfolding minutes
+put-fields-requires-2 c κs =
+    let start = c .before .before .before .before .before .before in
+    part-room (parts start) (c .before .before .before .put-fields .ensures)
+
 pub put-interval-spec : {M : Type 1} → statement M
 unfolding minutes
 put-interval-spec =
@@ -21,9 +27,7 @@ put-interval-spec =
     (λ c. part-start (parts (c .before .before .before .before .before)) (c .before .before .put-fields .ensures))
     (λ c. part-start (parts (c .before .before .before .before .before)) (c .before .before .put-fields .ensures))
     (λ c. search needs)
-    (λ c κs.
-    let start = c .before .before .before .before .before .before in
-    part-room (parts start) (c .before .before .before .put-fields .ensures))
+    put-fields-requires-2
     (λ c.
     let put = c .before .before .before .before .before .before in
     let start = put .before .before .before in

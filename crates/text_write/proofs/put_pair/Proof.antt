@@ -13,6 +13,12 @@ parts : (c : tie.Start)
 unfolding shapeFields
 parts c = in-fields _ _ _ tt tt (c .pre)
 
+put-fields-requires : tie.Need-put-fields-requires
+unfolding shapeFields
+put-fields-requires c κs =
+    let start = c .before .before .before .before .before .before in
+    part-room (parts start) (c .before .before .before .put-letter .ensures)
+
 pub put-pair-spec : {M : Type 1} → statement M
 unfolding shapeFields
 put-pair-spec =
@@ -22,9 +28,7 @@ put-pair-spec =
     (λ c. part-start (parts (c .before .before .before .before .before)) (c .before .before .put-letter .ensures))
     (λ c. part-start (parts (c .before .before .before .before .before)) (c .before .before .put-letter .ensures))
     (λ c. search needs)
-    (λ c κs.
-    let start = c .before .before .before .before .before .before in
-    part-room (parts start) (c .before .before .before .put-letter .ensures))
+    put-fields-requires
     (λ c.
     let put = c .before .before .before .before .before .before in
     let start = put .before .before .before in

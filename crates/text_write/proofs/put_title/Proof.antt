@@ -14,6 +14,12 @@ parts : (c : tie.Start)
 unfolding titleFields editionFields
 parts c = in-fields _ _ _ tt tt (c .pre)
 
+put-counts-requires : tie.Need-put-counts-requires
+unfolding titleFields editionFields
+put-counts-requires c κs =
+    let start = c .before .before .before .before .before .before in
+    part-room (parts start) (c .before .before .before .put-edition .ensures)
+
 pub put-title-spec : {M : Type 1} → statement M
 unfolding titleFields editionFields
 put-title-spec =
@@ -23,9 +29,7 @@ put-title-spec =
     (λ c. part-start (parts (c .before .before .before .before .before)) (c .before .before .put-edition .ensures))
     (λ c. part-start (parts (c .before .before .before .before .before)) (c .before .before .put-edition .ensures))
     (λ c. search needs)
-    (λ c κs.
-    let start = c .before .before .before .before .before .before in
-    part-room (parts start) (c .before .before .before .put-edition .ensures))
+    put-counts-requires
     (λ c.
     let put = c .before .before .before .before .before .before in
     let start = put .before .before .before in

@@ -25,19 +25,29 @@ rest c =
       ne-eqb _ _ (n .0 .0 .0 .0 .1),
     )
 
+returns-2 : tie.Need-returns-2
+unfolding shapeFields lineFields lineOf bytes
+returns-2 c =
+    rw (c .match .keys2)
+
+returns-9 : tie.Need-returns-9
+unfolding shapeFields lineFields lineOf bytes
+returns-9 c =
+    rw (c .match .keys9)
+
 pub shape-of-spec : {M : Type 1} → statement M
 unfolding shapeFields lineFields lineOf bytes
 shape-of-spec =
     tie.close
     (tie.spec
     (λ c. rw (c .match .keys1))
-    (λ c. rw (c .match .keys2))
+    returns-2
     (λ c. rw (c .match .keys3))
     (λ c. rw (c .match .keys4))
     (λ c. rw (c .match .keys5))
     (λ c. rw (c .match .keys6))
     (λ c. rw (c .match .keys7))
     (λ c. rw (c .before .match .keys8))
-    (λ c. rw (c .match .keys9))
+    returns-9
     (λ c. rw (c .before .before .match .keys10))
     rest)

@@ -7,6 +7,17 @@ use Rattle.read_fields.proofs.Then.{seen}
 use Rattle.read_formulas.proofs.formulas.at_fields.Statement.{statement}
 use Rattle.read_formulas.proofs.formulas.at_fields.Tie as tie
 
+returns-3 : tie.Need-returns-3
+unfolding atFields andThen
+returns-3 c =
+    let b = c .before in
+    let d = b .before .before .before .before in
+    simp (
+      seen (decimalOf _) (d .before .before .before .number .ensures) (d .before .f .given .1),
+      seen (spanOf _) (b .before .before .before .interval .ensures) (b .before .g .given .1),
+      c .none .ensures,
+    )
+
 pub at-fields-spec : {M : Type 1} → statement M
 unfolding atFields andThen
 at-fields-spec =
@@ -25,10 +36,4 @@ at-fields-spec =
       seen (spanOf _) (c .before .before .interval .ensures) (c .enum-told2 .given .1),
     ))
     (λ c κs. search needs)
-    (λ c. let b = c .before in
-    let d = b .before .before .before .before in
-    simp (
-      seen (decimalOf _) (d .before .before .before .number .ensures) (d .before .f .given .1),
-      seen (spanOf _) (b .before .before .before .interval .ensures) (b .before .g .given .1),
-      c .none .ensures,
-    )))
+    returns-3)

@@ -17,6 +17,20 @@ use Rattle.read_formulas.proofs.FormulaLetters.{letter-other, row-told}
 use Rattle.read_formulas.proofs.formulas.formula_line.Statement.{statement}
 use Rattle.read_formulas.proofs.formulas.formula_line.Tie as tie
 
+returns-5 : tie.Need-returns-5
+unfolding rowed formulaLine choose named sameBytes bytes part parts andThen
+returns-5 c =
+    let d = c .before .before .before .before in
+    numbers-line _ _ (d .before .before .if1 .left) (code "a") (predicate .last) (session .last) Line.atom
+    (c .before .match .keys1) (c .before .before .if4 .left) (λ b. refl) (λ i j. refl) (c .two-fields .ensures)
+
+returns-13 : tie.Need-returns-13
+unfolding rowed formulaLine choose named sameBytes bytes part parts andThen
+returns-13 c =
+    let d = c .before .before .before .before in
+    numbers-line _ _ (d .before .before .if1 .left) (code "u") (formulaNumber .last) (formulaNumber .last) Line.implies
+    (c .before .match .keys9) (c .before .before .if4 .left) (λ b. refl) (λ i j. refl) (c .two-fields6 .ensures)
+
 pub formula-line-spec : {M : Type 1} → statement M
 unfolding rowed formulaLine choose named sameBytes bytes part parts andThen
 formula-line-spec =
@@ -47,9 +61,7 @@ formula-line-spec =
     (λ c κs. search needs)
     (λ c κs. search needs)
     (λ c κs. search needs)
-    (λ c. let d = c .before .before .before .before in
-    numbers-line _ _ (d .before .before .if1 .left) (code "a") (predicate .last) (session .last) Line.atom
-    (c .before .match .keys1) (c .before .before .if4 .left) (λ b. refl) (λ i j. refl) (c .two-fields .ensures))
+    returns-5
     (λ c. let d = c .before .before .before .before in
     c .one-field .ensures
     ∙ sym (ap rowed (letter-fields _ _ (d .before .before .if1 .left) (code "b") (c .before .match .keys2)
@@ -77,9 +89,7 @@ formula-line-spec =
     (λ c. let d = c .before .before .before .before in
     numbers-line _ _ (d .before .before .if1 .left) (code "t") (formulaNumber .last) (formulaNumber .last) Line.tensor
     (c .before .match .keys8) (c .before .before .if4 .left) (λ b. refl) (λ i j. refl) (c .two-fields5 .ensures))
-    (λ c. let d = c .before .before .before .before in
-    numbers-line _ _ (d .before .before .if1 .left) (code "u") (formulaNumber .last) (formulaNumber .last) Line.implies
-    (c .before .match .keys9) (c .before .before .if4 .left) (λ b. refl) (λ i j. refl) (c .two-fields6 .ensures))
+    returns-13
     (λ c. let d = c .before .before .before .before in
     numbers-line _ _ (d .before .before .if1 .left) (code "w") (formulaNumber .last) (formulaNumber .last) Line.with
     (c .before .match .keys10) (c .before .before .if4 .left) (λ b. refl) (λ i j. refl) (c .two-fields7 .ensures))

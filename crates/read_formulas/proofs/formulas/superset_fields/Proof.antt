@@ -6,6 +6,15 @@ use Rattle.read_fields.proofs.Then.{seen}
 use Rattle.read_formulas.proofs.formulas.superset_fields.Statement.{statement}
 use Rattle.read_formulas.proofs.formulas.superset_fields.Tie as tie
 
+returns-3 : tie.Need-returns-3
+unfolding supersetFields andThen
+returns-3 c =
+    let d = c .before .before .before .before in
+    simp (
+      seen (spanOf _) (d .before .before .before .interval .ensures) (d .before .f .given .1),
+      seen (spanOf _) (c .before .before .before .interval2 .ensures) (c .before .g .given .1),
+    )
+
 pub superset-fields-spec : {M : Type 1} → statement M
 unfolding supersetFields andThen
 superset-fields-spec =
@@ -23,8 +32,4 @@ superset-fields-spec =
       seen (spanOf _) (d .before .before .interval .ensures) (d .f .given .1),
       seen (spanOf _) (c .before .before .interval2 .ensures) (c .enum-told2 .given .1),
     ))
-    (λ c. let d = c .before .before .before .before in
-    simp (
-      seen (spanOf _) (d .before .before .before .interval .ensures) (d .before .f .given .1),
-      seen (spanOf _) (c .before .before .before .interval2 .ensures) (c .before .g .given .1),
-    )))
+    returns-3)

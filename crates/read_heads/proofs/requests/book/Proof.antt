@@ -9,6 +9,42 @@ use Rattle.read_heads.proofs.Heads.{no-line, book-line, field-range, in
 use Rattle.read_heads.proofs.requests.book.Statement.{statement}
 use Rattle.read_heads.proofs.requests.book.Tie as tie
 
+returns-5 : tie.Need-returns-5
+unfolding requestFrom bookingFrom
+returns-5 c =
+    let d = c .before .before .before .before in
+    let e = d .before .before .before .before in
+    let f = e .before .before .before .before in
+    let g = f .before .before .before .before in
+    no-line (book-line _ ∙ then-some _ (seen (decimalOf _) (g .before .before .number .ensures) (g .a .given .1))
+    ∙ then-some _ (seen (decimalOf _) (f .before .before .number2 .ensures) (f .b .given .1))
+    ∙ then-some _ (seen (spanOf _) (e .before .before .interval .ensures) (e .c .given .1))
+    ∙ then-some _ (seen (decimalOf _) (d .before .before .number3 .ensures) (d .d .given .1))
+    ∙ then-no _ (seen (decimalOf _) (c .before .before .number4 .ensures) (c .enum-told5 .given .1)))
+
+returns-6 : tie.Need-returns-6
+unfolding requestFrom bookingFrom
+returns-6 c =
+    let d = c .before .before .before .before in
+    let e = d .before .before .before .before in
+    let f = e .before .before .before .before in
+    let g = f .before .before .before .before in
+    let m = seen (decimalOf _) (g .before .before .before .number .ensures) (g .before .a .given .1) in
+    let n = seen (decimalOf _) (f .before .before .before .number2 .ensures) (f .before .b .given .1) in
+    let i = seen (spanOf _) (e .before .before .before .interval .ensures) (e .before .c .given .1) in
+    let h = seen (decimalOf _) (d .before .before .before .number3 .ensures) (d .before .d .given .1) in
+    let k = seen (decimalOf _) (c .before .before .before .number4 .ensures) (c .before .e .given .1) in
+    record {
+      reads = then-some _ (book-line _ ∙ then-some _ m ∙ then-some _ n ∙ then-some _ i ∙ then-some _ h ∙ then-some _ k);
+      range = record {
+        now = field-range _ _ _ m;
+        formula = field-range _ _ _ n;
+        interval = interval-range _ _ i;
+        holds = field-range _ _ _ h;
+        steps = field-range _ _ _ k;
+      };
+    }
+
 pub book-spec : {M : Type 1} → statement M
 unfolding requestFrom bookingFrom
 book-spec =
@@ -46,31 +82,5 @@ book-spec =
     (λ c κs. search needs)
     (λ c. search needs)
     (λ c. search needs)
-    (λ c. let d = c .before .before .before .before in
-    let e = d .before .before .before .before in
-    let f = e .before .before .before .before in
-    let g = f .before .before .before .before in
-    no-line (book-line _ ∙ then-some _ (seen (decimalOf _) (g .before .before .number .ensures) (g .a .given .1))
-    ∙ then-some _ (seen (decimalOf _) (f .before .before .number2 .ensures) (f .b .given .1))
-    ∙ then-some _ (seen (spanOf _) (e .before .before .interval .ensures) (e .c .given .1))
-    ∙ then-some _ (seen (decimalOf _) (d .before .before .number3 .ensures) (d .d .given .1))
-    ∙ then-no _ (seen (decimalOf _) (c .before .before .number4 .ensures) (c .enum-told5 .given .1))))
-    (λ c. let d = c .before .before .before .before in
-    let e = d .before .before .before .before in
-    let f = e .before .before .before .before in
-    let g = f .before .before .before .before in
-    let m = seen (decimalOf _) (g .before .before .before .number .ensures) (g .before .a .given .1) in
-    let n = seen (decimalOf _) (f .before .before .before .number2 .ensures) (f .before .b .given .1) in
-    let i = seen (spanOf _) (e .before .before .before .interval .ensures) (e .before .c .given .1) in
-    let h = seen (decimalOf _) (d .before .before .before .number3 .ensures) (d .before .d .given .1) in
-    let k = seen (decimalOf _) (c .before .before .before .number4 .ensures) (c .before .e .given .1) in
-    record {
-      reads = then-some _ (book-line _ ∙ then-some _ m ∙ then-some _ n ∙ then-some _ i ∙ then-some _ h ∙ then-some _ k);
-      range = record {
-        now = field-range _ _ _ m;
-        formula = field-range _ _ _ n;
-        interval = interval-range _ _ i;
-        holds = field-range _ _ _ h;
-        steps = field-range _ _ _ k;
-      };
-    }))
+    returns-5
+    returns-6)

@@ -9,6 +9,14 @@ use Rattle.read_heads.specs.First.{requestFrom}
 use Rattle.read_heads.proofs.requests.issue.Statement.{statement}
 use Rattle.read_heads.proofs.requests.issue.Tie as tie
 
+returns : tie.Need-returns
+unfolding bytes
+returns c =
+    let d = c .before .before .before .before in
+    first-by (d .before .before .before .args .s .now) (c .issued .result)
+    (ap requestFrom (issue-linear _ _ (seen (pastOf _) (d .past .ensures) (c .before .before .a .given .1))))
+    (c .issued .ensures)
+
 pub issue-spec : {M : Type 1} → statement M
 unfolding bytes
 issue-spec =
@@ -18,10 +26,7 @@ issue-spec =
     (λ c κs. search needs)
     (λ c. search needs)
     (λ c κs. search needs)
-    (λ c. let d = c .before .before .before .before in
-    first-by (d .before .before .before .args .s .now) (c .issued .result)
-    (ap requestFrom (issue-linear _ _ (seen (pastOf _) (d .past .ensures) (c .before .before .a .given .1))))
-    (c .issued .ensures))
+    returns
     (λ c. search needs)
     (λ c. search needs)
     (λ c κs. search needs)

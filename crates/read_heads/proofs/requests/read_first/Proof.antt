@@ -9,6 +9,27 @@ use Rattle.read_formulas.proofs.WordTables.{inside}
 use Rattle.read_heads.proofs.requests.read_first.Statement.{statement}
 use Rattle.read_heads.proofs.requests.read_first.Tie as tie
 
+returns-2 : tie.Need-returns-2
+unfolding bytes inside
+returns-2 c =
+    let d = c .before .before .before .before in
+    let e = d .before .before .before .before in
+    first-by (e .before .before .before .args .s .now) (c .issue .result)
+    (first-found "issue" _ _ refl (seen (pastOf _) (d .past2 .ensures) (c .before .before .b .given .1)))
+    (c .issue .ensures)
+
+returns-5 : tie.Need-returns-5
+unfolding bytes inside
+returns-5 c =
+    let d = c .before .before .before .before in
+    let e = d .before .before .before .before in
+    let f = e .before .before .before .before in
+    let g = f .before .before .before .before in
+    let h = g .before .before .before .before in
+    first-by (h .before .before .before .args .s .now) (c .tally .result)
+    (first-found "tally" _ _ refl (seen (pastOf _) (d .past5 .ensures) (c .before .before .e .given .1)))
+    (c .tally .ensures)
+
 pub read-first-spec : {M : Type 1} → statement M
 unfolding bytes inside
 read-first-spec =
@@ -27,11 +48,7 @@ read-first-spec =
     (λ c κs. search needs)
     (λ c. search needs)
     (λ c κs. search needs)
-    (λ c. let d = c .before .before .before .before in
-    let e = d .before .before .before .before in
-    first-by (e .before .before .before .args .s .now) (c .issue .result)
-    (first-found "issue" _ _ refl (seen (pastOf _) (d .past2 .ensures) (c .before .before .b .given .1)))
-    (c .issue .ensures))
+    returns-2
     (λ c. search needs)
     (λ c. search needs)
     (λ c κs. search needs)
@@ -60,14 +77,7 @@ read-first-spec =
     (λ c κs. search needs)
     (λ c. search needs)
     (λ c κs. search needs)
-    (λ c. let d = c .before .before .before .before in
-    let e = d .before .before .before .before in
-    let f = e .before .before .before .before in
-    let g = f .before .before .before .before in
-    let h = g .before .before .before .before in
-    first-by (h .before .before .before .args .s .now) (c .tally .result)
-    (first-found "tally" _ _ refl (seen (pastOf _) (d .past5 .ensures) (c .before .before .e .given .1)))
-    (c .tally .ensures))
+    returns-5
     (λ c. search needs)
     (λ c. let d = c .before .before .before .before in
     let e = d .before .before .before .before in
