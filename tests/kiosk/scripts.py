@@ -129,7 +129,7 @@ def places(data):
     found = sorted({int(s) for s in re.findall(rb"(?m)^word,a,[12],(\d{1,5})$", data) if int(s) <= 65535})
     sessions = {s for at in found[:3] + found[-2:] for s in (at, at % 256)} | {0, 255, 65535}
     minutes = {int(m) for m in re.findall(rb"(?m)^issue,.,\d+,(\d{1,6}),\d+,\d+,\d+$", data)}
-    return sorted(sessions), sorted(minutes)[:3] + [540, 9999999]
+    return sorted(sessions), sorted({*sorted(minutes)[:3], 540, 9999999})
 
 
 def panel_line(session, minute, figures, withdrawn, issued):

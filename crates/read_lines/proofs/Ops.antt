@@ -17,7 +17,7 @@ use Rattle.request.specs.Request.{Step}
 use Rattle.request.specs.Read.{number, labelSet, interval, labelled, stepLine, holdLine}
 use Rattle.step_rows.specs.declared.StepRow.{StepRow}
 use Rattle.logic.specs.Interval.{noInterval}
-use Rattle.step_rows.specs.StepRows.{half, stepRow, stepOf}
+use Rattle.step_rows.specs.StepRows.{half, stepRow, stepOf, trNumber, llNumber, ulNumber, noStep}
 use Rattle.read_fields.specs.Field.{fieldTo, strip}
 use Rattle.read_formulas.specs.Line.{readLine, lookup, intervalTo}
 use Rattle.read_lines.specs.Step.{ops, opOf, labelReader, stepReader}
@@ -74,9 +74,9 @@ keys =
     word "t" "r" ∷ word "w" "r" ∷ word "s" "r" ∷ word "h" "r" ∷ word "b" "r" ∷ word "p" "2" ∷
     word "p" "1" ∷ word "g" "r" ∷ word "o" "r" ∷ word "a" "f" ∷ []
 
-pub op-none : (a b : ℕ) → Others (a * base + b) keys → opOf (a ∷ b ∷ []) ≡ 22
+pub op-none : (a b : ℕ) → Others (a * base + b) keys → opOf (a ∷ b ∷ []) ≡ noStep
 unfolding opOf ops bytes
-op-none a b n = no-key (a ∷ b ∷ []) keys n 22 ops refl
+op-none a b n = no-key (a ∷ b ∷ []) keys n noStep ops refl
 
 -- The fields of a step
 
@@ -85,28 +85,34 @@ unfolding labelSet
 set-shape = next-shape labelSetIn
 
 module _ (op : ℕ) where
-  reader-plain : op < 9 → stepReader op ≡ return (stepOf (stepRow op 0 0 0 noInterval))
+  reader-plain : op < trNumber → stepReader op ≡ return (stepOf (stepRow op 0 0 0 noInterval))
   unfolding stepReader
-  reader-plain h = rw (lt-ltb op 9 h)
+  reader-plain h = rw (lt-ltb op trNumber h)
 
-  reader-label : 9 ≤ op → (op ≡ 9 → ⊥) → op < 20 → stepReader op ≡ labelReader op
+  reader-label : trNumber ≤ op → (op ≡ trNumber → ⊥) → op < llNumber → stepReader op ≡ labelReader op
   unfolding stepReader
-  reader-label h n k = rw (le-ltb op 9 h, ne-eqb op 9 n, lt-ltb op 20 k)
+  reader-label h n k = rw (le-ltb op trNumber h, ne-eqb op trNumber n, lt-ltb op llNumber k)
 
-  reader-none : 20 ≤ op → (op ≡ 20 → ⊥) → (op ≡ 21 → ⊥) → stepReader op ≡ (λ ts. none)
+  reader-none : llNumber ≤ op → (op ≡ llNumber → ⊥) → (op ≡ ulNumber → ⊥) → stepReader op ≡ (λ ts. none)
   unfolding stepReader
   reader-none h n m =
-      rw (le-ltb op 9 (omega arith), ne-eqb op 9 (λ e. omega arith), le-ltb op 20 h, ne-eqb op 20 n, ne-eqb op 21 m)
+      rw (
+        le-ltb op trNumber (omega arith),
+        ne-eqb op trNumber (λ e. omega arith),
+        le-ltb op llNumber h,
+        ne-eqb op llNumber n,
+        ne-eqb op ulNumber m,
+      )
 
-  reader-bare : 9 ≤ op → stepReader op [] ≡ none
+  reader-bare : trNumber ≤ op → stepReader op [] ≡ none
   unfolding stepReader labelReader labelled labelSet number interval next _>>=_ andThen
-  reader-bare h = rw (le-ltb op 9 h) (by-test (eqb op 9) (λ e. rw e) (λ e.
-      by-test (ltb op 20) (λ f. rw (e, f)) (λ f.
-      by-test (eqb op 20) (λ g. rw (e, f, g)) (λ g. by-test (eqb op 21) (λ k. rw (e, f, g, k))
+  reader-bare h = rw (le-ltb op trNumber h) (by-test (eqb op trNumber) (λ e. rw e) (λ e.
+      by-test (ltb op llNumber) (λ f. rw (e, f)) (λ f.
+      by-test (eqb op llNumber) (λ g. rw (e, f, g)) (λ g. by-test (eqb op ulNumber) (λ k. rw (e, f, g, k))
       (λ k. rw (e, f, g, k))))))
 
 module _ (b : List ℕ) where
-  pub set-line : readLine (stepReader 9) b ≡ andThen (fieldTo 10 labelSetIn b) (λ v. some (Step.tr (v .0), v .1))
+  pub set-line : readLine (stepReader trNumber) b ≡ andThen (fieldTo 10 labelSetIn b) (λ v. some (Step.tr (v .0), v .1))
   unfolding stepReader
   set-line = set-shape .last Step.tr b
 
@@ -115,7 +121,7 @@ module _ (b : List ℕ) where
   unfolding labelReader labelled
   label-line op = number-shape label .last (λ l. stepOf (stepRow op l 0 0 noInterval)) b
 
-  pub lolli-line : readLine (stepReader 20) b ≡ andThen (fieldTo 44 (numberIn label) b) (λ l.
+  pub lolli-line : readLine (stepReader llNumber) b ≡ andThen (fieldTo 44 (numberIn label) b) (λ l.
       andThen (fieldTo 44 labelSetIn (l .1)) (λ v. andThen (intervalTo 10 (v .1)) (λ j.
       some (Step.ll (l .0) (v .0) (j .0), j .1))))
   unfolding stepReader labelSet next _>>=_ andThen
@@ -123,7 +129,7 @@ module _ (b : List ℕ) where
       number-shape label .more _ (λ l. refl) b
       ∙ then-same (fieldTo 44 (numberIn label) b) (λ l. both-last set-shape interval-shape (Step.ll (l .0)) (l .1))
 
-  pub implies-line : readLine (stepReader 21) b ≡ andThen (fieldTo 44 (numberIn label) b) (λ l.
+  pub implies-line : readLine (stepReader ulNumber) b ≡ andThen (fieldTo 44 (numberIn label) b) (λ l.
       andThen (intervalTo 10 (l .1)) (λ j. some (Step.ul (l .0) (j .0), j .1)))
   unfolding stepReader
   implies-line = both-last (number-shape label) interval-shape Step.ul b
@@ -163,7 +169,7 @@ lookup-by f (e ∷ es) d t = by-test (sameBytes t (bytes (e .0))) (λ q. rw (q, 
 
 step-word : (t : List ℕ) (ts : List (List ℕ)) → stepLine (t ∷ ts) ≡ stepReader (opOf t) ts
 unfolding stepLine opOf ops stepReader labelReader stepOf
-step-word t ts = choose-lookup _ t ts ∙ ap (λ (r : Reader Step). r ts) (lookup-by stepReader ops 22 t)
+step-word t ts = choose-lookup _ t ts ∙ ap (λ (r : Reader Step). r ts) (lookup-by stepReader ops noStep t)
 
 module _ (s : List ℕ) (i : ℕ) where
   pub step-short : length s ≤ i + 2 → readLine stepLine (drop i s) ≡ none
@@ -178,14 +184,14 @@ module _ (s : List ℕ) (i : ℕ) where
         (drop (i + 3) s) refl
         ∙ onward-same (step-word (getD s i 0 ∷ getD s (i + 1) 0 ∷ [])) (getD s (i + 2) 0) (drop (i + 3) s))
 
-    pub step-plain : op < 9 → getD s (i + 2) 0 ≡ 10
+    pub step-plain : op < trNumber → getD s (i + 2) 0 ≡ 10
         → readLine stepLine (drop i s) ≡ some (stepOf (stepRow op 0 0 0 noInterval), drop (i + 3) s)
     step-plain l e = step-at ∙ rw (reader-plain op l) (onward-end _ (drop (i + 3) s) e)
 
-    pub step-plain-on : op < 9 → (getD s (i + 2) 0 ≡ 10 → ⊥) → readLine stepLine (drop i s) ≡ none
+    pub step-plain-on : op < trNumber → (getD s (i + 2) 0 ≡ 10 → ⊥) → readLine stepLine (drop i s) ≡ none
     step-plain-on l n = step-at ∙ rw (reader-plain op l) (onward-on _ (drop (i + 3) s) n)
 
-    pub step-bare : 9 ≤ op → (getD s (i + 2) 0 ≡ 44 → ⊥) → readLine stepLine (drop i s) ≡ none
+    pub step-bare : trNumber ≤ op → (getD s (i + 2) 0 ≡ 44 → ⊥) → readLine stepLine (drop i s) ≡ none
     step-bare l n = step-at ∙ onward-bare _ (drop (i + 3) s) n (reader-bare op l)
 
     pub step-fields : getD s (i + 2) 0 ≡ 44 → (k : ℕ) → op ≡ k
@@ -193,11 +199,11 @@ module _ (s : List ℕ) (i : ℕ) where
     step-fields e k p =
         step-at ∙ onward-comma _ (drop (i + 3) s) e ∙ ap (λ x. readLine (stepReader x) (drop (i + 3) s)) p
 
-    pub step-label : getD s (i + 2) 0 ≡ 44 → 9 ≤ op → (op ≡ 9 → ⊥) → op < 20
+    pub step-label : getD s (i + 2) 0 ≡ 44 → trNumber ≤ op → (op ≡ trNumber → ⊥) → op < llNumber
         → readLine stepLine (drop i s) ≡ readLine (labelReader op) (drop (i + 3) s)
     step-label e l n k = step-fields e op refl ∙ rw (reader-label op l n k)
 
-    pub step-none : getD s (i + 2) 0 ≡ 44 → 20 ≤ op → (op ≡ 20 → ⊥) → (op ≡ 21 → ⊥)
+    pub step-none : getD s (i + 2) 0 ≡ 44 → llNumber ≤ op → (op ≡ llNumber → ⊥) → (op ≡ ulNumber → ⊥)
         → readLine stepLine (drop i s) ≡ none
     step-none e l n m =
         step-fields e op refl ∙ rw (reader-none op l n m) (line-none _ (λ ts. whole-none _ ts refl) (drop (i + 3) s))

@@ -11,7 +11,7 @@ use Rattle.request.specs.Request.{Step}
 use Rattle.request.specs.Read.{number, labelSet, interval, labelled}
 use Rattle.logic.specs.Interval.{noInterval}
 use Rattle.logic.specs.Choice.{pick}
-use Rattle.step_rows.specs.StepRows.{stepRow, stepOf}
+use Rattle.step_rows.specs.StepRows.{stepRow, stepOf, trNumber, llNumber, ulNumber, noStep}
 use Rattle.read_formulas.specs.Line.{lookup}
 use Rattle.read_lines.specs.declared.HoldLine.{HoldLine}
 use Rattle.read_lines.specs.declared.HoldLine.the-variants.{Serial, Broken as NoHold}
@@ -20,16 +20,17 @@ use Rattle.read_lines.specs.declared.StepLine.the-variants.{Step as Row,
 
 -- The steps by their numbers
 
--- the steps' words, in the order of `stepLine`, with their numbers: their places in `makers` of step_rows/specs/Lines
+-- the steps' words, in the order of `stepLine`, with their numbers: their places in `makers` of
+-- step_rows/specs/StepRows
 unfoldable pub ops : List (String × ℕ)
 ops =
     ("ax", 10) ∷ ("cp", 11) ∷ ("tr", 9) ∷ ("tl", 18) ∷ ("or", 1) ∷ ("ol", 12) ∷ ("wr", 8) ∷ ("w1", 13) ∷ ("w2", 14) ∷
     ("p1", 3) ∷ ("p2", 4) ∷ ("pl", 19) ∷ ("ll", 20) ∷ ("ul", 21) ∷ ("br", 5) ∷ ("bl", 15) ∷ ("hr", 6) ∷ ("hl", 16) ∷
     ("sr", 7) ∷ ("af", 0) ∷ ("sl", 17) ∷ ("gr", 2) ∷ []
 
--- the number of a word, 22 for no step
+-- the number of a word
 unfoldable pub opOf : List ℕ → ℕ
-opOf t = lookup ops 22 t
+opOf t = lookup ops noStep t
 
 -- the fields of a step by its number
 unfoldable pub labelReader : ℕ → Reader Step
@@ -37,11 +38,11 @@ labelReader op = labelled (λ l. stepOf (stepRow op l 0 0 noInterval))
 
 unfoldable pub stepReader : ℕ → Reader Step
 stepReader op =
-    pick (ltb op 9) (return (stepOf (stepRow op 0 0 0 noInterval)))
-    (pick (eqb op 9) (do s ← labelSet; return (Step.tr s))
-    (pick (ltb op 20) (labelReader op)
-    (pick (eqb op 20) (do l ← number label; s ← labelSet; j ← interval; return (Step.ll l s j))
-    (pick (eqb op 21) (do l ← number label; j ← interval; return (Step.ul l j)) (λ ts. none)))))
+    pick (ltb op trNumber) (return (stepOf (stepRow op 0 0 0 noInterval)))
+    (pick (eqb op trNumber) (do s ← labelSet; return (Step.tr s))
+    (pick (ltb op llNumber) (labelReader op)
+    (pick (eqb op llNumber) (do l ← number label; s ← labelSet; j ← interval; return (Step.ll l s j))
+    (pick (eqb op ulNumber) (do l ← number label; j ← interval; return (Step.ul l j)) (λ ts. none)))))
 
 -- What an answer of the code says of the bytes s
 

@@ -19,7 +19,7 @@ ghost use Rattle.logic.specs.Interval.{noInterval};
 ghost use Rattle.request.specs.Range.{maxBytes};
 ghost use Rattle.request.specs.Read.{stepLine};
 ghost use Rattle.read_formulas.specs.Line.{readLine};
-ghost use Rattle.step_rows.specs.StepRows.{stepRow};
+ghost use Rattle.step_rows.specs.StepRows.{stepRow, trNumber, llNumber, ulNumber};
 ghost use Rattle.read_lines.specs.Step.{opOf, stepReader, labelReader, stepLineOf};
 
 // The number of the step whose word is the two letters.
@@ -70,7 +70,7 @@ fn plain_step(op: u32, label: u32, high: u32, low: u32) -> StepRow
 // `tr`: a set of labels
 fn set_fields(s: &[u8], at: u32) -> StepLine
     requires { ⌜ length (now s) ≤ maxBytes ⌝ }
-    ensures { λ r. ⌜ stepLineOf (now (s .entry)) r ≡ readLine (stepReader 9) (drop at (now (s .entry))) ⌝ }
+    ensures { λ r. ⌜ stepLineOf (now (s .entry)) r ≡ readLine (stepReader trNumber) (drop at (now (s .entry))) ⌝ }
 {
     let f = label_set(s, at, b'\n');
     let Labels::Set(v, i) = f else {
@@ -96,7 +96,7 @@ fn label_fields(s: &[u8], at: u32, op: u32) -> StepLine
 // `ll`: a label, a set of labels, an interval
 fn lolli_fields(s: &[u8], at: u32) -> StepLine
     requires { ⌜ length (now s) ≤ maxBytes ⌝ }
-    ensures { λ r. ⌜ stepLineOf (now (s .entry)) r ≡ readLine (stepReader 20) (drop at (now (s .entry))) ⌝ }
+    ensures { λ r. ⌜ stepLineOf (now (s .entry)) r ≡ readLine (stepReader llNumber) (drop at (now (s .entry))) ⌝ }
 {
     let f = number(s, at, 0, ranges::LABEL_LAST, b',');
     let Decimal::Number(label, i) = f else {
@@ -127,7 +127,7 @@ fn lolli_fields(s: &[u8], at: u32) -> StepLine
 // `ul`: a label, an interval
 fn implies_fields(s: &[u8], at: u32) -> StepLine
     requires { ⌜ length (now s) ≤ maxBytes ⌝ }
-    ensures { λ r. ⌜ stepLineOf (now (s .entry)) r ≡ readLine (stepReader 21) (drop at (now (s .entry))) ⌝ }
+    ensures { λ r. ⌜ stepLineOf (now (s .entry)) r ≡ readLine (stepReader ulNumber) (drop at (now (s .entry))) ⌝ }
 {
     let f = number(s, at, 0, ranges::LABEL_LAST, b',');
     let Decimal::Number(label, i) = f else {
@@ -149,7 +149,7 @@ fn implies_fields(s: &[u8], at: u32) -> StepLine
     )
 }
 
-// One of the 22 step lines.
+// A step line.
 pub fn read_step(s: &[u8], at: u32) -> StepLine
     requires { ⌜ length (now s) ≤ maxBytes ⌝ }
     ensures { λ r. ⌜ stepLineOf (now (s .entry)) r ≡ readLine stepLine (drop at (now (s .entry))) ⌝ }

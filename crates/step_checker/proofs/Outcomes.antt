@@ -14,8 +14,7 @@ use Rattle.steps.specs.Plans.{planOf}
 use Rattle.ledger.specs.Checks.{verdict}
 use Rattle.store_cells.specs.Layout.{rowAt}
 use Rattle.step_rows.specs.LabelRows.{labelAt, putLabel}
-use Rattle.step_rows.specs.declared.StepRow.{StepRow}
-use Rattle.step_rows.specs.StepRows.{stepRowAt, stepOf, stepAt, stepsFrom}
+use Rattle.step_rows.specs.StepRows.{stepAt, stepsFrom}
 use Rattle.step_rows.proofs.StepRows.{length-from}
 use Rattle.step_premises.specs.declared.Begun.{Begun}
 use Rattle.step_premises.specs.declared.Begun.the-variants.{Full, Begins}
@@ -114,17 +113,17 @@ module _ {e : Setting} {left next : ℕ} {t : List ℕ} {q : Sequent} where
       go zero = refl
       go (suc f) = simp x
 
-  pub goes-on : {s : StepRow} {p : Plan} {r : Outcome} {t′ : List ℕ} → left ≤ e .total → (left ≡ 0 → ⊥)
-      → s ≡ stepRowAt (e .steps) (e .total - left)
-      → p ≡ planOf (rowAt (e .store)) (labelAt t) (q .unrestricted) (q .linear) (q .goal) (stepOf s)
+  pub goes-on : {p : Plan} {r : Outcome} {t′ : List ℕ} → left ≤ e .total → (left ≡ 0 → ⊥)
+      → p ≡ planOf (rowAt (e .store)) (labelAt t) (q .unrestricted) (q .linear) (q .goal)
+      (stepAt (e .steps) (e .total - left))
       → StepChecked e (left - 1) next t (q .unrestricted) p r t′ → PremiseChecked e left next t q r t′
   unfolding premiseOf
-  goes-on {r = r} {t′} among n y z m = record { same = go; fewer = omega (arith, m .fewer) }
+  goes-on {r = r} {t′} among n z m = record { same = go; fewer = omega (arith, m .fewer) }
     where
       go : (f : ℕ) → left ≤ f → resultOf e r t′ ≡ judge e f (linesLeft e left) t next q
       go zero h = absurd (n (omega arith))
       go (suc f) h =
-          rw (lines-next e left among n, premiseOf, length-from, ← y, ← z) (m .same f (omega arith))
+          rw (lines-next e left among n, premiseOf, length-from, ← z) (m .same f (omega arith))
 
 -- The whole
 

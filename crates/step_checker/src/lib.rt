@@ -3,7 +3,6 @@
 use step_premises::Begun;
 use step_rows::LabelRows;
 use step_rows::StepRows;
-use step_rows::lines;
 use steps::Plan;
 use steps::Sequent;
 use store::Store;
@@ -43,8 +42,7 @@ fn check_premise(
     if left == 0 {
         return Outcome::Stopped(42, total + 1);
     }
-    let s = lines::step_at(steps, total - left);
-    let plan = step_dispatch::rule(store, table, q, s);
+    let plan = step_dispatch::rule(store, steps, table, total - left, q);
     check_step(
         store,
         steps,

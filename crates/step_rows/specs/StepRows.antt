@@ -40,8 +40,8 @@ share r = r .high * half + r .low
 abbrev pub implies : StepRow → Step
 implies r = Step.ul (r .label) (r .interval)
 
--- A step's number is its place here, so that right and left steps are ranges: `af` 0, right steps and `ax` 1 to 10,
--- `cp` 11, left steps from 12 on.
+-- A step's number is its place here, so that right and left steps are ranges: `af`, the right steps and `ax`, `cp`,
+-- the left steps, of which `ll` and `ul` have intervals.
 abbrev pub makers : List (StepRow → Step)
 makers =
     (λ r. Step.af) ∷ (λ r. Step.or) ∷ (λ r. Step.gr) ∷ (λ r. Step.p1) ∷ (λ r. Step.p2) ∷ (λ r. Step.br) ∷
@@ -50,6 +50,25 @@ makers =
     (λ r. Step.w2 (r .label)) ∷ (λ r. Step.bl (r .label)) ∷ (λ r. Step.hl (r .label)) ∷ (λ r. Step.sl (r .label)) ∷
     (λ r. Step.tl (r .label)) ∷ (λ r. Step.pl (r .label)) ∷
     (λ r. Step.ll (r .label) (share r) (r .interval)) ∷ implies ∷ []
+
+-- the numbers at which ranges end or begin, and that of no step; `tr` is the first with a field
+abbrev pub trNumber : ℕ
+trNumber = 9
+
+abbrev pub axNumber : ℕ
+axNumber = 10
+
+abbrev pub olNumber : ℕ
+olNumber = 12
+
+abbrev pub llNumber : ℕ
+llNumber = 20
+
+abbrev pub ulNumber : ℕ
+ulNumber = 21
+
+abbrev pub noStep : ℕ
+noStep = 22
 
 -- every number past the last reads as the last
 unfoldable pub stepOf : StepRow → Step

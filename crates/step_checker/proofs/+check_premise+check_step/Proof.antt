@@ -15,7 +15,6 @@ use Rattle.step_checker.proofs.check_step.Kinds as step-kinds
 use Rattle.step_checker.proofs.+check_premise+check_step.Lts-check_step as step-lts
 use Rattle.step_premises.proofs.begin.Reads as begin-reads
 use Rattle.step_dispatch.proofs.rule.Reads as rule-reads
-use Rattle.step_rows.proofs.lines.step_at.Reads as row-reads
 use Rattle.step_checker.proofs.+check_premise+check_step.{statement}
 use Rattle.step_checker.proofs.+check_premise+check_step.Tie.{close}
 
@@ -38,7 +37,7 @@ abbrev step-below : ℕ → In 3 step-kinds.ps
 step-below t = and 3 step-kinds.ps (falls 3 step-kinds.ps _<_ μ-step t) step.Pre
 
 abbrev premise-with : ℕ → premise-lts.Claims
-premise-with t = (row-reads.Asked, row-reads.Learnt, rule-reads.Asked, rule-reads.Learnt, step-below t, step.Post)
+premise-with t = (rule-reads.Asked, rule-reads.Learnt, step-below t, step.Post)
 
 abbrev step-with : ℕ → step-lts.Claims
 step-with t = (begin-reads.Asked, begin-reads.Learnt, premise-below t, premise.Post)
@@ -48,9 +47,9 @@ premise-returns t c = none-left (c .if1 .taken)
 
 premise-returns-2 : (t : ℕ) → premise-lts.Need-returns-2 (premise-with t) (premise-at t) premise.Post
 premise-returns-2 t c =
-    let a = c .before .before .before .before in
-    goes-on (a .before .before .pre .1 .among) (a .before .if1 .left) (a .step-at .ensures)
-    (c .before .before .rule .ensures) (c .check-step .ensures)
+    let a = c .before .before in
+    goes-on (a .before .before .before .pre .1 .among) (a .before .before .if1 .left) (a .rule .ensures)
+    (c .check-step .ensures)
 
 step-returns : (t : ℕ) → step-lts.Need-returns (step-with t) (step-at t) step.Post
 step-returns t c =
@@ -108,8 +107,8 @@ pub +check-premise+check-step-spec : {M : Type 1} → statement M
 +check-premise+check-step-spec =
     close μ-premise μ-step
     (λ t. premise-lts.spec (premise-with t) (premise-at t) premise.Post (λ c. search needs)
-    (premise-returns t) (λ c. search needs) (λ c κs. search needs) (λ c κs. search needs) (λ c. search needs)
-    (λ c κs. search needs) (premise-returns-2 t))
+    (premise-returns t) (λ c. search needs) (λ c κs. search needs) (λ c. search needs) (λ c κs. search needs)
+    (premise-returns-2 t))
     (λ t. step-lts.spec (step-with t) (step-at t) step.Post (λ c. search needs)
     (λ c. search needs) (λ c. search needs) (λ c. search needs) (λ c κs. search needs) (λ c. search needs)
     (λ c. search needs) (step-returns t) (λ c κs. search needs) (λ c. search needs) (λ c κs. search needs)

@@ -1,6 +1,7 @@
 -- `read_step` meets its contract: a line by its word.
 use mathlib.Core.Path.{sym, _∙_}
 use borrow.Author.Needs.{needs}
+use Rattle.step_rows.specs.StepRows.{trNumber, llNumber, ulNumber}
 use Rattle.read_lines.proofs.Ops.{step-short, step-plain, step-plain-on, step-bare, step-fields, step-label}
 use Rattle.read_lines.proofs.Ops.{step-none, step-told}
 use Rattle.read_lines.proofs.rows.read_step.Statement.{statement}
@@ -34,7 +35,7 @@ read-step-spec =
     (λ c. let d = c .before .before .before .before in
     let e = d .before .before .before .before in
     c .set-fields .ensures
-    ∙ sym (step-fields _ _ (e .if1 .left) (d .before .op-of .ensures) (c .before .before .if4 .left) 9
+    ∙ sym (step-fields _ _ (e .if1 .left) (d .before .op-of .ensures) (c .before .before .if4 .left) trNumber
     (c .before .if5 .taken)))
     (λ c κs. search needs)
     (λ c. let d = c .before .before .before .before in
@@ -48,12 +49,12 @@ read-step-spec =
     let e = d .before .before .before .before in
     c .lolli-fields .ensures
     ∙ sym (step-fields _ _ (e .before .before .if1 .left) (d .before .before .before .op-of .ensures)
-    (d .if4 .left) 20 (c .before .if7 .taken)))
+    (d .if4 .left) llNumber (c .before .if7 .taken)))
     (λ c κs. search needs)
     (λ c. let d = c .before .before .before .before in
     let e = d .before .before .before .before in
     c .implies-fields .ensures
-    ∙ sym (step-fields _ _ (e .before .before .before .if1 .left) (e .op-of .ensures) (d .before .if4 .left) 21
+    ∙ sym (step-fields _ _ (e .before .before .before .if1 .left) (e .op-of .ensures) (d .before .if4 .left) ulNumber
     (c .before .if8 .taken)))
     (λ c. let d = c .before .before .before .before in
     let e = d .before .before .before .before in
