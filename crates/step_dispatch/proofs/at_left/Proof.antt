@@ -1,6 +1,8 @@
 -- `at_left` meets its contract.
-use mathlib.Core.Path.{sym, _∙_}
+use mathlib.Core.Path.{_≡_, sym, _∙_}
+use mathlib.Core.Bool.{true}
 use native.Mathlib.Omega.{arith}
+use Rattle.labels.specs.Labels.{member}
 use Rattle.labels.proofs.Sets.{member-below}
 use Rattle.steps.specs.Plans.{planOf, affirmed, left}
 use Rattle.step_plans.proofs.PlanTests.{holds, fails}
@@ -26,23 +28,30 @@ remove-requires c κs =
     let start = a .before .before .before in
     member-below _ 64 _ (omega (arith, start .good .1 .1 .1 .1 .0)) (holds (a .before .has .ensures) (a .if1 .left))
 
+-- where the step is read, seen from where its label is taken out of D
+abbrev read : tie.After-remove → tie.After-step-at
+read b = b .before .before .before .before
+
+-- its label is in D
+inside : (b : tie.After-remove) → member (read b .before .args .q .linear) (read b .step-at .result .label) ≡ true
+inside b = holds (b .before .before .before .has .ensures) (b .before .before .if1 .left)
+
 returns-7 : tie.Need-returns-7
 unfolding planOf affirmed left
 returns-7 c =
-    let s = c .before .before .before .before .before .before .before .before in
-    rw (read-as (s .step-at .ensures) (c .before .before .match .keys6), c .enum-told .given .1)
+    let b = c .before .before .before .before in
+    rw (read-as (read b .step-at .ensures) (c .before .before .match .keys6), c .enum-told .given .1)
 
 returns-8 : tie.Need-returns-8
 unfolding planOf affirmed left
 returns-8 c =
     let m = c .before .before .before .before .before in
     let b = m .before .before in
-    let a = b .before .before in
-    rw (read-as (a .before .before .step-at .ensures) (m .match .keys6))
+    rw (read-as (read b .step-at .ensures) (m .match .keys6))
     (simp (
       c .sl .ensures,
       c .before .before .before .g .given .1,
-      holds (a .before .has .ensures) (a .if1 .left),
+      inside b,
       b .remove .ensures,
       c .before .row-at6 .ensures,
       b .before .label-at .ensures,
@@ -53,13 +62,11 @@ unfolding planOf left
 returns-11 c =
     let m = c .before .before .before .before in
     let b = m .before .before in
-    let a = b .before .before in
-    let e = a .before .before .step-at .ensures in
-    rw (read-as e (m .match .keys9), holds (a .before .has .ensures) (a .if1 .left))
+    rw (read-as (read b .step-at .ensures) (m .match .keys9), inside b)
     (simp (
       c .ll .ensures,
       c .before .share .ensures,
-      c .before .before .before .step-at2 .ensures ∙ sym e,
+      c .before .before .before .step-at2 .ensures ∙ sym (read b .step-at .ensures),
       b .remove .ensures,
       c .before .before .row-at9 .ensures,
       b .before .label-at .ensures,
@@ -70,13 +77,8 @@ unfolding planOf left
 returns-12 c =
     let m = c .before .before .before in
     let b = m .before .before in
-    let a = b .before .before in
-    let s = a .before .before in
-    let e = s .step-at .ensures in
-    rw (
-      read-last e (left-row (sym e) (s .before .pre .1)) (m .match .rest),
-      holds (a .before .has .ensures) (a .if1 .left),
-    )
+    let e = read b .step-at .ensures in
+    rw (read-last e (left-row (sym e) (read b .before .pre .1)) (m .match .rest), inside b)
     (simp (
       c .ul .ensures,
       c .before .before .step-at3 .ensures ∙ sym e,
@@ -98,53 +100,25 @@ at-left-spec =
     (λ c κs. search needs) (λ c κs. search needs) (λ c κs. search needs) (λ c κs. search needs)
     (λ c κs. search needs) (λ c κs. search needs) (λ c κs. search needs)
     (λ c. let b = c .before .before .before .before in
-    let a = b .before .before in
-    rw (
-      read-as (a .before .before .step-at .ensures) (c .before .before .match .keys1),
-      holds (a .before .has .ensures) (a .if1 .left),
-    )
+    rw (read-as (read b .step-at .ensures) (c .before .before .match .keys1), inside b)
     (simp (c .ol .ensures, b .remove .ensures, c .before .row-at .ensures, b .before .label-at .ensures)))
     (λ c. let b = c .before .before .before .before in
-    let a = b .before .before in
-    rw (
-      read-as (a .before .before .step-at .ensures) (c .before .before .match .keys2),
-      holds (a .before .has .ensures) (a .if1 .left),
-    )
+    rw (read-as (read b .step-at .ensures) (c .before .before .match .keys2), inside b)
     (simp (c .w1 .ensures, b .remove .ensures, c .before .row-at2 .ensures, b .before .label-at .ensures)))
     (λ c. let b = c .before .before .before .before in
-    let a = b .before .before in
-    rw (
-      read-as (a .before .before .step-at .ensures) (c .before .before .match .keys3),
-      holds (a .before .has .ensures) (a .if1 .left),
-    )
+    rw (read-as (read b .step-at .ensures) (c .before .before .match .keys3), inside b)
     (simp (c .w2 .ensures, b .remove .ensures, c .before .row-at3 .ensures, b .before .label-at .ensures)))
     (λ c. let b = c .before .before .before .before in
-    let a = b .before .before in
-    rw (
-      read-as (a .before .before .step-at .ensures) (c .before .before .match .keys4),
-      holds (a .before .has .ensures) (a .if1 .left),
-    )
+    rw (read-as (read b .step-at .ensures) (c .before .before .match .keys4), inside b)
     (simp (c .bl .ensures, b .remove .ensures, c .before .row-at4 .ensures, b .before .label-at .ensures)))
     (λ c. let b = c .before .before .before .before in
-    let a = b .before .before in
-    rw (
-      read-as (a .before .before .step-at .ensures) (c .before .before .match .keys5),
-      holds (a .before .has .ensures) (a .if1 .left),
-    )
+    rw (read-as (read b .step-at .ensures) (c .before .before .match .keys5), inside b)
     (simp (c .hl .ensures, b .remove .ensures, c .before .row-at5 .ensures, b .before .label-at .ensures)))
     returns-7 returns-8
     (λ c. let b = c .before .before .before .before in
-    let a = b .before .before in
-    rw (
-      read-as (a .before .before .step-at .ensures) (c .before .before .match .keys7),
-      holds (a .before .has .ensures) (a .if1 .left),
-    )
+    rw (read-as (read b .step-at .ensures) (c .before .before .match .keys7), inside b)
     (simp (c .tl .ensures, b .remove .ensures, c .before .row-at7 .ensures, b .before .label-at .ensures)))
     (λ c. let b = c .before .before .before .before in
-    let a = b .before .before in
-    rw (
-      read-as (a .before .before .step-at .ensures) (c .before .before .match .keys8),
-      holds (a .before .has .ensures) (a .if1 .left),
-    )
+    rw (read-as (read b .step-at .ensures) (c .before .before .match .keys8), inside b)
     (simp (c .pl .ensures, b .remove .ensures, c .before .row-at8 .ensures, b .before .label-at .ensures)))
     returns-11 returns-12)
