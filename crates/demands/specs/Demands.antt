@@ -33,12 +33,11 @@ pub use Rattle.snapshot.specs.Reached.{Begins, Reached}
 use Rattle.demands.specs.History.{historyOf, issued, withdrawn}
 use Rattle.ledger.specs.Statements.{Pass, FirstFails, IsAccepted}
 
--- DEMAND 1. "If a sheet, of whatever bytes and length, fails a check of document 01, the call returns the number of the
--- first check that fails, the till and the lent sheet stay exactly as they were, and nothing is required of whoever
--- called but a till that calls gave."
--- "of whatever bytes and length", "nothing is required": this holds of all bytes and of every ledger, whether calls gave
--- it or not, with no hypothesis. "the lent sheet": a call of the definition has none to change; of the code see
--- `till_call` (crate entry).
+-- DEMAND 1. "If a sheet, of whatever bytes and length, fails a check of document 01, the call returns the number of
+-- the first check that fails, the till and the lent sheet stay exactly as they were, and nothing is required of
+-- whoever called but a till that calls gave." "of whatever bytes and length", "nothing is required": this holds of all
+-- bytes and of every ledger, whether calls gave it or not, with no hypothesis. "the lent sheet": a call of the
+-- definition has none to change; of the code see `till_call` (crate entry).
 
 pub record Demand1 (t : Ledger) (bytes : List ℕ) : Type 0 where
   -- "fails a check of document 01, the call returns the number of the first check that fails": these two numbers are
@@ -51,9 +50,9 @@ pub record Demand1 (t : Ledger) (bytes : List ℕ) : Type 0 where
   pub accepted : IsAccepted (toldOf t bytes) ↔ Pass (checksOf t bytes)
 
 -- DEMAND 2. "A booking sheet is accepted exactly when it passes the other checks and its steps are a derivation, by
--- document 01's ground rules of η-logic (report CMU-CS-07-166), of the wording and window wanted from the coupons named,
--- each single-use one used just once. Every such derivation within document 01's limits has step lines that pass. Other
--- sheets pass exactly when no check fails; each accepted call does what document 01 says."
+-- document 01's ground rules of η-logic (report CMU-CS-07-166), of the wording and window wanted from the coupons
+-- named, each single-use one used just once. Every such derivation within document 01's limits has step lines that
+-- pass. Other sheets pass exactly when no check fails; each accepted call does what document 01 says."
 
 -- "from the coupons named": the hypothesis of a credential, and those of a kind among the credentials held
 abbrev pub hyp : Ledger → Credential → Hyp
@@ -69,8 +68,8 @@ hypsOf t k (c ∷ cs) = elim (isKind k (c .kind)) [ true ↦ hyp t c ∷ hypsOf 
 abbrev pub Derivation : Ledger → List Credential → ℕ → Interval → Type 0
 Derivation t cs n i = Derives (hypsOf t Unrestricted cs) (hypsOf t Linear cs) (holds (formula t n) i)
 
--- Soundness: an accepted booking's steps are a derivation of its goal from the credentials that it names: its rules, in
--- their order and with the intervals that they choose, are those that the step lines name.
+-- Soundness: an accepted booking's steps are a derivation of its goal from the credentials that it names: its rules,
+-- in their order and with the intervals that they choose, are those that the step lines name.
 pub record SoundFor (t : Ledger) (b : Booking) : Type 0 where
   pub derivation : Derivation t (held (t .live) (b .holds)) (b .formula) (b .interval)
   pub lines : lettersOf (b .steps) ≡ letters derivation
@@ -104,14 +103,14 @@ pub record StepsFor (t : Ledger) (n : ℕ) (i : Interval) (hs : List ℕ) (rules
   pub writable : Every Writable lines
   pub pass : (now : ℕ) → stepsOf t (booking now n i hs lines) ≡ none
 
--- every derivation within the limits has step lines that pass, whatever its goal and the booking's minute; the limit of
--- 32 credentials is not needed here
+-- every derivation within the limits has step lines that pass, whatever its goal and the booking's minute; the limit
+-- of 32 credentials is not needed here
 abbrev pub StepsComplete : Type 0
 StepsComplete = (t : Ledger) → Reached t → (n : ℕ) (i : Interval) (hs : List ℕ)
     → (x : Derivation t (held (t .live) hs) n i) → WithinLimits (length hs) x → StepsFor t n i hs (letters x)
 
--- Down to bytes, for what a booking may name by the checks before its steps: its credentials live and no two alike, its
--- goal a plain formula of the ledger, its interval in range and well formed, with the minute in it.
+-- Down to bytes, for what a booking may name by the checks before its steps: its credentials live and no two alike,
+-- its goal a plain formula of the ledger, its interval in range and well formed, with the minute in it.
 pub record May (t : Ledger) (now n : ℕ) (i : Interval) (hs : List ℕ) : Type 0 where
   pub few : length hs ≤ holdCount .last
   pub live : anyOf (dead t) hs ≡ false
@@ -172,17 +171,17 @@ abbrev pub Exactness : Type 0
 Exactness = (t : Ledger) → Reached t → (bytes : List ℕ) (b : Booking) → requestOf bytes ≡ some (book b)
     → ExactlyFor t bytes b
 
--- "each accepted call does what document 01 says": an accepted call answers and leaves what `accept` says of the request
--- that its bytes are
+-- "each accepted call does what document 01 says": an accepted call answers and leaves what `accept` says of the
+-- request that its bytes are
 abbrev pub Accepts : Type 0
 Accepts = (t : Ledger) (bytes : List ℕ) → IsAccepted (toldOf t bytes)
     → (r : Request) × (requestOf bytes ≡ some r) × (call t bytes ≡ accept t r)
 
 -- DEMAND 3. "For every list of word, issue, withdraw, book and tally calls from an empty till, refused ones included,
 -- this holds after it, for every session and every minute: the sum of the open seats, shut seats and places that tally
--- answers and of the session's withdrawals equals the seats and places issued to it. It holds whatever bytes the sheets
--- are and whatever the booking sheets prove. Each call gets the till as the one before left it. Issued and withdrawn are
--- counted, as document 01 says, from the accepted sheets and their answers alone."
+-- answers and of the session's withdrawals equals the seats and places issued to it. It holds whatever bytes the
+-- sheets are and whatever the booking sheets prove. Each call gets the till as the one before left it. Issued and
+-- withdrawn are counted, as document 01 says, from the accepted sheets and their answers alone."
 
 pub record AddsUp (start : Ledger) (calls : List (List ℕ)) (s m : ℕ) : Type 0 where
   -- "the open seats, shut seats and places that tally answers": a tally of the session and the minute, made after the
@@ -191,13 +190,13 @@ pub record AddsUp (start : Ledger) (calls : List (List ℕ)) (s m : ℕ) : Type 
   pub shutSeats : ℕ
   pub placed : ℕ
   pub answer : toldOf (after start calls) (write (tally s m)) ≡ ok (openSeats ∷ shutSeats ∷ placed ∷ [])
-  -- "the sum of [these] and of the session's withdrawals equals the seats and places issued to it"; both are counted in
-  -- `historyOf`, "from the accepted sheets and their answers alone"
+  -- "the sum of [these] and of the session's withdrawals equals the seats and places issued to it"; both are counted
+  -- in `historyOf`, "from the accepted sheets and their answers alone"
   pub sum : openSeats + shutSeats + placed + withdrawn s (historyOf start calls) ≡ issued s (historyOf start calls)
 
--- "For every list of .. calls .., refused ones included", "whatever bytes the sheets are": every list of lists of bytes.
--- "from an empty till", and document 02's ask 5, "demand 3 holds from there as from an empty till", of an opened text:
--- `Begins`. "for every session and every minute": all that are in range.
+-- "For every list of .. calls .., refused ones included", "whatever bytes the sheets are": every list of lists of
+-- bytes. "from an empty till", and document 02's ask 5, "demand 3 holds from there as from an empty till", of an
+-- opened text: `Begins`. "for every session and every minute": all that are in range.
 abbrev pub Demand3 : Type 0
 Demand3 = (start : Ledger) → Begins start → (calls : List (List ℕ)) (s m : ℕ) → s inRange session → m inRange minute
     → AddsUp start calls s m
