@@ -2,9 +2,10 @@
 -- A request is given by its whole text. Those of the steps are in StepCases.antt.
 use mathlib.Core.Path.{_≡_}
 use mathlib.Core.List.{List, [], _∷_, _++_, map}
-use Prim.Native.Nat.{ℕ}
+use Prim.Native.Nat.{ℕ, zero, suc}
 use Prim.Native.String.{String}
 use Rattle.request.specs.Text.{bytes}
+use Rattle.request.specs.Write.{digits}
 use Rattle.ledger.specs.Ledger.{Ledger, empty}
 use Rattle.ledger.specs.Calls.{Told, ok, told, answers}
 use Rattle.ledger.specs.Sessions.{ofLines}
@@ -28,6 +29,11 @@ accepted n = ok (n ∷ [])
 
 abbrev pub refused : ℕ → Told
 refused n = Told.no n 0
+
+-- so many bytes, none of them a digit, a comma or a line end
+unfoldable pub manyBytes : ℕ → List ℕ
+manyBytes zero = []
+manyBytes (suc n) = 0 ∷ manyBytes n
 
 -- texts one after the other, from a ledger on and from the empty one
 unfoldable pub AnsweredFrom : Ledger → List Turn → Type 0
@@ -191,6 +197,10 @@ breakOrder =
     ("word,h,0,0,9,0,0\n" ⇒ accepted 1) ∷
     ("word,h,0,0,9,4,5\n" ⇒ accepted 2) ∷
     ("word,h,0,0,9,4,5\n" ⇒ refused 13) ∷
+    ("word,h,0,0,9,4,6\n" ⇒ accepted 3) ∷
+    ("word,g,0,9,0,0,3,4,0,0\n" ⇒ accepted 4) ∷
+    ("word,g,0,9,0,0,3,5,0,0\n" ⇒ accepted 5) ∷
+    ("word,g,0,9,0,0,3,5,0,0\n" ⇒ refused 13) ∷
     ("issue,s,0,0,9,0,0\n" ⇒ accepted 1) ∷
     (("book,5,0,0,9,9,9,1,2" ∷ "hold,1" ∷ "ax,0" ∷ "ul,0,9,0,0,0" ∷ []) ⇛ refused 3) ∷
     (("book,5,0,0,9,0,0,1,2" ∷ "hold,1" ∷ "ax,0" ∷ "ul,0,0,9,9,9" ∷ []) ⇛ refused 43) ∷
@@ -278,8 +288,109 @@ houses =
     ("withdraw,14\n" ⇒ accepted 14) ∷
     ("tally,7,5\n" ⇒ ok (6 ∷ 4 ∷ 1 ∷ [])) ∷ []
 
+-- The order of the checks once more: 13 of any earlier line; 10 before 12; 20 for @ and ⊇; 10, 20, 30 of a booking.
+-- What stands right of ⊃ may weigh: seat ⊸ (1 ⊃ seat) is balanced. Too many bytes are told before all else.
+abbrev pub orderAgain : List Turn
+orderAgain =
+    ("word,a,1,7\n" ⇒ accepted 0) ∷
+    ("word,o\n" ⇒ accepted 1) ∷
+    ("word,a,1,7\n" ⇒ refused 13) ∷
+    ("word,h,0,0,9,0,0\n" ⇒ accepted 2) ∷
+    ("word,g,0,9,0,0,3,4,0,0\n" ⇒ accepted 3) ∷
+    ("issue,s,2,0,9,0,0\n" ⇒ refused 20) ∷
+    ("issue,s,3,0,9,0,0\n" ⇒ refused 20) ∷
+    ("word,u,1,0\n" ⇒ accepted 4) ∷
+    ("word,l,0,4\n" ⇒ accepted 5) ∷
+    ("issue,r,5,0,9,0,0\n" ⇒ accepted 1) ∷
+    (("book,10,999,0,9,0,0,0,1" ∷ "or" ∷ []) ⇛ refused 10) ∷
+    (("book,10,1,0,9,0,0,0,1" ∷ "or" ∷ []) ⇛ refused 20) ∷
+    (("book,5,1,0,9,0,0,0,1" ∷ "or" ∷ []) ⇛ refused 20) ∷
+    ("word,t,0,0\n" ⇒ accepted 6) ∷
+    ("word,t,6,6\n" ⇒ accepted 7) ∷
+    ("word,t,7,7\n" ⇒ accepted 8) ∷
+    ("word,t,8,8\n" ⇒ accepted 9) ∷
+    ("word,t,9,9\n" ⇒ accepted 10) ∷
+    ("word,s,1,10\n" ⇒ accepted 11) ∷
+    ("word,t,11,999\n" ⇒ refused 10) ∷
+    record { text = manyBytes 16384; reply = refused 2 } ∷
+    record { text = manyBytes 16385; reply = refused 1 } ∷ []
+
+-- "principal 1" and no other, also above a house seat; whatever the session.
+abbrev pub housesAgain : List Turn
+housesAgain =
+    ("word,a,1,65535\n" ⇒ accepted 0) ∷
+    ("word,a,1,7\n" ⇒ accepted 1) ∷
+    ("word,t,0,1\n" ⇒ accepted 2) ∷
+    ("word,s,1,2\n" ⇒ accepted 3) ∷
+    ("word,s,1,3\n" ⇒ accepted 4) ∷
+    ("word,s,255,1\n" ⇒ accepted 5) ∷
+    ("issue,s,4,0,9,0,0\n" ⇒ accepted 1) ∷
+    ("issue,s,5,0,9,0,0\n" ⇒ accepted 2) ∷
+    ("tally,65535,5\n" ⇒ ok (1 ∷ 0 ∷ 0 ∷ [])) ∷
+    ("tally,7,5\n" ⇒ ok (1 ∷ 1 ∷ 0 ∷ [])) ∷ []
+
+-- atoms of session 7, predicates from k on
+unfoldable pub filling : ℕ → ℕ → List Turn
+filling zero k = []
+filling (suc n) k =
+    record { text = bytes "word,a," ++ digits k ++ bytes ",7\n"; reply = accepted k } ∷ filling n (suc k)
+
+-- "at most 200": the last is taken; 10, 12 and 13 before 14.
+abbrev pub fullTable : List Turn
+fullTable =
+    filling 194 0 ++
+    ("word,t,0,0\n" ⇒ accepted 194) ∷
+    ("word,t,194,194\n" ⇒ accepted 195) ∷
+    ("word,t,195,195\n" ⇒ accepted 196) ∷
+    ("word,t,196,196\n" ⇒ accepted 197) ∷
+    ("word,t,197,197\n" ⇒ accepted 198) ∷
+    ("word,o\n" ⇒ accepted 199) ∷
+    ("word,b,0\n" ⇒ refused 14) ∷
+    ("word,b,200\n" ⇒ refused 10) ∷
+    ("word,t,198,198\n" ⇒ refused 12) ∷
+    ("word,a,0,7\n" ⇒ refused 13) ∷ []
+
+-- "1 plus the sizes of the parts", of every connective: 63 and 62 made of ⊗ and ⟨1⟩, and what is put upon them.
+abbrev pub sizes : List Turn
+sizes =
+    ("word,a,9,7\n" ⇒ accepted 0) ∷
+    ("word,t,0,0\n" ⇒ accepted 1) ∷
+    ("word,t,1,1\n" ⇒ accepted 2) ∷
+    ("word,t,2,2\n" ⇒ accepted 3) ∷
+    ("word,t,3,3\n" ⇒ accepted 4) ∷
+    ("word,t,4,4\n" ⇒ accepted 5) ∷
+    ("word,s,1,0\n" ⇒ accepted 6) ∷
+    ("word,t,1,6\n" ⇒ accepted 7) ∷
+    ("word,t,2,7\n" ⇒ accepted 8) ∷
+    ("word,t,3,8\n" ⇒ accepted 9) ∷
+    ("word,t,4,9\n" ⇒ accepted 10) ∷
+    ("word,o\n" ⇒ accepted 11) ∷
+    ("word,g,0,9,0,0,0,9,0,0\n" ⇒ accepted 12) ∷
+    ("word,t,10,11\n" ⇒ accepted 13) ∷
+    ("word,t,5,11\n" ⇒ refused 12) ∷
+    ("word,t,10,12\n" ⇒ accepted 14) ∷
+    ("word,t,5,12\n" ⇒ refused 12) ∷
+    ("word,b,5\n" ⇒ accepted 15) ∷
+    ("word,b,15\n" ⇒ refused 12) ∷
+    ("word,h,5,0,9,0,0\n" ⇒ accepted 16) ∷
+    ("word,h,16,0,9,0,0\n" ⇒ refused 12) ∷
+    ("word,w,4,4\n" ⇒ accepted 17) ∷
+    ("word,s,1,17\n" ⇒ accepted 18) ∷
+    ("word,s,1,18\n" ⇒ refused 12) ∷
+    ("word,p,4,4\n" ⇒ accepted 19) ∷
+    ("word,s,1,19\n" ⇒ accepted 20) ∷
+    ("word,s,1,20\n" ⇒ refused 12) ∷
+    ("word,l,4,4\n" ⇒ accepted 21) ∷
+    ("word,s,1,21\n" ⇒ accepted 22) ∷
+    ("word,s,1,22\n" ⇒ refused 12) ∷
+    ("word,u,4,4\n" ⇒ accepted 23) ∷
+    ("word,s,1,23\n" ⇒ accepted 24) ∷
+    ("word,s,1,24\n" ⇒ refused 12) ∷ []
+
 abbrev pub cases : List (List Turn)
-cases = form ∷ order ∷ bookings ∷ tallies ∷ sessions ∷ breakOrder ∷ breaks ∷ houses ∷ []
+cases =
+    form ∷ order ∷ bookings ∷ tallies ∷ sessions ∷ breakOrder ∷ breaks ∷ houses ∷ orderAgain ∷ housesAgain
+    ∷ fullTable ∷ sizes ∷ []
 
 abbrev pub CasesPlay : Type 0
 CasesPlay = AllAnswered cases

@@ -91,6 +91,7 @@ two c = "till,1,3,1,2" ∷ "a,9,7" ∷ c ∷ "2,s,0,0,9,0,0" ∷ []
 abbrev pub credentials : List Turn
 credentials =
     (one "2,s,0,0,9,0,0" ⇛ accepted 33) ∷
+    (one "2,s,0,0,9,4,5" ⇛ accepted 33) ∷
     (one "2,x,0,0,9,0,0" ⇛ refused 50) ∷
     (one "2,s,0,0,9" ⇛ refused 50) ∷
     (one "02,s,0,0,9,0,0" ⇛ refused 50) ∷
@@ -108,8 +109,10 @@ abbrev pub rules : List Turn
 rules =
     (one "3,s,0,0,9,0,0" ⇛ refused 51) ∷
     (one "2,s,1,0,9,0,0" ⇛ refused 51) ∷
+    (one "2,s,999,0,9,0,0" ⇛ refused 51) ∷
     (one "2,s,0,9,0,0,0" ⇛ refused 51) ∷
     (one "2,s,0,0,9,0,9" ⇛ refused 51) ∷
+    (one "2,s,0,0,9,5,4" ⇛ refused 51) ∷
     (("till,1,3,1,1" ∷ "o" ∷ "2,s,0,0,9,0,0" ∷ []) ⇛ refused 51) ∷
     (("till,1,3,1,1" ∷ "o" ∷ "2,r,0,0,9,0,0" ∷ []) ⇛ accepted 29) ∷
     (("till,1,3,1,1" ∷ "a,1,7" ∷ "2,r,0,0,9,0,0" ∷ []) ⇛ refused 51) ∷
