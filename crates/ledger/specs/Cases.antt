@@ -44,7 +44,8 @@ AllAnswered [] = Unit {0}
 AllAnswered (ts ∷ more) = AnsweredFrom empty ts × AllAnswered more
 
 -- Form: "lines ended by byte 10", "no spaces", "without leading zeros", ranges, "empty"; 2 before all else but 1: "A
--- sheet has at most 16,384 bytes", of whatever form.
+-- sheet has at most 16,384 bytes." With a byte fewer or more allowed, or with 2 first, one of the last two texts would
+-- be answered otherwise.
 abbrev pub form : List Turn
 form =
     ("" ⇒ refused 2) ∷
@@ -73,7 +74,7 @@ form =
     record { text = manyBytes 16385; reply = refused 1 } ∷ []
 
 -- "Checks run in this order; the first to fail answers": 2, then 3 over the whole sheet, then the table's rows for each
--- kind of sheet. A request that two rows refuse gets the number of the earlier one.
+-- kind of sheet. Most requests fail at two rows or more, so that with these exchanged they would get another number.
 abbrev pub order : List Turn
 order =
     ("issue,s,1000,9,0,0,0\n" ⇒ refused 2) ∷

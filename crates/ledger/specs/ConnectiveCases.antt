@@ -102,7 +102,8 @@ refusedRight step (hold ∷ holds) =
     (("book,5,1,0,9,0,0,1,3" ∷ hold ∷ "cp,0" ∷ "ll,1,0000000000000000,0,9,0,0" ∷ step ∷ []) ⇛ Told.no 40 3)
     ∷ refusedRight step holds
 
--- A right step for every other connective: "`or`: 1, D empty" and not a ⊇, "`br`: !" and not @, and so on.
+-- A right step for every other connective: "`or`: 1, D empty" and not a ⊇, "`br`: !" and not @, and so on. A step that
+-- took a second connective for its own would pass.
 abbrev pub otherRights : List Turn
 otherRights =
     connectives
@@ -132,8 +133,8 @@ refusedAxiom (x ∷ xs) =
     (("book,5,1,0,9,0,0,2,4" ∷ x .0 ∷ x .1 ∷ "cp,0" ∷ "cp,1" ∷ "ll,3,0000000000000004,0,9,0,0" ∷ "ax,2" ∷ [])
     ⇛ Told.no 40 4) ∷ refusedAxiom xs
 
--- `ax`: "an atom equal to the goal": nothing else closes by it, though D holds just L and L is the goal. Of atoms, one
--- with the goal's predicate and session.
+-- `ax`: "D holds just L, an atom equal to the goal": no other formula closes by it, though D holds just L and L equals
+-- the goal; and of atoms the one with the goal's predicate and session. An `ax` for any equal formula would pass.
 abbrev pub onlyAtoms : List Turn
 onlyAtoms =
     connectives
@@ -151,7 +152,8 @@ unfoldable pub refusedStanding : List (String × String) → List Turn
 refusedStanding [] = []
 refusedStanding (x ∷ xs) = (("book,5,0,0,9,0,0,1,1" ∷ x .0 ∷ x .1 ∷ []) ⇛ Told.no 40 1) ∷ refusedStanding xs
 
--- "L is in D save at `cp`": a standing label is copied, and no left step uses it itself.
+-- "L is in D save at `cp`.": a standing label is copied, and no left step uses it itself. A step that took L from R too
+-- would pass.
 abbrev pub onlySingles : List Turn
 onlySingles =
     connectives
@@ -229,8 +231,9 @@ withoutAffirms =
     ∷ []) ⇛ accepted 18) ∷
     (("book,5,24,0,9,0,0,1,3" ∷ "hold,9" ∷ "sr" ∷ "af" ∷ "ax,0" ∷ []) ⇛ accepted 19) ∷ []
 
--- The steps that need no goal without affirms: `cp` and every left step right after `sr`. Each premise has the goal
--- "K affirms A" still, which `af` or `sl` then needs; A of `ll` and `ul` is without it.
+-- The others need no "goal without affirms": `cp` and every left step come right after `sr` and are right. "K, I and
+-- windows stay unless named": each premise still has the goal "K affirms A at I", which `af` or `sl` then asks for, but
+-- A of `ll` and `ul`, "A at J", is without it.
 abbrev pub underAffirms : List Turn
 underAffirms =
     ("word,a,9,7\n" ⇒ accepted 0) ∷

@@ -12,7 +12,8 @@ atomsFrom zero k = []
 atomsFrom (suc n) k =
     record { text = bytes "word,a," ++ digits k ++ bytes ",7\n"; reply = accepted k } ∷ atomsFrom n (suc k)
 
--- "The till .. holds at most 200": formula 199 is taken and the next is 14; 10, 12 and 13 come before it.
+-- "The till numbers them from 0 and holds at most 200": formula 199 is taken and the next is 14. With 14 tried earlier
+-- the last three lines would get it too, which are 10, 12 and 13.
 abbrev pub fullTable : List Turn
 fullTable =
     atomsFrom 194 0 ++
@@ -28,7 +29,8 @@ fullTable =
     ("word,a,0,7\n" ⇒ refused 13) ∷ []
 
 -- "no two lines equal": a line that differs from one that is there in its letter or in any one field is another line.
--- One that is there is 13, whether it came first, last or between.
+-- One that is there is 13, whether it came first, last or between. With a field left out of the comparison one of the
+-- lines from 1 to 26 would be 13.
 abbrev pub equalLines : List Turn
 equalLines =
     ("word,a,9,7\n" ⇒ accepted 0) ∷
@@ -111,8 +113,9 @@ sizes =
     ("word,s,1,25\n" ⇒ accepted 26) ∷
     ("word,s,1,26\n" ⇒ refused 12) ∷ []
 
--- "Plain: only `a`, `t`, `s`", in every part: every other letter is 20, alone and under these. "what stands under ! or
--- left of ⊃ weighs 0", and nothing is said of what stands right of ⊃: a seat for 1 ⊃ seat is balanced.
+-- "Plain: only `a`, `t`, `s`.": every other letter is 20, alone and as a part, and would be issued if it were plain.
+-- "what stands under ! or left of ⊃ weighs 0", and nothing is said of what stands right of ⊃: seat ⊸ (1 ⊃ seat) is
+-- balanced.
 abbrev pub plains : List Turn
 plains =
     ("word,a,1,7\n" ⇒ accepted 0) ∷

@@ -61,9 +61,9 @@ comparedPauses =
     (("book,1,0,0,9,0,0,1,4" ∷ "hold,12" ∷ "cp,0" ∷ "ul,1,0,9,0,0" ∷ "gr" ∷ "ax,2" ∷ []) ⇛ accepted 22) ∷
     (("book,1,0,0,9,0,0,1,4" ∷ "hold,13" ∷ "cp,0" ∷ "ul,1,0,9,0,0" ∷ "gr" ∷ "ax,2" ∷ []) ⇛ accepted 23) ∷ []
 
--- "K, I and windows stay unless named": what replaces L keeps L's break, with `ll`, `ul` and `hl` it has J's. A part or
--- copy that lost its break would prove a goal over it, and one that lost the named window's would not. Formulas 2 and 3
--- are A@J for a J without and with the break; serials 1 to 7 have the break and 8 to 12 have none.
+-- "K, I and windows stay unless named": what replaces L keeps L's break, and with `ll`, `ul` and `hl` it has J's. A
+-- part or a copy that lost its break would prove the goals over the break, which are refused here. Formulas 2 and 3 are
+-- A@J for a J without and with the break; serials 8 to 12 have no break, the others have it.
 abbrev pub pausedParts : List Turn
 pausedParts =
     ("word,a,9,7\n" ⇒ accepted 0) ∷

@@ -45,8 +45,9 @@ tensors =
     (("book,5,2,0,9,0,0,2,3" ∷ "hold,2" ∷ "hold,3" ∷ "tr,0000000000000002" ∷ "ax,0" ∷ "ax,1" ∷ []) ⇛ Told.no 40 2) ∷
     (("book,5,2,0,9,0,0,2,3" ∷ "hold,2" ∷ "hold,3" ∷ "tr,0000000000000001" ∷ "ax,0" ∷ "ax,1" ∷ []) ⇛ accepted 5) ∷ []
 
--- "a share: 16 lower-case hexadecimal digits"; "bit k (worth 2 to the k) stands for label k; it must lie within D".
--- Capitals would be read, or letters not, or a share that is too long or too short.
+-- "a share: 16 lower-case hexadecimal digits"; "bit k (worth 2 to the k) stands for label k". A reader that took
+-- capitals for digits, or a share of another length, would not answer 2; one without letters would refuse the last
+-- booking.
 abbrev pub shares : List Turn
 shares =
     ("word,a,9,7\n" ⇒ accepted 0) ∷
