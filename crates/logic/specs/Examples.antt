@@ -31,15 +31,15 @@ pub record Examples : Type 0 where
   -- M9: the sixth has size 63
   pub size-of-twofold : size (twofold 5) ≡ 63
   pub size-of-offer : size offer ≡ 8
-  -- "1 plus the sizes of the parts, a part used twice counted twice": of 1, ⊇, @, !, ⟨K⟩, &, ⊕, ⊃
+  -- "1 plus the sizes of the parts, a part used twice counted twice": of 1, ⊇, ⟨K⟩, @, !, &, ⊕, ⊃
   pub size-of-one : size one ≡ 1
   pub size-of-superset : size (superset (span 0 9 0 0) (span 3 4 0 0)) ≡ 1
-  pub size-of-at : size (at offer (span 0 9 0 0)) ≡ 9
-  pub size-of-bang : size (bang offer) ≡ 9
-  pub size-of-says : size (says 1 offer) ≡ 9
-  pub size-of-with : size (with offer offer) ≡ 17
-  pub size-of-plus : size (plus offer offer) ≡ 17
-  pub size-of-implies : size (implies offer offer) ≡ 17
+  pub size-of-says : size seat7 ≡ 2
+  pub size-of-at : size (at seat7 (span 0 9 0 0)) ≡ 3
+  pub size-of-bang : size (bang seat7) ≡ 3
+  pub size-of-with : size (with seat7 seat7) ≡ 5
+  pub size-of-plus : size (plus seat7 seat7) ≡ 5
+  pub size-of-implies : size (implies seat7 seat7) ≡ 5
   -- the offer weighs 0 for session 7 and counts one seat and one place
   pub offer-weighs : weight 7 offer ≡ pos 0
   pub seat-weighs : weight 7 (lolli seat7 one) ≡ negsuc 0
