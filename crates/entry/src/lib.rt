@@ -12,6 +12,7 @@ ghost use Rattle.ledger.specs.Calls.{told};
 ghost use Rattle.store_cells.specs.Layout.{cells};
 ghost use Rattle.store.specs.Store.{Good, StandsFor};
 ghost use Rattle.step_rows.specs.StepRows.{stepCells};
+ghost use Rattle.entry.specs.Examples.{NumbersExamples};
 ghost use Rattle.entry.specs.Edition.{edition};
 ghost use Rattle.entry.specs.Entered.{numbers, Entered};
 ghost use Rattle.entry.specs.Played.{PlayedIs, CallsAnswered, BookingsExact, CallsAddUp};
@@ -79,6 +80,11 @@ pub fn tell(a: Answer, answer: &mut [u32; 4])
         }
     }
 }
+
+// Answers in numbers, computed. The function does nothing: its `ensures` is what is proved.
+pub fn numbers_compute()
+    ensures { λ _. ⌜ NumbersExamples ⌝ }
+{}
 
 // Answers a sheet: {1, n, 0, 0} accepted with a value, {3, open, shut, placed} a tally, {0, refusal, step, 0} refused.
 #[no_mangle]

@@ -6,5 +6,8 @@ pub mod Bounds
 pub mod Statements
 pub mod Sessions
 pub mod Cases
+pub mod FormulaCases
 pub mod StepCases
+pub mod PauseCases
+pub mod ConnectiveCases
 pub mod LastSerials
