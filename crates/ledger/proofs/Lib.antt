@@ -1,4 +1,5 @@
 pub mod Answers
+pub mod SameLines
 pub mod Firsts
 pub mod Credentials
 pub mod Passed
