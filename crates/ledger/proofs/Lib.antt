@@ -5,6 +5,7 @@ pub mod Credentials
 pub mod Passed
 pub mod Walk
 pub mod FormulaTable
+pub mod Numbers
 pub mod Bounds
 pub mod Compute
 pub mod Sessions

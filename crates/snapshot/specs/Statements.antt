@@ -9,9 +9,10 @@ use Rattle.request.specs.Range.{serial}
 use Rattle.request.specs.Request.{Line, word, issue}
 use Rattle.ledger.specs.declared.Credential.{Credential}
 use Rattle.ledger.specs.declared.Answer.the-variants.{Accepted, Refused}
-use Rattle.ledger.specs.Ledger.{Ledger}
+use Rattle.ledger.specs.Ledger.{Ledger, formula}
 use Rattle.ledger.specs.Checks.{first, maxFormulas, maxLive, readChecks}
 use Rattle.ledger.specs.Calls.{reply, Told, told}
+use Rattle.ledger.specs.Bounds.{lineAt}
 use Rattle.ledger.specs.Statements.{Pass, FirstFails, IsAccepted}
 use Rattle.snapshot.specs.Snapshot.{text, longestText, lineRules, credentialRules, openChecks, Opens}
 use Rattle.snapshot.specs.Reopen.{reopen, Closing, close}
@@ -32,6 +33,15 @@ LongestText = (t : Ledger) → Reached t → length (text t) ≤ longestText
 -- "a contract may ask of its till what holds of all such": from an opened text on too
 abbrev pub AlwaysLawful : Type 0
 AlwaysLawful = (t : Ledger) → Reached t → Lawful t
+
+-- "no two lines equal, so equal number means equal formula": of the numbers of a ledger's lines, those of equal lines
+-- are equal, and those of equal formulas
+pub record Numbered (t : Ledger) : Type 0 where
+  pub lines : (m n : ℕ) → m < length (t .lines) → n < length (t .lines) → lineAt t m ≡ lineAt t n → m ≡ n
+  pub formulas : (m n : ℕ) → m < length (t .lines) → n < length (t .lines) → formula t m ≡ formula t n → m ≡ n
+
+abbrev pub NumbersApart : Type 0
+NumbersApart = (t : Ledger) → Reached t → Numbered t
 
 -- "a rule that word or issue would enforce (14, 22, 23 apart)": where these three pass, the first rule that a line or a
 -- credential breaks is the check by which word or issue would refuse it
