@@ -11,7 +11,7 @@ use Rattle.logic.specs.Counts.{balanced}
 use Rattle.request.specs.Range.{serial}
 use Rattle.steps.specs.declared.Row.{Row}
 use Rattle.ledger.specs.Table.{form, names, rowOf}
-pub use Rattle.ledger.specs.Rows.{lineOf}
+unfoldable pub use Rattle.ledger.specs.Rows.{lineOf}
 use Rattle.ledger.specs.Ledger.{Ledger, formula}
 use Rattle.ledger.specs.Checks.{maxSize, maxFormulas, maxLive}
 use Rattle.ledger.specs.Bounds.{There, Bounded}
