@@ -20,11 +20,11 @@ use Rattle.read_rest.specs.LinesRead.{holdsCheck, holdsOf, HoldsIs, Step
 -- hold lines
 pub holds-told : {q : Option (List ℕ × List ℕ)} {s : List ℕ} {count : ℕ} {serials : List ℕ} (r : HoldsRead)
     → holdsOf s count serials r ≡ q → length serials ≡ maxHolds → HoldsIs q s count serials r
+unfolding _if_
 holds-told {q} {s} {count} {serials} r e l =
     record { check = go r ∙ ap (λ (o : Option (List ℕ × List ℕ)). 2 if isNone o) e; lines = e; long = l }
   where
     go : (r : HoldsRead) → holdsCheck r ≡ (2 if isNone (holdsOf s count serials r))
-    unfolding _if_
     go (Read i) = refl
     go NoHolds = refl
 
