@@ -306,11 +306,10 @@ module _ (b : List ℕ) {t : Ledger} (e : passing b ≡ some t) where
 pub opened : (l b m : List ℕ) → passing b ≡ some (ledgerOf m) → Good m → Opened l b (Accepted (length b)) m
 opened l b m e g =
     let x = passes b e in
-    let z : reopen (ledgerOf l) b ≡ reply (Accepted (length b)) (ledgerOf m) =
-    open-answers (ledgerOf l) b .answers (ledgerOf m) (record { reads = x .reads; passes = x .checks }) in
+    let z = open-answers (ledgerOf l) b .answers (ledgerOf m) (record { reads = x .reads; passes = x .checks }) in
     record {
-      answer = sym (ap (λ (d : Reply). told (d .answer)) z);
-      ledger = sym (ap (λ (d : Reply). d .ledger) z);
+      answer = sym (z .answer);
+      ledger = sym (z .ledger);
       good = λ y. g;
       same = λ n k q. absurd (subst IsAccepted q tt);
     }
