@@ -1,4 +1,5 @@
 pub mod Table
+pub mod Rows
 pub mod Ledger
 pub mod Checks
 pub mod Calls

@@ -3,7 +3,7 @@
 // functions here do nothing: each ensures a statement of specs/, and that it is proved is the point.
 
 ghost use Rattle.ledger.specs.Bounds.{AlwaysBounded};
-ghost use Rattle.ledger.specs.Statements.{Refusals};
+ghost use Rattle.ledger.specs.Statements.{Refusals, SameLine};
 ghost use Rattle.ledger.specs.Sessions.{SessionsPlay, Plays, M10, LaterPlay};
 ghost use Rattle.ledger.specs.Cases.{CasesPlay};
 ghost use Rattle.ledger.specs.FormulaCases.{FormulaCasesPlay};
@@ -45,6 +45,11 @@ pub fn always_bounded()
 // A refusal leaves the ledger as it was, and has a step exactly for 40 to 42.
 pub fn refusals()
     ensures { λ _. ⌜ Refusals ⌝ }
+{}
+
+// Refusal 13 is of equal lines: its test is equality.
+pub fn lines_are_compared()
+    ensures { λ _. ⌜ SameLine ⌝ }
 {}
 
 // Document 01's sessions: M1 to M9, and M10; M1 for guests who are late.
