@@ -359,29 +359,31 @@ def written():
     return "\n".join(out + way(list(uses)) + ["```"]) + "\n"
 
 
-def faults():
-    """Where crates.txt and crates/README.md are not what the crates give."""
+def looked_at():
+    """What is wrong with each line of crates.txt, its groups, each file that is made and the place in READING."""
     there, right = listed(), needed()
     for name in there:
-        for other in sorted(set(there[name]) ^ set(right[name])):
-            yield f"crates.txt: {name} " + ("uses" if other in right[name] else "does not use") + f" {other}"
+        more, fewer = sorted(set(right[name]) - set(there[name])), sorted(set(there[name]) - set(right[name]))
+        yield [f"crates.txt: {name} uses {other}" for other in more] + [
+            f"crates.txt: {name} does not use {other}" for other in fewer]
     grouped = [name for _, names in groups() for name in names]
-    if sorted(grouped) != sorted(there):
-        yield "crates.txt: a crate stands in no group"
+    yield [] if sorted(grouped) == sorted(there) else ["crates.txt: a crate stands in no group"]
     for path, text in made().items():
-        if not os.path.isfile(path) or read(path) != text:
-            yield f"{os.path.relpath(path, ROOT)} is not what the crates give: run tests/docs/crates.py"
-    if not WAY.search(read(READING)):
-        yield "docs/READING.md has no place for the way of a sheet's bytes"
+        same = os.path.isfile(path) and read(path) == text
+        yield [] if same else [f"{os.path.relpath(path, ROOT)} is not what the crates give: run tests/docs/crates.py"]
+    yield [] if WAY.search(read(READING)) else ["docs/READING.md has no place for the way of a sheet's bytes"]
 
 
 def main(words):
     if words == ["--list"]:
         print("\n".join(" ".join([f"{name}:", *uses]) for name, uses in needed().items()))
     elif words == ["--check"]:
-        wrong = list(faults())
-        print("\n".join(wrong), end="\n" if wrong else "")
-        return not wrong
+        looked = list(looked_at())
+        for fault in (fault for faults in looked for fault in faults):
+            print(fault)
+        failed = sum(map(bool, looked))
+        print(f"{len(looked) - failed} passed, {failed} failed")
+        return failed == 0 and bool(listed())
     elif not words:
         for path, text in made().items():
             if not os.path.isfile(path) or read(path) != text:
