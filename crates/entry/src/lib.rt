@@ -15,7 +15,8 @@ ghost use Rattle.step_rows.specs.StepRows.{stepCells};
 ghost use Rattle.entry.specs.Examples.{NumbersExamples};
 ghost use Rattle.entry.specs.Edition.{edition};
 ghost use Rattle.entry.specs.Entered.{numbers, Entered};
-ghost use Rattle.entry.specs.Played.{PlayedIs, CallsAnswered, BookingsExact, CallsAddUp};
+ghost use Rattle.entry.specs.Played.{StartMade, CallsMeet, PlayedIs, CallsAnswered, BookingsExact};
+ghost use Rattle.entry.specs.Played.{CallsAddUp, CallsArrive};
 
 const EDITION: u32 = 1;
 
@@ -95,17 +96,22 @@ pub extern "C" fn till_call(
     answer: &mut [u32; 4],
 )
     requires { ⌜ Good (now till) ⌝ }
-    ensures { λ _. ⌜ Entered (now (till .entry)) (now (sheet .entry)) (now (answer .exit)) (now (till .exit)) ⌝ }
+    ensures entered { λ _. ⌜ Entered (now (till .entry)) (now (sheet .entry)) (now (answer .exit))
+        (now (till .exit)) ⌝ }
+    ensures lent { λ _. ⌜ now (sheet .exit) ≡ now (sheet .entry) ⌝ }
 {
     let a = call::call(till, sheet, scratch);
     tell(a, answer);
 }
 
 // Calls in a row, on a block that was made: started, or opened. The function does nothing: its `ensures` is what is
-// proved of them, the demands of the running code.
+// proved of them, the demands and document 02's ask 4 of the running code.
 pub fn calls_in_a_row()
+    ensures started { λ _. ⌜ StartMade ⌝ }
+    ensures met { λ _. ⌜ CallsMeet ⌝ }
     ensures played { λ _. ⌜ PlayedIs ⌝ }
     ensures answered { λ _. ⌜ CallsAnswered ⌝ }
     ensures bookings { λ _. ⌜ BookingsExact ⌝ }
     ensures sums { λ _. ⌜ CallsAddUp ⌝ }
+    ensures later { λ _. ⌜ CallsArrive ⌝ }
 {}

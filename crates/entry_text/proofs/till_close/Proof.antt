@@ -1,5 +1,5 @@
 -- `till_close` meets its contract.
-use mathlib.Core.Path.{_≡_, ap, _∙_}
+use mathlib.Core.Path.{_≡_, refl, ap, _∙_}
 use mathlib.Core.List.{List}
 use Prim.Native.Nat.{ℕ, _<_}
 use native.Mathlib.Omega.{arith}
@@ -28,11 +28,13 @@ same-length c =
 
 returns : tie.Need-returns
 returns c =
-    let e = c .before .before .before .before .close .ensures in
-    record {
-      answer = c .tell .ensures ∙ ap numbers (e .answer);
-      buffer = e .buffer;
-    }
+    let e = c .before .before .before .before .close .ensures in (
+      record {
+        answer = c .tell .ensures ∙ ap numbers (e .answer);
+        buffer = e .buffer;
+      },
+      refl,
+    )
 
 pub till-close-spec : {M : Type 1} → statement M
 till-close-spec = tie.close (tie.spec (λ c κs. search needs) (λ c κs. search needs) same-length returns)
