@@ -119,14 +119,21 @@ start =
     ("issue,s,2,0,9,0,0\n" ⇒ accepted 2) ∷
     ("issue,r,1,0,9,0,0\n" ⇒ accepted 3) ∷ []
 
--- "All holds pass 24 before 31 is tried"; 31 of both kinds; 30 before both; a step's window is 3; a label out of range
--- is 2, one never taken 40; more lines than announced are 2; of lines that follow the close the first is 42.
+-- "All holds pass 24 before 31 is tried"; 31 of both kinds, also with another hold between; 30 before both; a window of
+-- head or step is 3, before 10 and after 2, which the last line may bring; a label out of range is 2, one never taken
+-- 40; more lines than announced are 2; of lines that follow the close the first is 42.
 abbrev pub bookings : List Turn
 bookings =
     start ++
     (("book,5,0,0,9,0,0,3,1" ∷ "hold,1" ∷ "hold,1" ∷ "hold,9" ∷ "ax,0" ∷ []) ⇛ refused 24) ∷
     (("book,5,0,0,9,0,0,2,1" ∷ "hold,1" ∷ "hold,1" ∷ "ax,0" ∷ []) ⇛ refused 31) ∷
     (("book,5,1,0,9,0,0,2,2" ∷ "hold,3" ∷ "hold,3" ∷ "cp,0" ∷ "ax,2" ∷ []) ⇛ refused 31) ∷
+    (("book,5,0,0,9,0,0,3,1" ∷ "hold,1" ∷ "hold,2" ∷ "hold,1" ∷ "ax,0" ∷ []) ⇛ refused 31) ∷
+    (("book,5,0,9,0,0,0,1,1" ∷ "hold,1" ∷ "ax,0" ∷ []) ⇛ refused 3) ∷
+    (("book,5,999,9,0,0,0,1,1" ∷ "hold,1" ∷ "ax,0" ∷ []) ⇛ refused 3) ∷
+    (("book,5,0,9,0,0,0,1,1" ∷ "hold,1" ∷ "ax,64" ∷ []) ⇛ refused 2) ∷
+    (("book,5,0,9,0,0,0,1,1" ∷ "hold,1" ∷ "ax,0" ∷ "ax,0" ∷ []) ⇛ refused 2) ∷
+    (("book,5,0,0,9,0,0,1,2" ∷ "hold,1" ∷ "ll,0,0000000000000000,9,0,0,0" ∷ "ul,0,0,9,0,0" ∷ []) ⇛ refused 3) ∷
     (("book,10,0,0,9,0,0,2,1" ∷ "hold,1" ∷ "hold,9" ∷ "ax,0" ∷ []) ⇛ refused 30) ∷
     (("book,5,0,0,9,0,0,1,2" ∷ "hold,1" ∷ "ax,0" ∷ "ul,0,9,0,0,0" ∷ []) ⇛ refused 3) ∷
     (("book,5,0,0,9,0,0,1,1" ∷ "hold,1" ∷ "ax,64" ∷ []) ⇛ refused 2) ∷
@@ -138,7 +145,7 @@ bookings =
     (("book,5,3,0,9,0,0,1,4" ∷ "hold,2" ∷ "sr" ∷ "sl,0" ∷ "af" ∷ "ax,1" ∷ []) ⇛ Told.no 40 2) ∷
     (("book,5,2,0,9,0,0,1,4" ∷ "hold,2" ∷ "sr" ∷ "sl,0" ∷ "af" ∷ "ax,1" ∷ []) ⇛ accepted 4) ∷ []
 
--- "in a window that has the minute": both ends are in; an unrestricted credential
+-- "in a window that has the minute": both ends are in, minute 0 too where 0,0 is the break; an unrestricted credential
 -- counts nothing; a part counts as often as it stands there. A booking makes the seat a place, and the credential that
 -- it gave can be withdrawn.
 abbrev pub tallies : List Turn
@@ -162,6 +169,7 @@ tallies =
     ("tally,7,5\n" ⇒ ok (0 ∷ 0 ∷ 1 ∷ [])) ∷
     ("issue,r,4,0,9,0,0\n" ⇒ accepted 4) ∷
     ("issue,s,2,0,9,0,0\n" ⇒ accepted 5) ∷
+    ("tally,7,0\n" ⇒ ok (1 ∷ 0 ∷ 1 ∷ [])) ∷
     ("tally,7,5\n" ⇒ ok (1 ∷ 0 ∷ 1 ∷ [])) ∷
     (("book,5,1,0,9,0,0,2,7" ∷ "hold,4" ∷ "hold,5" ∷ "cp,0" ∷ "ll,2,0000000000000002,0,9,0,0" ∷ "sr" ∷ "sl,1" ∷ "af"
     ∷ "ax,3" ∷ "ax,4" ∷ []) ⇛ accepted 6) ∷
@@ -220,18 +228,27 @@ breakOrder =
     ("word,g,0,9,9,9,0,9,0,0\n" ⇒ refused 43) ∷
     ("word,g,0,9,0,0,0,9,9,9\n" ⇒ refused 43) ∷
     ("word,g,0,9,9,9,5,4,0,0\n" ⇒ refused 3) ∷
+    ("word,g,5,4,0,0,0,9,9,9\n" ⇒ refused 3) ∷
+    ("word,h,999,0,9,0,9\n" ⇒ refused 43) ∷
+    ("issue,r,0,0,9,0,9\n" ⇒ refused 43) ∷
     ("word,g,0,9,0,0,0,9\n" ⇒ refused 2) ∷
     ("word,h,0,0,9,0,0\n" ⇒ accepted 1) ∷
     ("word,h,0,0,9,4,5\n" ⇒ accepted 2) ∷
     ("word,h,0,0,9,4,5\n" ⇒ refused 13) ∷
+    ("word,u,0,0\n" ⇒ accepted 3) ∷
+    ("word,u,0,0\n" ⇒ refused 13) ∷
     ("issue,s,0,0,9,0,0\n" ⇒ accepted 1) ∷
     (("book,5,0,0,9,9,9,1,2" ∷ "hold,1" ∷ "ax,0" ∷ "ul,0,9,0,0,0" ∷ []) ⇛ refused 3) ∷
     (("book,5,0,0,9,0,0,1,2" ∷ "hold,1" ∷ "ax,0" ∷ "ul,0,0,9,9,9" ∷ []) ⇛ refused 43) ∷
+    (("book,5,0,0,9,9,9,1,1" ∷ "hold,9" ∷ "ax,0" ∷ []) ⇛ refused 43) ∷
+    (("book,5,0,0,9,9,9,1,1" ∷ "hold,1" ∷ "ax,64" ∷ []) ⇛ refused 2) ∷
+    (("book,5,0,0,9,9,9,1,1" ∷ "hold,1" ∷ "ax,0" ∷ "ax,0" ∷ []) ⇛ refused 2) ∷
     (("book,5,0,0,9,0,0,1,2" ∷ "hold,1" ∷ "ax,0" ∷ "ll,0,0000000000000000,0,9,0,9" ∷ []) ⇛ refused 43) ∷
     (("book,5,9,0,9,9,9,1,1" ∷ "hold,1" ∷ "ax,0" ∷ []) ⇛ refused 43) ∷ []
 
 -- "A window is then the set of its minutes without the break": tally at both ends of the break and beside them; now in
--- the break is outside (30). The goal may have a larger break or lie on one side, and not over the credential's break.
+-- the break, at its ends too, is outside (30), and beside it is not. The goal may have a larger break or lie on one
+-- side, and not over the credential's break.
 abbrev pub breaks : List Turn
 breaks =
     ("word,a,1,7\n" ⇒ accepted 0) ∷
@@ -242,6 +259,10 @@ breaks =
     ("tally,7,59\n" ⇒ ok (0 ∷ 1 ∷ 0 ∷ [])) ∷
     ("tally,7,60\n" ⇒ ok (1 ∷ 0 ∷ 0 ∷ [])) ∷
     (("book,50,1,0,99,40,59,1,4" ∷ "hold,1" ∷ "sr" ∷ "sl,0" ∷ "af" ∷ "ax,1" ∷ []) ⇛ refused 30) ∷
+    (("book,40,1,0,99,40,59,1,1" ∷ "hold,1" ∷ "or" ∷ []) ⇛ refused 30) ∷
+    (("book,59,1,0,99,40,59,1,1" ∷ "hold,1" ∷ "or" ∷ []) ⇛ refused 30) ∷
+    (("book,39,1,0,99,40,59,1,1" ∷ "hold,1" ∷ "or" ∷ []) ⇛ Told.no 40 1) ∷
+    (("book,60,1,0,99,40,59,1,1" ∷ "hold,1" ∷ "or" ∷ []) ⇛ Told.no 40 1) ∷
     (("book,5,1,0,99,0,0,1,4" ∷ "hold,1" ∷ "sr" ∷ "sl,0" ∷ "af" ∷ "ax,1" ∷ []) ⇛ Told.no 40 2) ∷
     (("book,5,1,0,99,41,60,1,4" ∷ "hold,1" ∷ "sr" ∷ "sl,0" ∷ "af" ∷ "ax,1" ∷ []) ⇛ Told.no 40 2) ∷
     (("book,5,1,0,99,39,58,1,4" ∷ "hold,1" ∷ "sr" ∷ "sl,0" ∷ "af" ∷ "ax,1" ∷ []) ⇛ Told.no 40 2) ∷

@@ -31,12 +31,18 @@ copies =
     (("book,3,0,3,4,0,0,1,2" ∷ "hold,1" ∷ "cp,0" ∷ "ax,1" ∷ []) ⇛ accepted 3) ∷
     ("withdraw,1\n" ⇒ accepted 1) ∷ []
 
--- "left from the share, right from the rest of D"; "`tl` takes the left part's first"; "L is in D save at `cp`".
+-- "left from the share, right from the rest of D"; "it must lie within D", and neither in R nor among labels that are
+-- spent; "`tl` takes the left part's first", and both need a label; "L is in D save at `cp`".
 abbrev pub tensors : List Turn
 tensors =
     offers "word,t,0,1\n" ++
     ("word,t,1,0\n" ⇒ accepted 3) ∷
     (("book,5,2,0,9,0,0,1,4" ∷ "hold,1" ∷ "tl,0" ∷ "tr,0000000000000002" ∷ "ax,1" ∷ "ax,2" ∷ []) ⇛ Told.no 40 1) ∷
+    (("book,5,2,0,9,0,0,3,3" ∷ "hold,1" ∷ "hold,2" ∷ "hold,3" ∷ "tr,0000000000000003" ∷ "ax,1" ∷ "ax,2"
+    ∷ []) ⇛ Told.no 40 1) ∷
+    (("book,5,2,0,9,0,0,1,5" ∷ "hold,1" ∷ "cp,0" ∷ "tl,1" ∷ "tr,0000000000000006" ∷ "ax,2" ∷ "ax,3"
+    ∷ []) ⇛ Told.no 40 3) ∷
+    (("book,5,0,0,9,0,0,1,63" ∷ "hold,1" ∷ times 62 "cp,0" ++ ("tl,1" ∷ [])) ⇛ Told.no 41 63) ∷
     (("book,5,3,0,9,0,0,1,5" ∷ "hold,1" ∷ "cp,0" ∷ "tl,1" ∷ "tr,0000000000000004" ∷ "ax,2" ∷ "ax,3"
     ∷ []) ⇛ Told.no 40 4) ∷
     (("book,5,3,0,9,0,0,1,5" ∷ "hold,1" ∷ "cp,0" ∷ "tl,1" ∷ "tr,0000000000000008" ∷ "ax,3" ∷ "ax,2"
@@ -135,11 +141,13 @@ pluses =
     ∷ []) ⇛ accepted 11) ∷ []
 
 -- "L's window ⊇ J = from..to; A at J from the share .. then the goal from the rest with B at J for L": neither is at
--- L's window. A window that overlaps does not contain.
+-- L's window. A window that overlaps does not contain. No label of R is in the share.
 abbrev pub lollies : List Turn
 lollies =
     offers "word,l,0,1\n" ++
     ("issue,s,0,3,4,0,0\n" ⇒ accepted 4) ∷
+    (("book,5,1,0,9,0,0,2,4" ∷ "hold,1" ∷ "hold,2" ∷ "cp,0" ∷ "ll,2,0000000000000003,0,9,0,0" ∷ "ax,1" ∷ "ax,3"
+    ∷ []) ⇛ Told.no 40 2) ∷
     (("book,5,1,0,9,0,0,2,4" ∷ "hold,1" ∷ "hold,2" ∷ "cp,0" ∷ "ll,2,0000000000000002,5,10,0,0" ∷ "ax,1" ∷ "ax,3"
     ∷ []) ⇛ Told.no 40 2) ∷
     (("book,5,1,0,9,0,0,2,4" ∷ "hold,1" ∷ "hold,2" ∷ "cp,0" ∷ "ll,2,0000000000000002,3,4,0,0" ∷ "ax,1" ∷ "ax,3"
