@@ -21,7 +21,7 @@ use Rattle.request.proofs.Gives.{Gives, nothing, just, given, gives-then}
 use Rattle.request.proofs.Digits.{number-only}
 use Rattle.steps.specs.declared.Row.{Row}
 use Rattle.ledger.specs.Ledger.{isNone}
-use Rattle.ledger.proofs.Firsts.{if-true, if-some, none-there}
+use Rattle.ledger.proofs.Firsts.{if-true}
 use Rattle.read_fields.specs.Field.{fieldTo, strip}
 use Rattle.read_formulas.specs.Line.{readLine, intervalTo, rowed}
 use Rattle.read_heads.specs.First.{after, issueFields, WordIs, FormBroken, FirstIs, requestFrom}
@@ -36,11 +36,8 @@ use Rattle.read_formulas.proofs.WordTables.{Table, inside, word-found, no-word,
 
 -- The form is broken where there is no request
 
-pub broken : {q : Option Request} → q ≡ none → FormBroken q
+broken : {q : Option Request} → q ≡ none → FormBroken q
 broken {q} e = record { check = sym (if-true 2 (isNone q) (ap isNone e)) }
-
-pub no-request : {q : Option Request} → FormBroken q → q ≡ none
-no-request {q} b = none-there q (if-some 2 (isNone q) (sym (b .check)))
 
 -- A line that is the whole request
 

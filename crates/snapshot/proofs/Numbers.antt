@@ -29,5 +29,5 @@ numbers-apart t r =
     let a = bad-apart [] (t .lines) (λ m n lm. absurd (omega arith)) (w .ruled) in
     record {
       lines = a;
-      formulas = λ m n lm ln e. one-number t (w .bounded .tabled) a (suc (size (formula t m))) m n (omega arith) lm ln e;
+      formulas = λ m n. one-number t (w .bounded .tabled) a (suc (size (formula t m))) m n (omega arith);
     }

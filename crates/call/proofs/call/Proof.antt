@@ -5,10 +5,9 @@ use lib.ListN.{length}
 use borrow.Author.Tests.{ltb-false}
 use borrow.Author.Needs.{needs}
 use Rattle.request.specs.Range.{maxBytes}
-use Rattle.read_heads.proofs.Heads.{no-request}
 use Rattle.call_checks.proofs.Verdicts.{by-verdict}
 use Rattle.call_contracts.proofs.Laws.{called-long, called-broken, called-read}
-use Rattle.call.proofs.SheetOutcomes.{Begun, line-as, word-canonical, word-reads}
+use Rattle.call.proofs.SheetOutcomes.{Begun, line-as, no-request, word-canonical, word-reads}
 use Rattle.call.proofs.call.Statement.{statement}
 use Rattle.call.proofs.call.Tie as tie
 
