@@ -93,7 +93,8 @@ CallsAddUp =
 
 -- ASK 4 of the running code (document 02): after any calls on a block that was made, where a booking is accepted, the
 -- same sheet with any interval within its goal's, as sets, and any minute in that, its hold and step lines the same
--- bytes, gets the same numbers from the same block, and the ledgers after differ in the new credential's interval alone.
+-- bytes, gets the same numbers from the same block, and the ledgers after differ in the new credential's interval
+-- alone.
 pub record LaterCall (t : Ledger) (l b n l′ : List ℕ) (k : Booking) (now : ℕ) (i : Interval) : Type 0 where
   pub lines : List ℕ
   pub sheet : b ≡ headed k (k .now) (k .interval) lines

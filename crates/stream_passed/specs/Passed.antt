@@ -1,7 +1,8 @@
 -- What came in through a descriptor, and what went out. No contract can say which bytes the operating system reads and
 -- writes: these two words stand for it. All that can be known of them is how many bytes there are, and crate
--- stream_console alone knows it, which passes the words on shut (`pub use`). So above it bytes came in or went out where
--- the contracts of `receive` and `send` say so and nowhere else; what is proved there holds whatever the words mean.
+-- stream_console alone knows it, which passes the words on shut (`pub use`). So above it bytes came in or went out
+-- where the contracts of `receive` and `send` say so and nowhere else; what is proved there holds whatever the words
+-- mean.
 use mathlib.Core.Path.{_≡_}
 use mathlib.Core.List.{List}
 use Prim.Native.Nat.{ℕ, _%_, _^_}
