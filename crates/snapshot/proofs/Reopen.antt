@@ -1,6 +1,6 @@
 -- What opening and closing answer.
 use mathlib.Core.Path.{_≡_, refl, sym, ap, subst, _∙_}
-use mathlib.Core.List.{List, _++_}
+use mathlib.Core.List.{List}
 use mathlib.Core.Option.{Option, none, some}
 use Prim.Native.Nat.{ℕ, _≤_}
 use native.Mathlib.Omega.{arith}
@@ -18,7 +18,7 @@ use Rattle.ledger.proofs.Firsts.{pass-first, first-fails, fails-first}
 use Rattle.snapshot.specs.Snapshot.{text, snapshotOf, openChecks, Opens}
 use Rattle.snapshot.specs.Reopen.{settle, reopen, close}
 use Rattle.snapshot.specs.Reached.{Reached}
-use Rattle.snapshot.specs.Statements.{OpenedAs, OpenAnswers, Written, CloseAnswers, ClosesAndOpens}
+use Rattle.snapshot.specs.Statements.{OpenedAs, OpenAnswers, CloseAnswers, ClosesAndOpens}
 use Rattle.snapshot.proofs.Lawful.{reads-back}
 
 -- the reply of an opened text, and what is told of it
@@ -64,24 +64,21 @@ open-answers t b = go (first (openChecks b)) refl (snapshotOf b) refl
         }
     go none e none q = absurd (no-truth (sym (if-none 50 _ (first-passes (openChecks b) e .0)) ∙ ap isNone q))
 
--- a buffer that is long enough
-pub closed-room : (t : Ledger) (o : List ℕ) → length (text t) ≤ length o
-    → close t o ≡ record { answer = Accepted (length (text t)); buffer = text t ++ drop (length (text t)) o }
-unfolding close
-closed-room t o h = rw (le-ltb (length o) (length (text t)) h, close)
-
 pub close-answers : (t : Ledger) (o : List ℕ) → CloseAnswers t o
 unfolding close
 close-answers t o = record {
   short = λ h.
       let e = lt-ltb (length o) (length (text t)) h in
       record { answer = rw (e, close); buffer = rw (e, close) };
-  room = λ h. subst (Written t o) (sym (closed-room t o h)) (record {
-    answer = refl;
-    written = take-append-seam (text t) (drop (length (text t)) o);
-    past = drop-append-seam (text t) (drop (length (text t)) o);
-    size = omega (arith, h, length-append (text t) (drop (length (text t)) o), length-drop (length (text t)) o);
-  });
+  room = λ h.
+      let e = le-ltb (length o) (length (text t)) h in
+      record {
+        answer = rw (e, close);
+        written = rw (e, close) (take-append-seam (text t) (drop (length (text t)) o));
+        past = rw (e, close) (drop-append-seam (text t) (drop (length (text t)) o));
+        size = rw (e, close)
+            (omega (arith, h, length-append (text t) (drop (length (text t)) o), length-drop (length (text t)) o));
+      };
 }
 
 -- the reply of opening what was written

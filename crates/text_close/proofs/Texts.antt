@@ -1,5 +1,5 @@
 -- The text of a store's ledger, line by line.
-use mathlib.Core.Path.{_≡_, refl, sym, ap, subst, _∙_}
+use mathlib.Core.Path.{_≡_, refl, sym, ap, ap₂, subst, _∙_}
 use mathlib.Core.List.{List, [], _∷_, _++_, map, append-assoc, map-append}
 use mathlib.Core.Bool.{Bool, true, false}
 use mathlib.Core.Option.{Option, none, some}
@@ -8,7 +8,7 @@ use native.Mathlib.Numerals.{add-one}
 use native.Mathlib.Omega.{arith}
 use native.Mathlib.Decide.{decLt}
 use lib.Dec.{ltb}
-use lib.ListN.{length, length-append}
+use lib.ListN.{length, length-append, take-append-drop}
 use borrow.Author.Tests.{ltb-true, ltb-false}
 use Rattle.logic.specs.Choice.{pick}
 use Rattle.request.specs.Request.{Line}
@@ -19,8 +19,8 @@ use Rattle.ledger.specs.declared.Answer.the-variants.{Accepted, Refused}
 use Rattle.ledger.specs.Ledger.{Ledger, consSome}
 use Rattle.ledger.specs.Calls.{told}
 use Rattle.snapshot.specs.Snapshot.{titleOf, titleFields, credentialFields, snapshotTexts, text}
-use Rattle.snapshot.specs.Reopen.{Closing}
-use Rattle.snapshot.proofs.Reopen.{closed-room, close-answers}
+use Rattle.snapshot.specs.Reopen.{close}
+use Rattle.snapshot.proofs.Reopen.{close-answers}
 use Rattle.store_cells.specs.Layout.{rowAt, credentialAt, gapAt, entryAt}
 use Rattle.store.specs.Tab.{tab, present}
 use Rattle.store.specs.Store.{lineOf, ledgerOf, Good}
@@ -162,8 +162,9 @@ module _ (t : Ledger) (o : List ℕ) {n : ℕ} {v : Verdict} (e : n ≡ length (
 
   pub closed-written : {o′ : List ℕ} {r : ℕ} → v ≡ Passed → Put o (text t) o′ r → ClosedAs t o (Accepted n) o′
   closed-written f w =
-      let x = closed-room t o (has-room f) in
+      let x = close-answers t o .room (has-room f) in
       record {
-        answer = ap (λ (k : ℕ). told (Accepted k)) e ∙ sym (ap (λ (c : Closing). told (c .answer)) x);
-        buffer = w .stays ∙ sym (ap (λ (c : Closing). c .buffer) x);
+        answer = ap (λ (k : ℕ). told (Accepted k)) e ∙ sym (x .answer);
+        buffer = w .stays ∙ sym (ap₂ _++_ (x .written) (x .past))
+            ∙ take-append-drop (length (text t)) (close t o .buffer);
       }
