@@ -1,6 +1,6 @@
 -- Sessions for windows with a break, step by step. Document 02, ask 2: "A window is then the set of its minutes without
--- the break, and ⊇, "has the minute" and every rule that uses a window mean that set." Every window here is 0..9,
--- whole or with the break 4..5. Document 01's section "Steps" is quoted.
+-- the break, and ⊇, "has the minute" and every rule that uses a window mean that set." Windows here are 0..9, whole or
+-- with the break 4..5, and once 0..3. Document 01's section "Steps" is quoted.
 use mathlib.Core.List.{List, [], _∷_}
 use Rattle.ledger.specs.Calls.{Told}
 use Rattle.ledger.specs.Cases.{Turn, _⇒_, _⇛_, accepted, AllAnswered}
