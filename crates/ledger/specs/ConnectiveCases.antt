@@ -126,7 +126,7 @@ otherRights =
     ++ refusedRight "gr" ("hold,13" ∷ "hold,14" ∷ "hold,15" ∷ "hold,16" ∷ "hold,17" ∷ "hold,18" ∷ "hold,19" ∷ "hold,20"
     ∷ "hold,21" ∷ "hold,23" ∷ [])
 
--- each is a formula's hold, and the hold of that formula ⊸ atom 1: the formula is no axiom
+-- each is a formula's hold, and the hold of that formula ⊸ atom 1: `ax` does not close it
 unfoldable pub refusedAxiom : List (String × String) → List Turn
 refusedAxiom [] = []
 refusedAxiom (x ∷ xs) =
