@@ -35,4 +35,4 @@ def tillrun_built():
 
 def finish():
     print(f"{counts['passed']} passed, {counts['failed']} failed")
-    sys.exit(counts["failed"] > 0)
+    sys.exit(0 if counts["failed"] == 0 and counts["passed"] > 0 else 1)

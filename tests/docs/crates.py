@@ -3,7 +3,8 @@
 docs/READING.md.
 
     tests/docs/crates.py           writes them
-    tests/docs/crates.py --check   says where crates.txt or one of these is not what the crates give
+    tests/docs/crates.py --check   says where crates.txt or one of these is not what the crates give, and where what is
+                                   to stay shut is open
     tests/docs/crates.py --list    prints the lines of crates.txt as they should be
 
 A crate is listed in crates.txt with those that it uses: the ones that its files name, and the ones that declare a type
@@ -25,6 +26,8 @@ KIT = {"io", "libc", "os", "bytes", "check"}
 # where a booking's bytes come in, and the calls that are no booking
 ENTRY = ("entry", "till_call")
 OTHER_REQUESTS = {"word", "issue", "withdraw", "tally"}
+# a crate whose definitions one other alone may open: it passes their names on shut, and no law of them
+SHUT = {"stream_passed": "stream_console"}
 README = f"{ROOT}/crates/README.md"
 MAP = f"{ROOT}/docs/crates.svg"
 READING = f"{ROOT}/docs/READING.md"
@@ -359,29 +362,46 @@ def written():
     return "\n".join(out + way(list(uses)) + ["```"]) + "\n"
 
 
-def faults():
-    """Where crates.txt and crates/README.md are not what the crates give."""
+def opened():
+    """Where the definitions of a crate of SHUT are open to more than the one."""
+    for name, alone in SHUT.items():
+        for other, uses in listed().items():
+            if name in uses and other != alone:
+                yield f"crates.txt: {other} is listed with {name}, which {alone} alone may be"
+        files = sources(alone)
+        if "pub mod" in files.get("proofs/Lib.antt", ""):
+            yield f"crates/{alone}/proofs/Lib.antt passes laws on, so that {name} is open above it"
+        for path, text in files.items():
+            if path.startswith("specs/") and "unfoldable pub use" in text:
+                yield f"crates/{alone}/{path} passes {name} on open"
+
+
+def looked_at():
+    """What is wrong with each line of crates.txt, its groups, each file that is made and the place in READING."""
     there, right = listed(), needed()
     for name in there:
-        for other in sorted(set(there[name]) ^ set(right[name])):
-            yield f"crates.txt: {name} " + ("uses" if other in right[name] else "does not use") + f" {other}"
+        more, fewer = sorted(set(right[name]) - set(there[name])), sorted(set(there[name]) - set(right[name]))
+        yield [f"crates.txt: {name} uses {other}" for other in more] + [
+            f"crates.txt: {name} does not use {other}" for other in fewer]
     grouped = [name for _, names in groups() for name in names]
-    if sorted(grouped) != sorted(there):
-        yield "crates.txt: a crate stands in no group"
+    yield [] if sorted(grouped) == sorted(there) else ["crates.txt: a crate stands in no group"]
     for path, text in made().items():
-        if not os.path.isfile(path) or read(path) != text:
-            yield f"{os.path.relpath(path, ROOT)} is not what the crates give: run tests/docs/crates.py"
-    if not WAY.search(read(READING)):
-        yield "docs/READING.md has no place for the way of a sheet's bytes"
+        same = os.path.isfile(path) and read(path) == text
+        yield [] if same else [f"{os.path.relpath(path, ROOT)} is not what the crates give: run tests/docs/crates.py"]
+    yield [] if WAY.search(read(READING)) else ["docs/READING.md has no place for the way of a sheet's bytes"]
+    yield list(opened())
 
 
 def main(words):
     if words == ["--list"]:
         print("\n".join(" ".join([f"{name}:", *uses]) for name, uses in needed().items()))
     elif words == ["--check"]:
-        wrong = list(faults())
-        print("\n".join(wrong), end="\n" if wrong else "")
-        return not wrong
+        looked = list(looked_at())
+        for fault in (fault for faults in looked for fault in faults):
+            print(fault)
+        failed = sum(map(bool, looked))
+        print(f"{len(looked) - failed} passed, {failed} failed")
+        return failed == 0 and bool(listed())
     elif not words:
         for path, text in made().items():
             if not os.path.isfile(path) or read(path) != text:

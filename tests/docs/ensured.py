@@ -5,6 +5,7 @@ A row has four columns: what is proved; the file and the names of the statements
 names of the functions. A name without a file stands in the file named last, in the row or above it. Every statement
 stands in its file and in the `ensures` of a function of its row; every function there ensures one of them. A `?` is a
 function that is still missing.
+Last line: 'N passed, M failed', of rows.
 """
 import os
 import re
@@ -85,10 +86,12 @@ def main():
     seen, bad, path = 0, 0, ""
     for number, columns in rows(text):
         seen += 1
-        for fault in faults(columns, path):
+        wrong = list(faults(columns, path))
+        for fault in wrong:
             print(f"docs/READING.md:{number}: {fault}")
-            bad += 1
+        bad += bool(wrong)
         path = named(columns[1], path)[1] if len(columns) > 1 else path
+    print(f"{seen - bad} passed, {bad} failed")
     sys.exit(1 if bad or seen == 0 else 0)
 
 

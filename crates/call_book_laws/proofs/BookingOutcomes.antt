@@ -1,5 +1,5 @@
 -- The end of a booking: its last checks, and what it does once all have passed.
-use mathlib.Core.Path.{_≡_, sym, ap, subst}
+use mathlib.Core.Path.{_≡_, sym, ap, subst, _∙_}
 use mathlib.Core.List.{List, [], _∷_}
 use mathlib.Core.Bool.{false}
 use Prim.Native.Nat.{ℕ, _-_}
@@ -12,13 +12,14 @@ use Rattle.request.specs.declared.Kind.the-variants.{Linear}
 use Rattle.ledger.specs.declared.Credential.{Credential}
 use Rattle.ledger.specs.declared.Answer.the-variants.{Accepted}
 use Rattle.ledger.specs.Ledger.{Ledger, held, linearCount, spend}
-use Rattle.ledger.specs.Checks.{anyOf, maxLive, dead, noRoom, usedUp}
+use Rattle.ledger.specs.Checks.{_if_, anyOf, maxLive, dead, noRoom, usedUp}
 use Rattle.ledger.specs.Calls.{withLive, withCredential, accept}
 use Rattle.ledger.proofs.Credentials.{splits}
 use Rattle.store.specs.Store.{ledgerOf, StandsFor, Givable}
 use Rattle.read_heads.specs.declared.Head.{Head}
 use Rattle.call_holds.specs.declared.Sides.{Sides}
-use Rattle.call_holds.specs.Holds.{AllHeld, Spendable}
+use Rattle.call_holds.specs.declared.Held.{Held}
+use Rattle.call_holds.specs.Holds.{heldCheck, HeldIs, Spendable}
 use Rattle.call_checks.specs.declared.Verdict.{Verdict}
 use Rattle.call_checks.specs.Verdicts.{Tells}
 use Rattle.call_checks.proofs.Verdicts.{reworded}
@@ -26,9 +27,10 @@ use Rattle.call_contracts.specs.Called.{Handled}
 use Rattle.call_contracts.proofs.Laws.{accepted}
 use Rattle.call_book_laws.specs.BookingFound.{bookingAt, Past, Steppable}
 
-pub held-alive : {t : Ledger} {ns table table′ : List ℕ} {s : Sides} → AllHeld t ns table s table′
-    → anyOf (dead t) ns ≡ false
-held-alive h = h .alive
+-- 24, by what the holds come to
+pub held-as : {t : Ledger} {ns table table′ : List ℕ} {x y : Held} → HeldIs t ns table x table′ → x ≡ y
+    → (24 if anyOf (dead t) ns) ≡ heldCheck y
+held-as h e = sym (h .check) ∙ ap heldCheck e
 
 -- 22: room is counted less the linear holds
 pub room-less : {l : List ℕ} {h : Head} {serials rows table : List ℕ} {s : Sides} {v : Verdict}

@@ -17,12 +17,12 @@ use Rattle.ledger.specs.Checks.{Check, _if_, anyOf, maxLive, missing, unissuabl
 use Rattle.ledger.specs.Checks.{checks}
 use Rattle.ledger.specs.Calls.{openSeats, shutSeats, withLive, withCredential, accept}
 use Rattle.ledger.specs.Statements.{from-start, _▸_}
-use Rattle.ledger.proofs.Firsts.{if-false, if-true, no-intervals}
+use Rattle.ledger.proofs.Firsts.{if-false, no-intervals}
 use Rattle.store_cells.specs.Layout.{credentialAt}
 use Rattle.store.specs.Store.{ledgerOf, Good, StandsFor, Givable}
 use Rattle.store_lookup.specs.declared.Place.the-variants.{At, Nothing}
 use Rattle.store_lookup.specs.Lookup.{LooksUp}
-use Rattle.store_lookup.proofs.Places.{its-serial, not-dead}
+use Rattle.store_lookup.proofs.Places.{its-serial}
 use Rattle.formula_tally.specs.declared.Figures.{Figures}
 use Rattle.formula_tally.specs.Tally.{Tallied}
 use Rattle.call_checks.specs.declared.Verdict.{Verdict}
@@ -38,7 +38,7 @@ use Rattle.call_credentials.specs.Issue.{lastChecks, Past, Issuable}
 pub withdraw-dead : {l : List ℕ} {n : ℕ} → Good l → LooksUp l n Nothing → Handled l (withdraw n) (Refused 24 0) l
 unfolding checks intervals
 withdraw-dead {l} {n} g h =
-    refused g (no-intervals (ledgerOf l) (withdraw n) refl) (if-true 24 _ (h .nothing .0 refl))
+    refused g (no-intervals (ledgerOf l) (withdraw n) refl) (sym (h .check))
 
 pub withdraw-done : {l l′ : List ℕ} {n i : ℕ} → Good l → LooksUp l n (At i)
     → StandsFor l′ (withLive (ledgerOf l) (withoutSerial (ledgerOf l .live) (credentialAt l i .serial)))
@@ -46,7 +46,7 @@ pub withdraw-done : {l l′ : List ℕ} {n i : ℕ} → Good l → LooksUp l n (
 unfolding checks intervals accept
 withdraw-done {l} {l′} {n} g h s =
     let t = ledgerOf l in
-    accepted (no-intervals t (withdraw n) refl ▸ if-false 24 _ (not-dead g h)) refl tt
+    accepted (no-intervals t (withdraw n) refl ▸ sym (h .check)) refl tt
     (subst (λ (k : ℕ). StandsFor l′ (withLive t (withoutSerial (t .live) k))) (its-serial g h) s)
 
 -- Tally

@@ -1,6 +1,7 @@
 -- The holds of a booking: what the code's answers say of them, by the definitions of crate ledger.
 use mathlib.Core.Path.{_≡_}
 use mathlib.Core.List.{List, [], _∷_, map}
+use mathlib.Core.Option.{none, some}
 use mathlib.Core.Bool.{true, false}
 use Prim.Native.Nat.{ℕ, _≤_}
 use lib.ListN.{length, take}
@@ -10,7 +11,7 @@ use Rattle.labels.specs.Labels.{insert}
 use Rattle.steps.specs.Check.{puts}
 use Rattle.ledger.specs.declared.Credential.{Credential}
 use Rattle.ledger.specs.Ledger.{Ledger, isKind, held, linearCount, spend}
-use Rattle.ledger.specs.Checks.{anyOf, dead, twice, hypothesis, labelsOf}
+use Rattle.ledger.specs.Checks.{Check, _if_, anyOf, dead, twice, hypothesis, labelsOf}
 use Rattle.store.specs.Store.{ledgerOf, Good}
 use Rattle.step_rows.specs.LabelRows.{maxHolds, putLabel}
 use Rattle.call_holds.specs.declared.Sides.{Sides}
@@ -33,9 +34,14 @@ pub record AllHeld (t : Ledger) (ns table : List ℕ) (s : Sides) (table′ : Li
   pub linears : linearCount (held (t .live) ns) ≡ s .linears
   pub shown : puts putLabel table 0 (map hypothesis (held (t .live) ns)) ≡ table′
 
-abbrev pub HeldIs : Ledger → List ℕ → List ℕ → Held → List ℕ → Type 0
-HeldIs t ns table Dead table′ = anyOf (dead t) ns ≡ true
-HeldIs t ns table (Live s) table′ = AllHeld t ns table s table′
+-- what the answer says of the check 24, "serial not live"
+abbrev pub heldCheck : Held → Check
+heldCheck Dead = some (record { number = 24; step = 0 })
+heldCheck (Live s) = none
+
+pub record HeldIs (t : Ledger) (ns table : List ℕ) (r : Held) (table′ : List ℕ) : Type 0 where
+  pub check : heldCheck r ≡ (24 if anyOf (dead t) ns)
+  pub held : (s : Sides) → r ≡ Live s → AllHeld t ns table s table′
 
 -- `count` serials in the array lent
 pub record Serials (serials : List ℕ) (count : ℕ) : Type 0 where

@@ -1,5 +1,6 @@
 -- What the floor staff asked for: the three demands, over the definitions of document 01 (crate ledger), derivations
--- (crate logic) and the history of a list of calls.
+-- (crate logic) and the history of a list of calls. The sentences in quotation marks are their commission's, word for
+-- word, each clause beside the line that says it.
 use mathlib.Core.Path.{_≡_}
 use mathlib.Core.Logic.{_↔_, _⊎_}
 use mathlib.Core.List.{List, [], _∷_, map}
@@ -32,25 +33,28 @@ pub use Rattle.snapshot.specs.Reached.{Begins, Reached}
 use Rattle.demands.specs.History.{historyOf, issued, withdrawn}
 use Rattle.ledger.specs.Statements.{Pass, FirstFails, IsAccepted}
 
--- DEMAND 1. "Any bytes of any length: a sheet that fails a check gets the number of the first check that fails; till
--- and sheet stay exactly as they were; nothing is required of the caller but a till that calls gave."
--- The last clause: this holds of every ledger, reached or not, and of all bytes, with no hypothesis.
+-- DEMAND 1. "If a sheet, of whatever bytes and length, fails a check of document 01, the call returns the number of
+-- the first check that fails, the till and the lent sheet stay exactly as they were, and nothing is required of
+-- whoever called but a till that calls gave." "of whatever bytes and length", "nothing is required": this holds of all
+-- bytes and of every ledger, whether calls gave it or not, with no hypothesis. "the lent sheet": a call of the
+-- definition has none to change; of the code see `till_call` (crate entry).
 
 pub record Demand1 (t : Ledger) (bytes : List ℕ) : Type 0 where
-  -- refused with these two numbers exactly where they are the first check's that fails
+  -- "fails a check of document 01, the call returns the number of the first check that fails": these two numbers are
+  -- told exactly where they are those of the first check that fails
   pub refused : (n k : ℕ)
       → (toldOf t bytes ≡ Told.no n k) ↔ FirstFails (record { number = n; step = k }) (checksOf t bytes)
-  -- and the ledger is as before
+  -- "the till .. stay[s] exactly as [it was]"
   pub stays : (n k : ℕ) → toldOf t bytes ≡ Told.no n k → call t bytes .ledger ≡ t
-  -- accepted exactly where no check fails
+  -- demand 2, "Other sheets pass exactly when no check fails", and so do bookings
   pub accepted : IsAccepted (toldOf t bytes) ↔ Pass (checksOf t bytes)
 
--- DEMAND 2. "A booking is accepted exactly when the other checks pass and its steps are a derivation; every derivation
--- within the limits has step lines that pass. Other sheets pass exactly when no check fails; each accepted call does
--- what the paper says."
--- Of other sheets: `accepted` of Demand1.
+-- DEMAND 2. "A booking sheet is accepted exactly when it passes the other checks and its steps are a derivation, by
+-- document 01's ground rules of η-logic (report CMU-CS-07-166), of the wording and window wanted from the coupons
+-- named, each single-use one used just once. Every such derivation within document 01's limits has step lines that
+-- pass. Other sheets pass exactly when no check fails; each accepted call does what document 01 says."
 
--- the hypothesis of a credential, and those of a kind among the credentials held
+-- "from the coupons named": the hypothesis of a credential, and those of a kind among the credentials held
 abbrev pub hyp : Ledger → Credential → Hyp
 hyp t c = formula t (c .formula) ⟦ c .interval ⟧
 
@@ -58,12 +62,14 @@ unfoldable pub hypsOf : Ledger → Kind → List Credential → List Hyp
 hypsOf t k [] = []
 hypsOf t k (c ∷ cs) = elim (isKind k (c .kind)) [ true ↦ hyp t c ∷ hypsOf t k cs | false ↦ hypsOf t k cs ]
 
--- a derivation of formula n at i from the credentials: each linear one used just once
+-- "a derivation, by document 01's ground rules of η-logic .., of the wording and window wanted from the coupons named,
+-- each single-use one used just once": the rules are those of `Derives`, each of which uses up every linear hypothesis
+-- just once; the linear hypotheses are those of the linear credentials held
 abbrev pub Derivation : Ledger → List Credential → ℕ → Interval → Type 0
 Derivation t cs n i = Derives (hypsOf t Unrestricted cs) (hypsOf t Linear cs) (holds (formula t n) i)
 
--- Soundness: an accepted booking's steps are a derivation of its goal from the credentials that it names: its rules, in
--- their order and with the intervals that they choose, are those that the step lines name.
+-- Soundness: an accepted booking's steps are a derivation of its goal from the credentials that it names: its rules,
+-- in their order and with the intervals that they choose, are those that the step lines name.
 pub record SoundFor (t : Ledger) (b : Booking) : Type 0 where
   pub derivation : Derivation t (held (t .live) (b .holds)) (b .formula) (b .interval)
   pub lines : lettersOf (b .steps) ≡ letters derivation
@@ -74,8 +80,8 @@ abbrev pub Soundness : Type 0
 Soundness = (t : Ledger) → Reached t → (bytes : List ℕ) (b : Booking) → requestOf bytes ≡ some (book b)
     → IsAccepted (toldOf t bytes) → SoundFor t b
 
--- Completeness. "Its limits there: 32 coupons, 256 uses of rules, 64 for coupons plus labels taken, minutes in range,
--- wordings of this till."
+-- "Every such derivation within document 01's limits has step lines that pass." Document 01: "Its limits there: 32
+-- coupons, 256 uses of rules, 64 for coupons plus labels taken, minutes in range, wordings of this till."
 
 pub record WithinLimits {R D : List Hyp} {g : Judgment} (credentials : ℕ) (x : Derives R D g) : Type 0 where
   pub rules : uses x ≤ stepCount .last
@@ -97,14 +103,14 @@ pub record StepsFor (t : Ledger) (n : ℕ) (i : Interval) (hs : List ℕ) (rules
   pub writable : Every Writable lines
   pub pass : (now : ℕ) → stepsOf t (booking now n i hs lines) ≡ none
 
--- every derivation within the limits has step lines that pass, whatever its goal and the booking's minute; the limit of
--- 32 credentials is not needed here
+-- every derivation within the limits has step lines that pass, whatever its goal and the booking's minute; the limit
+-- of 32 credentials is not needed here
 abbrev pub StepsComplete : Type 0
 StepsComplete = (t : Ledger) → Reached t → (n : ℕ) (i : Interval) (hs : List ℕ)
     → (x : Derivation t (held (t .live) hs) n i) → WithinLimits (length hs) x → StepsFor t n i hs (letters x)
 
--- Down to bytes, for what a booking may name by the checks before its steps: its credentials live and no two alike, its
--- goal a plain formula of the ledger, its interval in range and well formed, with the minute in it.
+-- Down to bytes, for what a booking may name by the checks before its steps: its credentials live and no two alike,
+-- its goal a plain formula of the ledger, its interval in range and well formed, with the minute in it.
 pub record May (t : Ledger) (now n : ℕ) (i : Interval) (hs : List ℕ) : Type 0 where
   pub few : length hs ≤ holdCount .last
   pub live : anyOf (dead t) hs ≡ false
@@ -138,7 +144,7 @@ startSequent t cs n i = record {
   goal = holds (formula t n) i;
 }
 
--- "its steps are a derivation": they spell one, by the rules of the section "Steps", and no line is left
+-- "its steps are a derivation": they spell one, by the rules of document 01's section "Steps", and no line is left
 abbrev pub StepsDerive : Ledger → Booking → Type 0
 StepsDerive t b =
     let cs = held (t .live) (b .holds) in
@@ -156,7 +162,7 @@ OnlySteps none = Unit {0}
 OnlySteps (some f) = (40 ≤ f .number) × (f .number ≤ 42)
 
 pub record ExactlyFor (t : Ledger) (bytes : List ℕ) (b : Booking) : Type 0 where
-  -- accepted exactly when the other checks pass and its steps are a derivation
+  -- "accepted exactly when it passes the other checks and its steps are a derivation"
   pub accepted : IsAccepted (toldOf t bytes) ↔ (Every OnlySteps (checksOf t bytes) × StepsDerive t b)
   -- 40 to 42 are the first fault of the steps, with its step
   pub stopped : (c k : ℕ) → (stepsOf t b ≡ some (record { number = c; step = k })) ↔ StepsStop t b c k
@@ -165,26 +171,32 @@ abbrev pub Exactness : Type 0
 Exactness = (t : Ledger) → Reached t → (bytes : List ℕ) (b : Booking) → requestOf bytes ≡ some (book b)
     → ExactlyFor t bytes b
 
--- "each accepted call does what the paper says"
-
--- an accepted call answers and leaves what `accept` says of the request that its bytes are
+-- "each accepted call does what document 01 says": an accepted call answers and leaves what `accept` says of the
+-- request that its bytes are
 abbrev pub Accepts : Type 0
 Accepts = (t : Ledger) (bytes : List ℕ) → IsAccepted (toldOf t bytes)
     → (r : Request) × (requestOf bytes ≡ some r) × (call t bytes ≡ accept t r)
 
--- DEMAND 3. "For every list of calls from an empty till, for every session and minute: open + shut + placed +
--- withdrawn = issued, counted from the accepted sheets and their answers alone." After opening, "demand 3 holds from
--- there as from an empty till".
+-- DEMAND 3. "For every list of word, issue, withdraw, book and tally calls from an empty till, refused ones included,
+-- this holds after it, for every session and every minute: the sum of the open seats, shut seats and places that tally
+-- answers and of the session's withdrawals equals the seats and places issued to it. It holds whatever bytes the
+-- sheets are and whatever the booking sheets prove. Each call gets the till as the one before left it. Issued and
+-- withdrawn are counted, as document 01 says, from the accepted sheets and their answers alone."
 
--- after the calls, a tally of the session and the minute answers three figures that add up with what was withdrawn to
--- what was issued
 pub record AddsUp (start : Ledger) (calls : List (List ℕ)) (s m : ℕ) : Type 0 where
+  -- "the open seats, shut seats and places that tally answers": a tally of the session and the minute, made after the
+  -- list. "Each call gets the till as the one before left it": `after`
   pub openSeats : ℕ
   pub shutSeats : ℕ
   pub placed : ℕ
   pub answer : toldOf (after start calls) (write (tally s m)) ≡ ok (openSeats ∷ shutSeats ∷ placed ∷ [])
+  -- "the sum of [these] and of the session's withdrawals equals the seats and places issued to it"; both are counted
+  -- in `historyOf`, "from the accepted sheets and their answers alone"
   pub sum : openSeats + shutSeats + placed + withdrawn s (historyOf start calls) ≡ issued s (historyOf start calls)
 
+-- "For every list of .. calls .., refused ones included", "whatever bytes the sheets are": every list of lists of
+-- bytes. "from an empty till", and document 02's ask 5, "demand 3 holds from there as from an empty till", of an
+-- opened text: `Begins`. "for every session and every minute": all that are in range.
 abbrev pub Demand3 : Type 0
 Demand3 = (start : Ledger) → Begins start → (calls : List (List ℕ)) (s m : ℕ) → s inRange session → m inRange minute
     → AddsUp start calls s m

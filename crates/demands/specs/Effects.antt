@@ -1,4 +1,4 @@
--- "each accepted call does what the paper says": what becomes of every serial. (`accept` in the ledger's Calls.antt
+-- "each accepted call does what document 01 says": what becomes of every serial. (`accept` in the ledger's Calls.antt
 -- says what a call does to the lists; this says what that means.)
 use mathlib.Core.Path.{_≡_}
 use mathlib.Core.List.{List, [], _∷_}

@@ -1,4 +1,5 @@
 pub mod Edition
 pub mod Entered
+pub mod Examples
 pub mod Played
 pub mod Saved

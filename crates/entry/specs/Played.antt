@@ -3,7 +3,10 @@ use mathlib.Core.Path.{_≡_}
 use mathlib.Core.Logic.{_↔_}
 use mathlib.Core.List.{List, [], _∷_, map}
 use mathlib.Core.Option.{some}
+use mathlib.Core.Bool.{true}
 use Prim.Native.Nat.{ℕ, _+_}
+use Rattle.logic.specs.declared.Interval.{Interval}
+use Rattle.logic.specs.Interval.{_⊇_, WellFormed, has}
 use Rattle.logic.specs.Multiset.{Every}
 use Rattle.request.specs.Range.{session, minute}
 use Rattle.request.specs.InRange.{_inRange_}
@@ -11,14 +14,15 @@ use Rattle.request.specs.Request.{Booking, Request, book, tally}
 use Rattle.request.specs.Read.{requestOf}
 use Rattle.request.specs.Write.{write}
 use Rattle.ledger.specs.declared.Answer.{Answer}
-use Rattle.ledger.specs.Ledger.{Ledger}
+use Rattle.ledger.specs.Ledger.{Ledger, empty}
 use Rattle.ledger.specs.Checks.{Refusal, checksOf}
 use Rattle.ledger.specs.Calls.{Told, told, accept, after, answers}
 use Rattle.ledger.specs.Statements.{Pass, FirstFails}
-use Rattle.store.specs.Store.{ledgerOf, StandsFor}
+use Rattle.store.specs.Store.{ledgerOf, Good, StandsFor}
 use Rattle.snapshot.specs.Reached.{Begins}
 use Rattle.demands.specs.Demands.{OnlySteps, StepsDerive, SoundFor}
 use Rattle.demands.specs.History.{historyOf, issued, withdrawn}
+use Rattle.demands.specs.Later.{arriving, headed, SameBut}
 use Rattle.entry.specs.Entered.{numbers, Entered}
 
 -- the sheets of the calls, the numbers of their answers, and the block from before the first to after the last
@@ -31,6 +35,15 @@ pub data Played : List ℕ → List (List ℕ) → List (List ℕ) → List ℕ 
 pub record Made (l : List ℕ) (start : Ledger) : Type 0 where
   pub begins : Begins start
   pub stands : StandsFor l start
+
+-- "nothing is required of whoever called but a till that calls gave": a started block was made (an opened one too, by
+-- `Reopened` in Saved), and after any calls on a block that was made it is `Good`, which is all that a call requires.
+abbrev pub StartMade : Type 0
+StartMade = (l : List ℕ) → StandsFor l empty → Made l empty
+
+abbrev pub CallsMeet : Type 0
+CallsMeet =
+    (start : Ledger) (l l′ : List ℕ) (bs ns : List (List ℕ)) → Made l start → Played l bs ns l′ → Good l′
 
 -- From a block that was made, the block after the calls is the ledger of the definition's list of calls, and the
 -- numbers are those of its answers. What the demands say of lists of calls they say of these.
@@ -77,3 +90,21 @@ abbrev pub CallsAddUp : Type 0
 CallsAddUp =
     (start : Ledger) (l l₁ n l₂ : List ℕ) (bs ns : List (List ℕ)) (s m : ℕ) → s inRange session → m inRange minute
     → Made l start → Played l bs ns l₁ → Entered l₁ (write (tally s m)) n l₂ → TallyAddsUp start bs s n
+
+-- ASK 4 of the running code (document 02): after any calls on a block that was made, where a booking is accepted, the
+-- same sheet with any interval within its goal's, as sets, and any minute in that, its hold and step lines the same
+-- bytes, gets the same numbers from the same block, and the ledgers after differ in the new credential's interval
+-- alone.
+pub record LaterCall (t : Ledger) (l b n l′ : List ℕ) (k : Booking) (now : ℕ) (i : Interval) : Type 0 where
+  pub lines : List ℕ
+  pub sheet : b ≡ headed k (k .now) (k .interval) lines
+  pub reads : requestOf (headed k now i lines) ≡ some (book (arriving k now i))
+  pub answer : (m l″ : List ℕ) → Entered l (headed k now i lines) m l″ → m ≡ n
+  pub consumes : (m l″ : List ℕ) → Entered l (headed k now i lines) m l″ → SameBut t k i (ledgerOf l′) (ledgerOf l″)
+
+abbrev pub CallsArrive : Type 0
+CallsArrive =
+    (start : Ledger) (l l₁ b n l₂ : List ℕ) (bs ns : List (List ℕ)) (k : Booking) → Made l start → Played l bs ns l₁
+    → Entered l₁ b n l₂ → requestOf b ≡ some (book k) → (serial : ℕ) → n ≡ 1 ∷ serial ∷ 0 ∷ 0 ∷ []
+    → (now : ℕ) (i : Interval) → WellFormed i → k .interval ⊇ i → has i now ≡ true
+    → LaterCall (after start bs) l₁ b n l₂ k now i

@@ -10,9 +10,9 @@ use Rattle.request.specs.Text.{hexDigit}
 use Rattle.request.specs.Text.{decimal, numberIn, labelSetIn}
 use Rattle.request.specs.Reader.{return, _>>=_, next, many, named, choose, ended, whole, line}
 use Rattle.request.specs.Request.{stepsIntervals, intervals}
-use Rattle.request.specs.Read.{number, labelSet, interval, kind, part, parts, formulaLine, labelled, stepLine}
+use Rattle.request.specs.Read.{number, labelSet, interval, kind, part, parts, formulaLineWith, labelled, stepLine}
 use Rattle.request.specs.Read.{holdLine}
-use Rattle.request.specs.Read.{bookLine, firstLine, rest, requestLines, requestOf}
+use Rattle.request.specs.Read.{bookLine, firstLineWith, rest, requestLines, requestWith}
 use Rattle.steps.specs.Plans.{when, right, affirmed, left, planOf}
 use Rattle.steps.specs.Check.{maxLabels, begin, judged, onward, follow, premiseOf, finished, checkOf}
 use Rattle.ledger.specs.Table.{build, formulas}
@@ -27,8 +27,8 @@ unfoldable pub played : List (List String) → List Told
 unfolding inBreak has covers contains sameInterval reversed broken size count houseUnder plain sum up even sessionsOf
     allOf balanced bytes sameBytes andThen push fields pushLine lines reads decimalDigit hexDigit decimal numberIn
     labelSetIn return _>>=_ next many named choose ended whole line stepsIntervals intervals number labelSet interval
-    kind part parts formulaLine labelled stepLine holdLine bookLine firstLine rest requestLines requestOf when right
-    affirmed left planOf maxLabels begin judged onward follow premiseOf finished checkOf build formulas find
+    kind part parts formulaLineWith labelled stepLine holdLine bookLine firstLineWith rest requestLines requestWith
+    when right affirmed left planOf maxLabels begin judged onward follow premiseOf finished checkOf build formulas find
     withoutSerial held linearCount spend _if_ first anyOf sameRow twice labelsOf verdict steps checks checksOf
     openSeats shutSeats placed accept decide call answers ofLines
 played rs = map told (answers empty (map ofLines rs))

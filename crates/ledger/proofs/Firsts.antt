@@ -50,6 +50,15 @@ pub if-true : (n : ℕ) (b : Bool) → b ≡ true → (n if b) ≡ some (record 
 unfolding _if_
 if-true n b e = rw (e, _if_)
 
+pub if-some : (n : ℕ) (b : Bool) {f : Refusal} → (n if b) ≡ some f → b ≡ true
+unfolding _if_
+if-some n true e = refl
+if-some n false e = absurd (some-none (sym e))
+
+pub none-there : {A : Type 0} (o : Option A) → isNone o ≡ true → o ≡ none
+none-there none e = refl
+none-there (some a) e = absurd (no-truth e)
+
 -- where the checks so far pass, the first to fail is among the rest
 pub so-first : {all rest : List Check} → SoFar all rest → first all ≡ first rest
 unfolding first

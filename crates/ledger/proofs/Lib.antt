@@ -1,9 +1,11 @@
 pub mod Answers
+pub mod SameLines
 pub mod Firsts
 pub mod Credentials
 pub mod Passed
 pub mod Walk
 pub mod FormulaTable
+pub mod Numbers
 pub mod Bounds
 pub mod Compute
 pub mod Sessions

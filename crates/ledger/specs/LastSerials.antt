@@ -33,11 +33,16 @@ unfoldable pub given : String → ℕ → ℕ → List Turn
 given text zero k = []
 given text (suc n) k = (text ⇒ accepted k) ∷ given text n (suc k)
 
--- 512 are live and no serial is left: 40 before 22, "live, less singles held", 22 before 23.
+-- 512 are live and no serial is left: 10, 20, 21 and 40 before 22, "live, less singles held", 22 before 23.
 abbrev pub full : List Turn
 full =
     ("issue,r,0,0,9,0,0\n" ⇒ accepted 999488) ∷ given "issue,s,0,0,9,0,0\n" 511 999489 ++
     ("issue,s,0,0,9,0,0\n" ⇒ refused 22) ∷
+    ("word,o\n" ⇒ accepted 1) ∷
+    ("word,a,1,7\n" ⇒ accepted 2) ∷
+    ("issue,s,1,0,9,0,0\n" ⇒ refused 20) ∷
+    ("issue,r,2,0,9,0,0\n" ⇒ refused 21) ∷
+    ("issue,s,3,0,9,0,0\n" ⇒ refused 10) ∷
     (("book,5,0,0,9,0,0,1,1" ∷ "hold,999488" ∷ "ax,0" ∷ []) ⇛ Told.no 40 1) ∷
     (("book,5,0,0,9,0,0,1,2" ∷ "hold,999488" ∷ "cp,0" ∷ "ax,1" ∷ []) ⇛ refused 22) ∷
     (("book,5,0,0,9,0,0,1,1" ∷ "hold,999489" ∷ "ax,0" ∷ []) ⇛ refused 23) ∷

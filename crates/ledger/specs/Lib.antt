@@ -1,4 +1,5 @@
 pub mod Table
+pub mod Rows
 pub mod Ledger
 pub mod Checks
 pub mod Calls
@@ -6,5 +7,8 @@ pub mod Bounds
 pub mod Statements
 pub mod Sessions
 pub mod Cases
+pub mod FormulaCases
 pub mod StepCases
+pub mod PauseCases
+pub mod ConnectiveCases
 pub mod LastSerials

@@ -1,10 +1,13 @@
 -- Refusals and acceptance, and what is proved of them (in proofs/). Sessions.antt and Cases.antt have the sessions.
 use mathlib.Core.Path.{_≡_}
+use mathlib.Core.Logic.{_↔_}
 use mathlib.Core.List.{List, [], _∷_}
 use mathlib.Core.Option.{none, some}
+use mathlib.Core.Bool.{true}
 use Prim.Native.Nat.{ℕ, _≤_, _<_}
+use Rattle.request.specs.Request.{Line}
 use Rattle.ledger.specs.Ledger.{Ledger}
-use Rattle.ledger.specs.Checks.{Refusal, Check}
+use Rattle.ledger.specs.Checks.{Refusal, Check, sameLine}
 use Rattle.ledger.specs.Calls.{Told, ok, call, toldOf}
 
 -- every check passes
@@ -38,3 +41,7 @@ pub record RefusalLeaves (t : Ledger) (bytes : List ℕ) (n k : ℕ) : Type 0 wh
 
 abbrev pub Refusals : Type 0
 Refusals = (t : Ledger) (bytes : List ℕ) (n k : ℕ) → toldOf t bytes ≡ Told.no n k → RefusalLeaves t bytes n k
+
+-- "no two lines equal": the test of 13 is equality of lines, of any numbers.
+abbrev pub SameLine : Type 0
+SameLine = (l m : Line) → (sameLine l m ≡ true) ↔ (l ≡ m)

@@ -3,10 +3,13 @@
 // functions here do nothing: each ensures a statement of specs/, and that it is proved is the point.
 
 ghost use Rattle.ledger.specs.Bounds.{AlwaysBounded};
-ghost use Rattle.ledger.specs.Statements.{Refusals};
+ghost use Rattle.ledger.specs.Statements.{Refusals, SameLine};
 ghost use Rattle.ledger.specs.Sessions.{SessionsPlay, Plays, M10, LaterPlay};
 ghost use Rattle.ledger.specs.Cases.{CasesPlay};
+ghost use Rattle.ledger.specs.FormulaCases.{FormulaCasesPlay};
 ghost use Rattle.ledger.specs.StepCases.{StepCasesPlay};
+ghost use Rattle.ledger.specs.PauseCases.{PauseCasesPlay};
+ghost use Rattle.ledger.specs.ConnectiveCases.{ConnectiveCasesPlay};
 ghost use Rattle.ledger.specs.LastSerials.{IdleGiven, LastSerialsPlay};
 
 // "Size: .. at most 64"; "holds at most 200"; "At most 512 are live": as specs/Checks.antt has them.
@@ -44,6 +47,11 @@ pub fn refusals()
     ensures { λ _. ⌜ Refusals ⌝ }
 {}
 
+// Refusal 13 is of equal lines: its test is equality.
+pub fn lines_are_compared()
+    ensures { λ _. ⌜ SameLine ⌝ }
+{}
+
 // Document 01's sessions: M1 to M9, and M10; M1 for guests who are late.
 pub fn sessions_play()
     ensures to_m9 { λ _. ⌜ SessionsPlay ⌝ }
@@ -51,10 +59,18 @@ pub fn sessions_play()
     ensures later { λ _. ⌜ LaterPlay ⌝ }
 {}
 
-// Further sessions: form, order, holds and tallies; every step word; the last serials, and that calls lead there.
+// Further sessions: form, order, holds and tallies; formulas; the last serials, and that calls lead there.
 pub fn cases_play()
     ensures cases { λ _. ⌜ CasesPlay ⌝ }
-    ensures steps { λ _. ⌜ StepCasesPlay ⌝ }
+    ensures formulas { λ _. ⌜ FormulaCasesPlay ⌝ }
     ensures given { λ _. ⌜ IdleGiven ⌝ }
     ensures serials { λ _. ⌜ LastSerialsPlay ⌝ }
+{}
+
+// Sessions for the steps: every step word; windows with a break in every step; what a step asks of its formula and of
+// the goal.
+pub fn step_cases_play()
+    ensures steps { λ _. ⌜ StepCasesPlay ⌝ }
+    ensures pauses { λ _. ⌜ PauseCasesPlay ⌝ }
+    ensures connectives { λ _. ⌜ ConnectiveCasesPlay ⌝ }
 {}

@@ -1,5 +1,5 @@
 -- Laws of intervals: the tests decide, ⊇ is an order, a set of minutes has one spelling.
-use mathlib.Core.Path.{_≡_, refl}
+use mathlib.Core.Path.{_≡_, refl, ap}
 use mathlib.Core.Bool.{Bool, true, false, _&&_, _||_}
 use mathlib.Core.Logic.{_↔_, _⊎_, inl, inr}
 use Prim.Native.Nat.{ℕ, _+_, _-_, min, max, _≤_, _<_}
@@ -8,9 +8,9 @@ use lib.Dec.{eqb, leb, ltb}
 use borrow.Author.Tests.{ltb-false, le-ltb, eqb-true, eqb-false}
 use Rattle.logic.specs.declared.Interval.{Interval}
 use Rattle.logic.specs.Choice.{pick}
-use Rattle.logic.specs.Interval.{span, inBreak, has, _⊇_, covers, contains, Ordered, reversed}
-use Rattle.logic.specs.Interval.{Inside, Parted, broken, WellFormed}
-use Rattle.logic.specs.Statements.{SameSet, AsBefore}
+use Rattle.logic.specs.Interval.{span, inBreak, has, _⊇_, covers, contains, sameInterval}
+use Rattle.logic.specs.Interval.{Ordered, reversed, Inside, Parted, broken, WellFormed}
+use Rattle.logic.specs.Statements.{SameTest, SameSet, AsBefore}
 use Rattle.logic.proofs.Tests.{Decides, not-false, and-decides, and₃-decides, or-decides, not-decides}
 use Rattle.logic.proofs.Tests.{eq-decides, le-decides, lt-decides, not-not, same-test, decides-so}
 
@@ -188,6 +188,20 @@ formed-decides i = (
   λ e. record { ordered = ordered-decides i .0 (e .0); parted = broken-decides i .0 (e .1) },
   λ w. (ordered-decides i .1 (w .ordered), broken-decides i .1 (w .parted)),
 )
+
+-- The same four numbers
+
+pub same-decides : SameTest
+unfolding sameInterval
+same-decides i j =
+    let d = and-decides (and-decides (eq-decides (i .from) (j .from)) (eq-decides (i .to) (j .to)))
+    (and-decides (eq-decides (i .first) (j .first)) (eq-decides (i .last) (j .last))) in (
+      λ e. let h = d .0 e in rw (h .0 .0, h .0 .1, h .1 .0, h .1 .1),
+      λ e. d .1 (
+        (ap (λ (k : Interval). k .from) e, ap (λ (k : Interval). k .to) e),
+        (ap (λ (k : Interval). k .first) e, ap (λ (k : Interval). k .last) e),
+      ),
+    )
 
 -- Its first and its last minute are its own, and its break ends before it does.
 

@@ -4,8 +4,8 @@ use mathlib.Core.Bool.{true, false}
 use Prim.Native.Nat.{ℕ, zero, suc}
 use lib.IntN.{pos, negsuc}
 use Rattle.logic.specs.Interval.{span, contains, has, reversed, broken}
-use Rattle.logic.specs.Formula.{Formula, atom, one, tensor, with, plus, lolli, implies, bang, at, says, size}
-use Rattle.logic.specs.Formula.{seats, places, houseSeats, plain}
+use Rattle.logic.specs.Formula.{Formula, atom, one, tensor, with, plus, lolli, implies, bang, at, says, superset}
+use Rattle.logic.specs.Formula.{size, seats, places, houseSeats, plain}
 use Rattle.logic.specs.Weight.{weight}
 use Rattle.logic.specs.Counts.{balanced}
 
@@ -31,6 +31,15 @@ pub record Examples : Type 0 where
   -- M9: the sixth has size 63
   pub size-of-twofold : size (twofold 5) ≡ 63
   pub size-of-offer : size offer ≡ 8
+  -- "1 plus the sizes of the parts, a part used twice counted twice": of 1, ⊇, ⟨K⟩, @, !, &, ⊕, ⊃
+  pub size-of-one : size one ≡ 1
+  pub size-of-superset : size (superset (span 0 9 0 0) (span 3 4 0 0)) ≡ 1
+  pub size-of-says : size seat7 ≡ 2
+  pub size-of-at : size (at seat7 (span 0 9 0 0)) ≡ 3
+  pub size-of-bang : size (bang seat7) ≡ 3
+  pub size-of-with : size (with seat7 seat7) ≡ 5
+  pub size-of-plus : size (plus seat7 seat7) ≡ 5
+  pub size-of-implies : size (implies seat7 seat7) ≡ 5
   -- the offer weighs 0 for session 7 and counts one seat and one place
   pub offer-weighs : weight 7 offer ≡ pos 0
   pub seat-weighs : weight 7 (lolli seat7 one) ≡ negsuc 0
@@ -39,15 +48,20 @@ pub record Examples : Type 0 where
   -- M1 issues it; M8's, a seat for two places, is refused
   pub offer-balanced : balanced offer ≡ true
   pub two-for-one : balanced (lolli seat7 (tensor place7 place7)) ≡ false
-  -- sessions that cancel only in sum, arms that differ, a seat under ! and one left of ⊃
+  -- sessions that cancel only in sum, arms that differ, a seat under ! and one left of ⊃; what stands right of ⊃ may
+  -- weigh
   pub across-sessions : balanced (lolli (atom 1 6) (atom 2 7)) ≡ false
   pub arms-differ : balanced (lolli (with (atom 1 7) one) (atom 1 7)) ≡ false
   pub under-bang : balanced (lolli (bang (atom 1 7)) (atom 1 7)) ≡ false
   pub left-of-implies : balanced (implies (atom 1 7) one) ≡ false
+  pub right-of-implies : balanced (lolli (atom 1 7) (implies one (atom 1 7))) ≡ true
   pub arms-alike : balanced (lolli (plus seat7 place7) (at place7 (span 0 9 0 0))) ≡ true
   pub plain-seat : plain (tensor seat7 free7) ≡ true
   pub offer-not-plain : plain offer ≡ false
-  -- the nearest ⟨K⟩ above a seat decides, also through ⊗; above a bare seat there is none; principal 0 is no house
+  -- "Plain: only `a`, `t`, `s`"
+  pub at-not-plain : plain (at free7 (span 0 9 0 0)) ≡ false
+  pub superset-not-plain : plain (superset (span 0 9 0 0) (span 3 4 0 0)) ≡ false
+  -- the nearest ⟨K⟩ above a seat decides, also through ⊗; above a bare seat there is none; 0 and 255 are no house
   pub house-seat : houseSeats 7 seat7 ≡ 1
   pub bare-seat : houseSeats 7 (atom 1 7) ≡ 0
   pub host-over-house : houseSeats 7 (says 2 seat7) ≡ 1
@@ -55,6 +69,7 @@ pub record Examples : Type 0 where
   pub beside-host : houseSeats 7 (says 1 (tensor (atom 1 7) (says 2 (atom 1 7)))) ≡ 1
   pub beside-bare : houseSeats 7 (tensor seat7 (atom 1 7)) ≡ 1
   pub principal-zero : houseSeats 7 (says 0 (atom 1 7)) ≡ 0
+  pub principal-last : houseSeats 7 (says 255 (atom 1 7)) ≡ 0
   pub house-place : houseSeats 7 place7 ≡ 0
   -- ⊇ is containment, overlap is not; both ends are in an interval
   pub overlap : contains (span 0 599 0 0) (span 540 600 0 0) ≡ false

@@ -7,7 +7,7 @@ use Prim.Native.Nat.{ℕ, _≤_}
 use lib.Dec.{leb}
 use lib.IntN.{ℤ, pos, _+ℤ_, _-ℤ_}
 use Rattle.logic.specs.declared.Interval.{Interval}
-use Rattle.logic.specs.Interval.{span, _⊇_, contains, has, reversed, broken, WellFormed}
+use Rattle.logic.specs.Interval.{span, _⊇_, contains, has, sameInterval, reversed, broken, WellFormed}
 use Rattle.logic.specs.Formula.{Formula, seats, houseSeats, plain}
 use Rattle.logic.specs.Weight.{weight, WellWeighed, BalancedFor, Balanced}
 use Rattle.logic.specs.Multiset.{Every}
@@ -74,6 +74,10 @@ ContainsTest = (i j : Interval) → (contains i j ≡ true) ↔ (i ⊇ j)
 -- The tests of 3 and 43 stop an interval exactly if it is none.
 abbrev pub FormedTest : Type 0
 FormedTest = (i : Interval) → ((reversed i ≡ false) × (broken i ≡ false)) ↔ WellFormed i
+
+-- The test for the same four numbers decides equality.
+abbrev pub SameTest : Type 0
+SameTest = (i j : Interval) → (sameInterval i j ≡ true) ↔ (i ≡ j)
 
 -- Each set of minutes has one spelling: intervals as requests may name them that have the same minutes are the same.
 abbrev pub SameSet : Type 0

@@ -17,7 +17,7 @@ pub type Window = Interval;
 // specs/Examples.antt.
 
 ghost use Rattle.logic.specs.Statements.{Conservation, Subsumption, PlainWeighed, BalancedTest, WeightParts};
-ghost use Rattle.logic.specs.Statements.{HouseSeats, ContainsTest, FormedTest, SameSet, AsBefore};
+ghost use Rattle.logic.specs.Statements.{HouseSeats, ContainsTest, FormedTest, SameTest, SameSet, AsBefore};
 ghost use Rattle.logic.specs.Examples.{Examples};
 
 // A derivation keeps the weight of its linear hypotheses, for every session.
@@ -50,10 +50,11 @@ pub fn house_seats_are_seats()
     ensures { λ _. ⌜ HouseSeats ⌝ }
 {}
 
-// The test for ⊇ decides it, and those of 3 and 43 whether an interval is one.
+// The test for ⊇ decides it, those of 3 and 43 whether an interval is one, and that for the same numbers equality.
 pub fn intervals_are_decided()
     ensures contained { λ _. ⌜ ContainsTest ⌝ }
     ensures formed { λ _. ⌜ FormedTest ⌝ }
+    ensures same { λ _. ⌜ SameTest ⌝ }
 {}
 
 // Each set of minutes has one spelling.

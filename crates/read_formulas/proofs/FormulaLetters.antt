@@ -11,7 +11,7 @@ use Rattle.request.specs.Range.{formulaNumber, _‥_}
 use Rattle.request.specs.Text.{bytes, sameBytes, andThen, numberIn}
 use Rattle.request.specs.Reader.{Reader, return, _>>=_, next, named, choose}
 use Rattle.request.specs.Request.{Line}
-use Rattle.request.specs.Read.{number, interval, part, parts, formulaLine}
+use Rattle.request.specs.Read.{number, interval, part, parts, formulaLine, formulaLineWith}
 use Rattle.steps.specs.declared.Row.{Row}
 use Rattle.ledger.specs.Table.{lettered, rowOf}
 use Rattle.read_fields.specs.Field.{fieldTo}
@@ -78,12 +78,12 @@ letters =
 
 module _ (s : List ℕ) (i : ℕ) where
   pub letter-short : length s ≤ i + 1 → readLine formulaLine (drop i s) ≡ none
-  unfolding formulaLine bytes inside
+  unfolding formulaLineWith bytes inside
   letter-short h = word-short 1 _ refl refl (drop i s) (omega (arith, length-drop i s))
 
   letter-line : i + 1 < length s → readLine formulaLine (drop i s)
       ≡ onward (getD s (i + 1) 0) (λ ts. formulaLine ((getD s i 0 ∷ []) ∷ ts)) (drop (i + 2) s)
-  unfolding formulaLine bytes inside
+  unfolding formulaLineWith bytes inside
   letter-line h = rw (here2 s i h) (word-line 1 _ refl refl (getD s i 0 ∷ []) (getD s (i + 1) 0) (drop (i + 2) s) refl)
 
   module _ (h : i + 1 < length s) where
@@ -97,16 +97,16 @@ module _ (s : List ℕ) (i : ℕ) where
     -- `o`, which has no field
     pub letter-one : getD s i 0 ≡ code "o" → getD s (i + 1) 0 ≡ 10
         → readLine formulaLine (drop i s) ≡ some (Line.one, drop (i + 2) s)
-    unfolding formulaLine choose named sameBytes bytes
+    unfolding formulaLineWith choose named sameBytes bytes
     letter-one q k = letter-line h ∙ rw q (onward-end Line.one (drop (i + 2) s) k)
 
     pub letter-one-bare : getD s i 0 ≡ code "o" → (getD s (i + 1) 0 ≡ 10 → ⊥) → readLine formulaLine (drop i s) ≡ none
-    unfolding formulaLine choose named sameBytes bytes
+    unfolding formulaLineWith choose named sameBytes bytes
     letter-one-bare q k = letter-line h ∙ rw q (onward-on Line.one (drop (i + 2) s) k)
 
     -- a letter of a line with fields, and no comma
     pub letter-bare : (getD s i 0 ≡ code "o" → ⊥) → (getD s (i + 1) 0 ≡ 44 → ⊥) → readLine formulaLine (drop i s) ≡ none
-    unfolding formulaLine bytes number interval part parts next _>>=_ andThen
+    unfolding formulaLineWith bytes number interval part parts next _>>=_ andThen
     letter-bare n k =
         letter-line h ∙ onward-bare _ (drop (i + 2) s) k
         (no-field (getD s i 0 ∷ []) _ (
@@ -145,13 +145,13 @@ module _ (s : List ℕ) (i : ℕ) where
 
     -- no letter of a formula line
     letter-none : Others (getD s i 0) letters → (ts : List (List ℕ)) → formulaLine ((getD s i 0 ∷ []) ∷ ts) ≡ none
-    unfolding formulaLine bytes
+    unfolding formulaLineWith bytes
     letter-none n ts =
         choose-lookup _ (getD s i 0 ∷ []) ts
         ∙ ap (λ (r : Reader Line). r ts) (no-key (getD s i 0 ∷ []) letters n _ _ refl)
 
     pub letter-other : Others (getD s i 0) letters
         → readLine formulaLine (drop i s) ≡ none
-    unfolding formulaLine bytes
+    unfolding formulaLineWith bytes
     letter-other n =
         letter-line h ∙ onward-none _ (λ ts. whole-none _ ts (letter-none n ts)) _ _

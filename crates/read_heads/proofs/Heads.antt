@@ -14,15 +14,17 @@ use Rattle.request.specs.Range.{Range, minute, formulaNumber, serial, session, 
 use Rattle.request.specs.Text.{bytes, sameBytes, andThen, lines, numberIn}
 use Rattle.request.specs.Reader.{return, _>>=_, next, named, choose, whole, ended}
 use Rattle.request.specs.Request.{Request, word, issue, withdraw, tally}
-use Rattle.request.specs.Read.{number, interval, kind, formulaLine, firstLine, bookLine, rest, alone, booking}
-use Rattle.request.specs.Read.{requestOf, Head as FirstLine}
+use Rattle.request.specs.Read.{number, interval, kind, formulaLine, formulaLineWith, firstLineWith, bookLine, rest}
+use Rattle.request.specs.Read.{alone, booking, requestOf, Head as FirstLine}
 use Rattle.request.specs.InRange.{_inRange_, IntervalInRange}
 use Rattle.request.proofs.Gives.{Gives, nothing, just, given, gives-then}
 use Rattle.request.proofs.Digits.{number-only}
 use Rattle.steps.specs.declared.Row.{Row}
+use Rattle.ledger.specs.Ledger.{isNone}
+use Rattle.ledger.proofs.Firsts.{if-true}
 use Rattle.read_fields.specs.Field.{fieldTo, strip}
 use Rattle.read_formulas.specs.Line.{readLine, intervalTo, rowed}
-use Rattle.read_heads.specs.First.{after, issueFields, WordIs, FirstIs, requestFrom}
+use Rattle.read_heads.specs.First.{after, issueFields, WordIs, FormBroken, FirstIs, requestFrom}
 use Rattle.read_heads.specs.declared.FirstRead.{FirstRead}
 use Rattle.read_fields.proofs.Then.{then-same, then-some, then-no, by-test}
 use Rattle.read_fields.proofs.Bytes.{here, past}
@@ -32,6 +34,11 @@ use Rattle.read_formulas.proofs.RowLines.{row-line, row-none}
 use Rattle.read_formulas.proofs.Shapes.{number-shape, interval-shape, both-last, both-more}
 use Rattle.read_formulas.proofs.WordTables.{Table, inside, word-found, no-word, then-comma}
 
+-- The form is broken where there is no request
+
+broken : {q : Option Request} → q ≡ none → FormBroken q
+broken {q} e = record { check = sym (if-true 2 (isNone q) (ap isNone e)) }
+
 -- A line that is the whole request
 
 module _ (s : List ℕ) (i : ℕ) {o : Option (FirstLine × List ℕ)} {r : Request} (e : o ≡ some (alone r, drop i s)) where
@@ -39,22 +46,25 @@ module _ (s : List ℕ) (i : ℕ) {o : Option (FirstLine × List ℕ)} {r : Requ
   unfolding requestFrom rest lines whole return ended andThen
   whole-request h = rw (e, past s i h, andThen)
 
-  pub lines-follow : i < length s → requestFrom o ≡ none
+  pub lines-follow : i < length s → FormBroken (requestFrom o)
   unfolding requestFrom rest andThen
-  lines-follow h = rw (e, here s i h, andThen) (lines-several r _ _)
+  lines-follow h = broken (rw (e, here s i h, andThen) (lines-several r _ _))
 
-pub no-line : {o : Option (FirstLine × List ℕ)} → o ≡ none → requestFrom o ≡ none
+none-from : {o : Option (FirstLine × List ℕ)} → o ≡ none → requestFrom o ≡ none
 unfolding requestFrom andThen
-no-line e = rw (e, andThen)
+none-from e = rw (e, andThen)
+
+pub no-line : {o : Option (FirstLine × List ℕ)} → o ≡ none → FormBroken (requestFrom o)
+no-line e = broken (none-from e)
 
 -- `word`
 
 module _ (b : List ℕ) where
   word-line : readLine (after "word") b ≡ andThen (readLine formulaLine b) (λ x. some (alone (word (x .0)), x .1))
-  unfolding after firstLine choose named sameBytes bytes
+  unfolding after firstLineWith choose named sameBytes bytes
   word-line = line-map formulaLine (λ l. alone (word l)) b
 
-  pub no-formula : rowed (readLine formulaLine b) ≡ none → requestFrom (readLine (after "word") b) ≡ none
+  pub no-formula : rowed (readLine formulaLine b) ≡ none → FormBroken (requestFrom (readLine (after "word") b))
   no-formula e = no-line (word-line ∙ then-no _ (row-none (readLine formulaLine b) e))
 
   module _ (s : List ℕ) (i : ℕ) {x : Row} (e : rowed (readLine formulaLine b) ≡ some (x, drop i s)) where
@@ -62,7 +72,7 @@ module _ (b : List ℕ) where
         readLine (after "word") b ≡ some (alone (word (l .line)), drop i s)
     word-is = word-line ∙ then-some _ (row-line (readLine formulaLine b) e .is)
 
-    pub word-follow : i < length s → requestFrom (readLine (after "word") b) ≡ none
+    pub word-follow : i < length s → FormBroken (requestFrom (readLine (after "word") b))
     word-follow h = lines-follow s i word-is h
 
     pub word-whole : length s ≤ i → WordIs (requestFrom (readLine (after "word") b)) x
@@ -75,12 +85,12 @@ module _ (b : List ℕ) where
 module _ (b : List ℕ) where
   pub withdraw-line : readLine (after "withdraw") b
       ≡ andThen (fieldTo 10 (numberIn serial) b) (λ x. some (alone (withdraw (x .0)), x .1))
-  unfolding after firstLine choose named sameBytes bytes
+  unfolding after firstLineWith choose named sameBytes bytes
   withdraw-line = number-shape serial .last (λ n. alone (withdraw n)) b
 
   pub tally-line : readLine (after "tally") b ≡ andThen (fieldTo 44 (numberIn session) b) (λ x.
       andThen (fieldTo 10 (numberIn minute) (x .1)) (λ y. some (alone (tally (x .0) (y .0)), y .1)))
-  unfolding after firstLine choose named sameBytes bytes
+  unfolding after firstLineWith choose named sameBytes bytes
   tally-line = both-last (number-shape session) (number-shape minute) (λ s m. alone (tally s m)) b
 
   pub issue-line : (k : Kind) → readLine (issueFields k) b ≡ andThen (fieldTo 44 (numberIn formulaNumber) b) (λ x.
@@ -92,7 +102,7 @@ module _ (b : List ℕ) where
       andThen (fieldTo 44 (numberIn formulaNumber) (m .1)) (λ n. andThen (intervalTo 44 (n .1)) (λ i.
       andThen (fieldTo 44 (numberIn holds) (i .1)) (λ h. andThen (fieldTo 10 (numberIn steps) (h .1)) (λ k.
       some (booking (m .0) (n .0) (i .0) (h .0) (k .0), k .1))))))
-  unfolding after firstLine bookLine choose named sameBytes bytes interval number next _>>=_ andThen
+  unfolding after firstLineWith bookLine choose named sameBytes bytes interval number next _>>=_ andThen
   book-line =
       both-more (number-shape minute) (number-shape formulaNumber) _ (λ m n. refl) b
       ∙ then-same (fieldTo 44 (numberIn minute) b) (λ m. then-same (fieldTo 44 (numberIn formulaNumber) (m .1)) (λ n.
@@ -105,7 +115,7 @@ kinds : Table FirstLine
 kinds = ("s", issueFields Linear) ∷ ("r", issueFields Unrestricted) ∷ []
 
 issue-kinds : (ts : List (List ℕ)) → after "issue" ts ≡ choose kinds ts
-unfolding kinds after firstLine kind issueFields choose named sameBytes bytes return _>>=_ andThen
+unfolding kinds after firstLineWith kind issueFields choose named sameBytes bytes return _>>=_ andThen
 issue-kinds [] = refl
 issue-kinds (t ∷ ts) = by-test (sameBytes t (bytes "s")) (λ e. rw (e, named, andThen)) (λ e.
     by-test (sameBytes t (bytes "r")) (λ f. rw (e, f, named, andThen)) (λ f. rw (e, f, named, andThen)))
@@ -130,15 +140,16 @@ no-kind b e f = line-same issue-kinds b ∙ no-word kinds b refl ((e, refl), ((f
 
 pub first-found : (w : String) (b c : List ℕ) → inside (bytes w) ≡ true → strip (then-comma w) b ≡ some c
     → requestOf b ≡ requestFrom (readLine (after w) c)
-unfolding after firstLine
+unfolding after firstLineWith
 first-found w b c i e = request-first b ∙ ap requestFrom (word-found _ w b c i e)
 
 pub first-none : (b : List ℕ) → strip (then-comma "word") b ≡ none → strip (then-comma "issue") b ≡ none
     → strip (then-comma "withdraw") b ≡ none → strip (then-comma "book") b ≡ none → strip (then-comma "tally") b ≡ none
-    → requestOf b ≡ none
-unfolding firstLine bytes inside formulaLine kind bookLine choose number next _>>=_ andThen
+    → FormBroken (requestOf b)
+unfolding firstLineWith bytes inside formulaLineWith kind bookLine choose number next _>>=_ andThen
 first-none b d e f g h =
-    request-first b ∙ no-line (no-word _ b refl ((d, refl), ((e, refl), ((f, refl), ((g, refl), ((h, refl), tt))))))
+    broken (request-first b
+    ∙ none-from (no-word _ b refl ((d, refl), ((e, refl), ((f, refl), ((g, refl), ((h, refl), tt)))))))
 
 -- A number that was read is in its range
 

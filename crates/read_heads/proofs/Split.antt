@@ -6,7 +6,7 @@ use Prim.Native.Nat.{ℕ}
 use lib.Dec.{eqb}
 use Rattle.request.specs.Text.{andThen, fields, lines, pushLine}
 use Rattle.request.specs.Reader.{Reader, return, _>>=_, next, ended, whole, line}
-use Rattle.request.specs.Read.{firstLine, rest, requestLines, requestOf}
+use Rattle.request.specs.Read.{firstLine, rest, requestLines, requestOf, requestWith}
 use Rattle.read_formulas.specs.Line.{split, readLine}
 use Rattle.read_fields.proofs.Then.{then-then, then-same, then-none, then-swap, by-test}
 use Rattle.read_heads.specs.First.{requestFrom}
@@ -61,5 +61,5 @@ lines-several r x xs =
     ∙ then-none (split (x ∷ xs)) (λ p. then-then (lines (p .1)) _ _ ∙ then-none (lines (p .1)) (λ ls. refl)))
 
 pub request-first : (b : List ℕ) → requestOf b ≡ requestFrom (readLine firstLine b)
-unfolding requestOf requestLines requestFrom
+unfolding requestWith requestLines requestFrom
 request-first b = lines-then firstLine rest b

@@ -14,6 +14,8 @@ use Rattle.request.specs.Read.{number, interval, firstLine, rest, alone, bookin
 use Rattle.request.specs.InRange.{_inRange_, IntervalInRange}
 use Rattle.steps.specs.declared.Row.{Row}
 use Rattle.ledger.specs.Table.{rowOf}
+use Rattle.ledger.specs.Ledger.{isNone}
+use Rattle.ledger.specs.Checks.{Check, _if_}
 use Rattle.read_heads.specs.declared.Head.{Head}
 use Rattle.read_heads.specs.declared.First.{First}
 use Rattle.read_heads.specs.declared.First.the-variants.{Word, Issue, Withdraw, Tally, Book}
@@ -67,9 +69,18 @@ LineIs q s (Withdraw n) = q ≡ some (withdraw n)
 LineIs q s (Tally a m) = q ≡ some (tally a m)
 LineIs q s (Book h) = BookIs q s h
 
+-- what the answer says of the check 2, "form, field count, line count or a range is broken; empty": it fails, or as far
+-- as the first line goes it does not
+abbrev pub firstCheck : FirstRead → Check
+firstCheck (Read f) = none
+firstCheck Broken = some (record { number = 2; step = 0 })
+
+pub record FormBroken (q : Option Request) : Type 0 where
+  pub check : firstCheck Broken ≡ (2 if isNone q)
+
 abbrev pub FirstIs : Option Request → List ℕ → FirstRead → Type 0
 FirstIs q s (Read f) = LineIs q s f
-FirstIs q s Broken = q ≡ none
+FirstIs q s Broken = FormBroken q
 
 -- the answer for bytes s that begin with the word w, whose fields begin at a position
 abbrev pub FirstAfter : String → List ℕ → ℕ → FirstRead → Type 0

@@ -1,3 +1,4 @@
 pub mod Several
+pub mod Told
 mod Reversals
 mod Reading

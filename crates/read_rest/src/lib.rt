@@ -15,7 +15,7 @@ ghost use Rattle.request.specs.Read.{holdLine, stepLine};
 ghost use Rattle.logic.specs.Choice.{pick};
 ghost use Rattle.step_rows.specs.LabelRows.{maxHolds};
 ghost use Rattle.step_rows.specs.StepRows.{maxSteps, stepCells};
-ghost use Rattle.read_rest.specs.LinesRead.{LinesAsked, readLines, holdsOf, rowReversed, rowBroken, allLines};
+ghost use Rattle.read_rest.specs.LinesRead.{LinesAsked, readLines, HoldsIs, rowReversed, rowBroken, allLines};
 ghost use Rattle.read_rest.specs.LinesRead.{StepsIs, BookingLines};
 
 // The hold lines of a booking were read, and the position after them.
@@ -44,9 +44,8 @@ fn rows_sized(rows: StepRows)
 // `count` hold lines from `at` on, and their serials in order.
 pub fn read_holds(s: &[u8], at: u32, count: u32, serials: &mut Serials) -> HoldsRead
     requires { ⌜ LinesAsked (now s) count maxHolds ⌝ }
-    ensures { λ r. ⌜ holdsOf (now (s .entry)) count (now (serials .exit)) r
-        ≡ readLines count holdLine (drop at (now (s .entry))) ⌝ }
-    ensures { λ _. ⌜ length (now (serials .exit)) ≡ maxHolds ⌝ }
+    ensures { λ r. ⌜ HoldsIs (readLines count holdLine (drop at (now (s .entry)))) (now (s .entry)) count
+        (now (serials .exit)) r ⌝ }
 {
     serials_sized(*serials);
     let mut i = at;

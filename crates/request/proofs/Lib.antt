@@ -6,3 +6,4 @@ pub mod Fields
 pub mod LineReaders
 pub mod Requests
 pub mod Ends
+pub mod Wider

@@ -9,7 +9,7 @@ use Rattle.request.specs.Range.{serial}
 use Rattle.request.specs.Text.{bytes, sameBytes}
 use Rattle.request.specs.Reader.{named, choose}
 use Rattle.request.specs.Request.{Line, Step}
-use Rattle.request.specs.Read.{part, parts, formulaLine, labelled, stepLine, holdLine}
+use Rattle.request.specs.Read.{part, parts, formulaLine, formulaLineWith, labelled, stepLine, holdLine}
 use Rattle.request.specs.Write.{digits, minutes, lineFields, stepFields, holdFields}
 use Rattle.request.specs.InRange.{_inRange_, Parts, LineInRange, StepInRange}
 use Rattle.request.proofs.Readers.{Texts, Reads, Only, Exact, done, _also_, fits, only-return, only-then}
@@ -27,7 +27,7 @@ unfolding parts
 parts-read t make i j h e f = two-reads formula-exact formula-exact make t i j (h .left) (h .right) e f
 
 formula-line-reads : (l : Line) → LineInRange l → Reads 48 formulaLine l (lineFields l) 66
-unfolding formulaLine lineFields part parts bytes sameBytes choose named allOf
+unfolding formulaLineWith lineFields part parts bytes sameBytes choose named allOf
 formula-line-reads (Line.atom p s) h =
     two-reads predicate-exact session-exact Line.atom "a" p s (h .predicate) (h .session) refl (λ us. refl)
 formula-line-reads Line.one h = word-reads "o" refl (λ us. refl) (reads-return 48 Line.one)
@@ -51,7 +51,7 @@ unfolding parts
 parts-only make f = two-only formula-exact formula-exact make (λ i j h k. f i j (record { left = h; right = k }))
 
 pub formula-line-exact : Exact 48 formulaLine LineInRange lineFields 66
-unfolding formulaLine lineFields part parts minutes
+unfolding formulaLineWith lineFields part parts minutes
 formula-line-exact = record {
   reads = formula-line-reads;
   only = choose-only (

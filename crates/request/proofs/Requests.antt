@@ -6,12 +6,12 @@ use native.Mathlib.Omega.{arith}
 use lib.ListN.{length}
 use Rattle.logic.specs.declared.Interval.{Interval}
 use Rattle.logic.specs.Counts.{allOf}
-use Rattle.request.specs.Range.{serial, minute, formulaNumber, holds, steps}
+use Rattle.request.specs.Range.{session, serial, minute, formulaNumber, holds, steps}
 use Rattle.request.specs.Text.{bytes, sameBytes, andThen, lines}
 use Rattle.request.specs.Reader.{named, choose, line}
 use Rattle.request.specs.Request.{Booking, Request, word, issue, withdraw, book, tally}
-use Rattle.request.specs.Read.{holdLine, stepLine, Head, alone, booking, bookLine, firstLine, rest}
-use Rattle.request.specs.Read.{requestLines, requestOf}
+use Rattle.request.specs.Read.{holdLine, stepLine, Head, alone, booking, bookLine, firstLine, firstLineWith, rest}
+use Rattle.request.specs.Read.{requestLines, requestOf, requestWith}
 use Rattle.request.specs.Write.{minutes, joined, holdFields, stepFields, bookFields, headFields, moreLines}
 use Rattle.request.specs.Write.{endedLines, requestTexts, write}
 use Rattle.request.specs.InRange.{_inRange_, IntervalInRange, BookingInRange, StepInRange, InRange}
@@ -48,14 +48,14 @@ headTexts (booking now n i h k) = bookFields now n i h k
 
 book-reads : (now n : ℕ) (i : Interval) (h k : ℕ) → HeadInRange (booking now n i h k)
     → Reads 48 firstLine (booking now n i h k) (bookFields now n i h k) 56
-unfolding firstLine bookFields bookLine bytes sameBytes choose named allOf
+unfolding firstLineWith bookFields bookLine bytes sameBytes choose named allOf
 book-reads now n i h k r =
     word-reads "book" refl (λ us. refl) (reads-then _ (minute-exact .reads now (r .now))
     (reads-then _ (formula-exact .reads n (r .formula)) (reads-then _ (interval-exact .reads i (r .interval))
     (reads-then _ (holds-exact .reads h (r .holdCount)) (reads-last _ (steps-exact .reads k (r .stepCount)))))))
 
 head-reads : (h : Head) → HeadInRange h → Reads 48 firstLine h (headTexts h) 71
-unfolding firstLine headTexts headFields bytes sameBytes choose named allOf
+unfolding firstLineWith headTexts headFields bytes sameBytes choose named allOf
 head-reads (alone (word l)) h = one-reads formula-line-exact _ "word" l h refl (λ us. refl)
 head-reads (alone (issue k n i)) h =
     word-reads "issue" refl (λ us. refl) (reads-then _ (kind-exact .reads k tt)
@@ -67,7 +67,7 @@ head-reads (alone (tally s m)) h =
 head-reads (booking now n i h k) r = reads-within (omega arith) (book-reads now n i h k r)
 
 head-exact : Exact 48 firstLine HeadInRange headTexts 71
-unfolding firstLine headTexts headFields bookFields bookLine minutes
+unfolding firstLineWith headTexts headFields bookFields bookLine minutes
 head-exact = record {
   reads = head-reads;
   only = choose-only (
@@ -85,7 +85,7 @@ head-exact = record {
 -- All lines
 
 head-line : Exact 44 (line firstLine) HeadInRange (λ h. joined (headTexts h) ∷ []) 71
-unfolding firstLine choose
+unfolding firstLineWith choose
 head-line = line-exact refl head-exact
 
 hold-line : Exact 44 (line holdLine) (λ n. n inRange serial) (λ n. joined (holdFields n) ∷ []) 12
@@ -98,7 +98,7 @@ step-line = line-exact refl step-line-exact
 
 -- a request of one line
 single-reads : (r : Request) → HeadInRange (alone r) → moreLines r ≡ []
-    → Reads 44 requestLines r (requestTexts r) longest
+    → Reads 44 (requestLines session) r (requestTexts r) longest
 unfolding requestLines requestTexts headTexts rest
 single-reads r h e =
     rw e (reads-within (omega arith) (reads-then _ (head-line .reads (alone r) h) (reads-return 44 r)))
@@ -106,7 +106,7 @@ single-reads r h e =
 book-head : (b : Booking) → BookingInRange b → Reads 44 (line firstLine)
     (booking (b .now) (b .formula) (b .interval) (length (b .holds)) (length (b .steps)))
     (joined (headFields (book b)) ∷ []) 56
-unfolding firstLine choose headFields
+unfolding firstLineWith choose headFields
 book-head b h = line-reads refl (book-reads _ _ _ _ _ (record {
   now = h .now;
   formula = h .formula;
@@ -115,7 +115,7 @@ book-head b h = line-reads refl (book-reads _ _ _ _ _ (record {
   stepCount = h .stepCount;
 }))
 
-request-reads : (r : Request) → InRange r → Reads 44 requestLines r (requestTexts r) longest
+request-reads : (r : Request) → InRange r → Reads 44 (requestLines session) r (requestTexts r) longest
 unfolding requestLines requestTexts moreLines headFields headTexts rest
 request-reads (word l) h = single-reads (word l) h refl
 request-reads (issue k n i) h = single-reads (issue k n i) h refl
@@ -148,20 +148,20 @@ rest-only (booking now n i h k) p =
     })
     (rw (q .0, t .0))))
 
-request-lines-only : Only InRange requestTexts [] requestLines
+request-lines-only : Only InRange requestTexts [] (requestLines session)
 unfolding requestLines
 request-lines-only = only-then _ (head-line .only) rest-only
 
 -- Requests in bytes
 
 pub write-read : WriteRead
-unfolding requestOf write andThen
+unfolding requestWith write andThen
 write-read r h =
     let s = request-reads r h in
     rw (lines-ended (requestTexts r) (s .plain), andThen) (whole-back s)
 
 request-only : (b : List ℕ) → Gives (λ r. InRange r × (write r ≡ b)) (requestOf b)
-unfolding requestOf write
+unfolding requestWith write
 request-only b =
     gives-then (ended-lines b) (λ ls e.
     gives-so (whole-only request-lines-only ls) (λ r p. (p .0, ap endedLines (p .1) ∙ e)))

@@ -50,9 +50,10 @@ parts make = do
 
 -- "`a,predicate,session` atom; `o` is 1; `t,i,j` ⊗; `w,i,j` &; `p,i,j` ⊕; `l,i,j` ⊸; `u,i,j` ⊃; `b,i` !;
 -- `h,i,from,to` @; `s,principal,i` ⟨K⟩; `g,from,to,from,to` first window ⊇ second", each window with its break.
-unfoldable pub formulaLine : Reader Line
-formulaLine = choose (
-    ("a", do p ← number predicate; s ← number session; return (Line.atom p s)) ∷
+-- The range of sessions is an argument, since document 02 has widened it (`SheetsAsBefore` in Statements.antt).
+unfoldable pub formulaLineWith : Range → Reader Line
+formulaLineWith sessions = choose (
+    ("a", do p ← number predicate; s ← number sessions; return (Line.atom p s)) ∷
     ("o", return Line.one) ∷
     ("t", parts Line.tensor) ∷
     ("w", parts Line.with) ∷
@@ -63,6 +64,9 @@ formulaLine = choose (
     ("h", do i ← number formulaNumber; w ← interval; return (Line.at i w)) ∷
     ("s", do k ← number principal; i ← number formulaNumber; return (Line.says k i)) ∷
     ("g", do v ← interval; w ← interval; return (Line.superset v w)) ∷ [])
+
+abbrev pub formulaLine : Reader Line
+formulaLine = formulaLineWith session
 
 -- Step lines
 
@@ -117,13 +121,16 @@ bookLine = do
   k ← number steps
   return (booking now n i h k)
 
-unfoldable pub firstLine : Reader Head
-firstLine = choose (
-    ("word", do l ← formulaLine; return (alone (word l))) ∷
+unfoldable pub firstLineWith : Range → Reader Head
+firstLineWith sessions = choose (
+    ("word", do l ← formulaLineWith sessions; return (alone (word l))) ∷
     ("issue", do k ← kind; n ← number formulaNumber; i ← interval; return (alone (issue k n i))) ∷
     ("withdraw", do n ← number serial; return (alone (withdraw n))) ∷
     ("book", bookLine) ∷
-    ("tally", do s ← number session; m ← number minute; return (alone (tally s m))) ∷ [])
+    ("tally", do s ← number sessions; m ← number minute; return (alone (tally s m))) ∷ [])
+
+abbrev pub firstLine : Reader Head
+firstLine = firstLineWith session
 
 -- "then that many lines `hold,serial`, then that many step lines"
 unfoldable pub rest : Head → Reader Request
@@ -133,11 +140,14 @@ rest (booking now n i h k) = do
   ss ← many k (line stepLine)
   return (book (record { now = now; formula = n; interval = i; holds = hs; steps = ss }))
 
-unfoldable pub requestLines : Reader Request
-requestLines = do
-  h ← line firstLine
+unfoldable pub requestLines : Range → Reader Request
+requestLines sessions = do
+  h ← line (firstLineWith sessions)
   rest h
 
+unfoldable pub requestWith : Range → List ℕ → Option Request
+requestWith sessions b = andThen (lines b) (whole (requestLines sessions))
+
 -- the request that the bytes are, or none: refusal 2
-unfoldable pub requestOf : List ℕ → Option Request
-requestOf b = andThen (lines b) (whole requestLines)
+abbrev pub requestOf : List ℕ → Option Request
+requestOf = requestWith session

@@ -13,7 +13,8 @@ pub enum Kind {
 // specs/Statements.antt.
 
 ghost use Rattle.request.specs.Ends.{RangesEnd};
-ghost use Rattle.request.specs.Statements.{WriteRead, ReadInRange, ReadWrite, Wider, Longest, WriteShort};
+ghost use Rattle.request.specs.Statements.{WriteRead, ReadInRange, ReadWrite, Wider, SheetsAsBefore};
+ghost use Rattle.request.specs.Statements.{Longest, WriteShort};
 
 // A request has one spelling: what is written is read again, and bytes that read as a request are those written.
 pub fn one_spelling()
@@ -34,6 +35,11 @@ pub fn ranges_end()
 // A field that reads in a range reads in every wider one, as the same number.
 pub fn wider_ranges_read_the_same()
     ensures { λ _. ⌜ Wider ⌝ }
+{}
+
+// Every sheet that was read when sessions ended at 255 reads as the same request.
+pub fn sheets_read_as_before()
+    ensures { λ _. ⌜ SheetsAsBefore ⌝ }
 {}
 
 // No request is longer than the longest booking, so none that is written is over the bytes of a sheet.

@@ -2,9 +2,9 @@
 use mathlib.Core.Path.{_≡_, refl, sym, ap, subst, _∙_}
 use mathlib.Core.List.{List}
 use mathlib.Core.Option.{Option, none, some}
-use Prim.Native.Nat.{ℕ}
+use Prim.Native.Nat.{ℕ, _≤_}
 use native.Mathlib.Omega.{arith}
-use lib.ListN.{length, drop, length-append, length-drop}
+use lib.ListN.{length, take, drop, length-append, length-drop}
 use lib.Seq.{take-append-seam, drop-append-seam}
 use borrow.Author.Tests.{le-ltb, lt-ltb}
 use Rattle.logic.proofs.Tests.{no-truth}
@@ -17,14 +17,19 @@ use Rattle.ledger.proofs.Answers.{some-none, some-inj, if-none, first-passes, r
 use Rattle.ledger.proofs.Firsts.{pass-first, first-fails, fails-first}
 use Rattle.snapshot.specs.Snapshot.{text, snapshotOf, openChecks, Opens}
 use Rattle.snapshot.specs.Reopen.{settle, reopen, close}
-use Rattle.snapshot.specs.Statements.{OpenAnswers, Written, CloseAnswers, ClosesAndOpens}
+use Rattle.snapshot.specs.Reached.{Reached}
+use Rattle.snapshot.specs.Statements.{OpenedAs, OpenAnswers, CloseAnswers, ClosesAndOpens}
 use Rattle.snapshot.proofs.Lawful.{reads-back}
 
-opens-as : (t : Ledger) (b : List ℕ) (u : Ledger) → Opens b u → reopen t b ≡ reply (Accepted (length b)) u
+-- the reply of an opened text, and what is told of it
+pub opens-as : (t : Ledger) (b : List ℕ) (u : Ledger) → Opens b u → reopen t b ≡ reply (Accepted (length b)) u
 unfolding reopen settle
 opens-as t b u o =
     ap (λ (x : Option Refusal). settle t (length b) x (snapshotOf b)) (o .passes)
     ∙ ap (settle t (length b) none) (o .reads)
+
+opened-as : (b : List ℕ) (u : Ledger) (d : Reply) → d ≡ reply (Accepted (length b)) u → OpenedAs b u d
+opened-as b u d e = record { answer = ap heard e; ledger = ap (λ (r : Reply). r .ledger) e }
 
 pub open-answers : (t : Ledger) (b : List ℕ) → OpenAnswers t b
 unfolding reopen settle openChecks
@@ -44,7 +49,7 @@ open-answers t b = go (first (openChecks b)) refl (snapshotOf b) refl
           accepted =
               (λ h. absurd (subst IsAccepted a h), λ p. absurd (some-none (sym e ∙ pass-first (openChecks b) p)));
           opens = λ h. absurd (subst IsAccepted a h);
-          answers = opens-as t b;
+          answers = λ v w. opened-as b v (reopen t b) (opens-as t b v w);
         }
     go none e (some u) q =
         let x : Opens b u = record { reads = q; passes = e } in
@@ -55,22 +60,32 @@ open-answers t b = go (first (openChecks b)) refl (snapshotOf b) refl
           stays = λ n k h. absurd (subst IsAccepted h a);
           accepted = (λ h. first-passes (openChecks b) e, λ p. a);
           opens = λ h. subst (λ (r : Reply). Opens b (r .ledger)) (sym z) x;
-          answers = opens-as t b;
+          answers = λ v w. opened-as b v (reopen t b) (opens-as t b v w);
         }
     go none e none q = absurd (no-truth (sym (if-none 50 _ (first-passes (openChecks b) e .0)) ∙ ap isNone q))
 
 pub close-answers : (t : Ledger) (o : List ℕ) → CloseAnswers t o
 unfolding close
 close-answers t o = record {
-  short = λ h. rw (lt-ltb (length o) (length (text t)) h, close);
-  room = λ h. subst (Written t o) (sym (rw (le-ltb (length o) (length (text t)) h, close))) (record {
-    answer = refl;
-    written = take-append-seam (text t) (drop (length (text t)) o);
-    past = drop-append-seam (text t) (drop (length (text t)) o);
-    size = omega (arith, h, length-append (text t) (drop (length (text t)) o), length-drop (length (text t)) o);
-  });
+  short = λ h.
+      let e = lt-ltb (length o) (length (text t)) h in
+      record { answer = rw (e, close); buffer = rw (e, close) };
+  room = λ h.
+      let e = le-ltb (length o) (length (text t)) h in
+      record {
+        answer = rw (e, close);
+        written = rw (e, close) (take-append-seam (text t) (drop (length (text t)) o));
+        past = rw (e, close) (drop-append-seam (text t) (drop (length (text t)) o));
+        size = rw (e, close)
+            (omega (arith, h, length-append (text t) (drop (length (text t)) o), length-drop (length (text t)) o));
+      };
 }
 
-pub closes-and-opens : ClosesAndOpens
-closes-and-opens t u r o h =
+-- the reply of opening what was written
+pub written-opens : (t u : Ledger) → Reached t → (o : List ℕ) → length (text t) ≤ length o
+    → reopen u (take (length (text t)) (close t o .buffer)) ≡ reply (Accepted (length (text t))) t
+written-opens t u r o h =
     ap (reopen u) (close-answers t o .room h .written) ∙ opens-as u (text t) t (reads-back t r)
+
+pub closes-and-opens : ClosesAndOpens
+closes-and-opens t u r o h = opened-as (text t) t _ (written-opens t u r o h)

@@ -10,7 +10,7 @@ use Rattle.request.specs.Range.{nextSerial}
 use Rattle.request.specs.InRange.{_inRange_, LineInRange}
 use Rattle.request.specs.Text.{bytes, sameBytes, andThen}
 use Rattle.request.specs.Reader.{_>>=_, next, named, choose, line}
-use Rattle.request.specs.Read.{number, formulaLine}
+use Rattle.request.specs.Read.{number, formulaLine, formulaLineWith}
 use Rattle.request.specs.Write.{joined, lineFields, endedLines}
 use Rattle.request.proofs.Gives.{Gives, given, gives-then, gives-so}
 use Rattle.request.proofs.Texts.{lines-ended, ended-lines, ended-size}
@@ -75,7 +75,7 @@ unfolding titleLine choose
 title-line = line-exact refl title-exact
 
 formula-line : Exact 44 (line formulaLine) LineInRange (λ l. joined (lineFields l) ∷ []) 66
-unfolding formulaLine choose
+unfolding formulaLineWith choose
 formula-line = line-exact refl formula-line-exact
 
 credential-line : Exact 44 (line credentialLine) CredentialInRange (λ c. joined (credentialFields c) ∷ []) 45

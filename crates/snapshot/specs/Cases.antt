@@ -87,10 +87,12 @@ one c = "till,1,3,1,1" ∷ "a,9,7" ∷ c ∷ []
 abbrev pub two : String → List String
 two c = "till,1,3,1,2" ∷ "a,9,7" ∷ c ∷ "2,s,0,0,9,0,0" ∷ []
 
--- The lines of credentials: 50 for form and ranges, and for serials that do not rise.
+-- The lines of credentials: 50 for form and ranges, and for serials that do not rise. A break is written as in a sheet,
+-- its first minute before its last.
 abbrev pub credentials : List Turn
 credentials =
     (one "2,s,0,0,9,0,0" ⇛ accepted 33) ∷
+    (one "2,s,0,0,9,4,5" ⇛ accepted 33) ∷
     (one "2,x,0,0,9,0,0" ⇛ refused 50) ∷
     (one "2,s,0,0,9" ⇛ refused 50) ∷
     (one "02,s,0,0,9,0,0" ⇛ refused 50) ∷
@@ -108,8 +110,10 @@ abbrev pub rules : List Turn
 rules =
     (one "3,s,0,0,9,0,0" ⇛ refused 51) ∷
     (one "2,s,1,0,9,0,0" ⇛ refused 51) ∷
+    (one "2,s,999,0,9,0,0" ⇛ refused 51) ∷
     (one "2,s,0,9,0,0,0" ⇛ refused 51) ∷
     (one "2,s,0,0,9,0,9" ⇛ refused 51) ∷
+    (one "2,s,0,0,9,5,4" ⇛ refused 51) ∷
     (("till,1,3,1,1" ∷ "o" ∷ "2,s,0,0,9,0,0" ∷ []) ⇛ refused 51) ∷
     (("till,1,3,1,1" ∷ "o" ∷ "2,r,0,0,9,0,0" ∷ []) ⇛ accepted 29) ∷
     (("till,1,3,1,1" ∷ "a,1,7" ∷ "2,r,0,0,9,0,0" ∷ []) ⇛ refused 51) ∷
@@ -119,10 +123,14 @@ rules =
     (("till,1,1,2,0" ∷ "o" ∷ "b,999" ∷ []) ⇛ refused 51) ∷
     (("till,1,1,2,0" ∷ "o" ∷ "o" ∷ []) ⇛ refused 51) ∷
     (("till,1,1,2,0" ∷ "o" ∷ "h,0,9,0,0,0" ∷ []) ⇛ refused 51) ∷
+    (("till,1,1,2,0" ∷ "o" ∷ "h,0,0,9,5,4" ∷ []) ⇛ refused 51) ∷
+    (("till,1,1,2,0" ∷ "o" ∷ "h,0,0,9,4,5" ∷ []) ⇛ accepted 27) ∷
     (("till,1,1,1,0" ∷ "g,0,9,0,0,3,4,4,4" ∷ []) ⇛ refused 51) ∷
     (("till,1,1,7,0" ∷ "a,9,7" ∷ "t,0,0" ∷ "t,1,1" ∷ "t,2,2" ∷ "t,3,3" ∷ "t,4,4" ∷ "s,1,5" ∷ []) ⇛ accepted 55) ∷
     (("till,1,1,7,0" ∷ "a,9,7" ∷ "t,0,0" ∷ "t,1,1" ∷ "t,2,2" ∷ "t,3,3" ∷ "t,4,4" ∷ "t,5,0" ∷ []) ⇛ refused 51) ∷
     (("till,1,2,2,1" ∷ "b,1" ∷ "o" ∷ "2,x,0,0,9,0,0" ∷ []) ⇛ refused 50) ∷
+    (("till,1,1,1,0" ∷ "b,1" ∷ "o" ∷ []) ⇛ refused 50) ∷
+    (("till,1,1,2,0" ∷ "g,9,0,0,0,0,9,0,0" ∷ "x" ∷ []) ⇛ refused 50) ∷
     (("till,1,2,2,2" ∷ "o" ∷ "o" ∷ "1,r,0,0,9,0,0" ∷ "1,r,0,0,9,0,0" ∷ []) ⇛ refused 50) ∷ []
 
 pub record TextsOpen : Type 0 where

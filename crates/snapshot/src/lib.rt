@@ -6,7 +6,7 @@ ghost use Prim.Native.Nat.{ℕ};
 ghost use mathlib.Core.List.{List};
 ghost use Rattle.ledger.specs.Ledger.{Ledger};
 ghost use Rattle.snapshot.specs.Statements.{ReadsBack, WritesBack, LongestText, AlwaysLawful, RulesAgree};
-ghost use Rattle.snapshot.specs.Statements.{OpenAnswers, CloseAnswers, ClosesAndOpens};
+ghost use Rattle.snapshot.specs.Statements.{NumbersApart, OpenAnswers, CloseAnswers, ClosesAndOpens};
 ghost use Rattle.snapshot.specs.Cases.{M1Texts, TextsOpen, Closings};
 
 // A ledger has one text: what is written is read again, and bytes that are opened are those written.
@@ -23,6 +23,11 @@ pub fn texts_are_short()
 // What holds of every ledger that calls gave, from the empty one or from an opened text.
 pub fn always_lawful()
     ensures { λ _. ⌜ AlwaysLawful ⌝ }
+{}
+
+// In every such ledger, numbers of equal lines or equal formulas are equal.
+pub fn numbers_are_apart()
+    ensures { λ _. ⌜ NumbersApart ⌝ }
 {}
 
 // What a text's lines must obey is what word and issue ask, by the same rows.

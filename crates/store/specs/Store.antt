@@ -5,37 +5,19 @@ use mathlib.Core.List.{List}
 use mathlib.Core.Bool.{Bool}
 use mathlib.Core.Option.{some}
 use Prim.Native.Nat.{ℕ, _≤_, _<_}
-use Prim.Native.Char.{code}
-use lib.Dec.{eqb}
 use lib.ListN.{length}
 use Rattle.logic.specs.Formula.{size, plain, bit}
 use Rattle.logic.specs.Counts.{balanced}
 use Rattle.request.specs.Range.{serial}
-use Rattle.request.specs.Request.{Line}
 use Rattle.steps.specs.declared.Row.{Row}
 use Rattle.ledger.specs.Table.{form, names, rowOf}
+unfoldable pub use Rattle.ledger.specs.Rows.{lineOf}
 use Rattle.ledger.specs.Ledger.{Ledger, formula}
 use Rattle.ledger.specs.Checks.{maxSize, maxFormulas, maxLive}
 use Rattle.ledger.specs.Bounds.{There, Bounded}
-use Rattle.logic.specs.Choice.{pick}
 use Rattle.store.specs.Tab.{tab, present}
 use Rattle.store_cells.specs.Layout.{cells, maxRows, lineCount, liveCount, nextSerial, rowCount, rowAt, sizeAt, plainAt}
 use Rattle.store_cells.specs.Layout.{balancedAt, credentialAt, entryAt}
-
--- the line of a row, by its letter; 1 for any other letter
-unfoldable pub lineOf : Row → Line
-lineOf r =
-    pick (eqb (r .letter) (code "a")) (Line.atom (r .a) (r .b))
-    (pick (eqb (r .letter) (code "t")) (Line.tensor (r .a) (r .b))
-    (pick (eqb (r .letter) (code "w")) (Line.with (r .a) (r .b))
-    (pick (eqb (r .letter) (code "p")) (Line.plus (r .a) (r .b))
-    (pick (eqb (r .letter) (code "l")) (Line.lolli (r .a) (r .b))
-    (pick (eqb (r .letter) (code "u")) (Line.implies (r .a) (r .b))
-    (pick (eqb (r .letter) (code "b")) (Line.bang (r .a))
-    (pick (eqb (r .letter) (code "h")) (Line.at (r .a) (r .first))
-    (pick (eqb (r .letter) (code "s")) (Line.says (r .a) (r .b))
-    (pick (eqb (r .letter) (code "g")) (Line.superset (r .first) (r .second))
-    Line.one)))))))))
 
 unfoldable pub ledgerOf : List ℕ → Ledger
 ledgerOf l = record {

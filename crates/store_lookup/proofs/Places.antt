@@ -1,16 +1,15 @@
 -- The look-up's answer: what a row that has the serial, or no row, makes of it, and what a caller has of it.
 use mathlib.Core.Path.{_≡_, refl, sym, ap, subst, _∙_}
 use mathlib.Core.List.{List}
-use mathlib.Core.Option.{Option, none, some}
+use mathlib.Core.Option.{none, some}
 use mathlib.Core.Bool.{true, false}
 use Prim.Native.Nat.{ℕ, _<_}
 use native.Mathlib.Omega.{arith}
 use native.Mathlib.Decide.{decLt}
-use Rattle.logic.proofs.Tests.{no-truth}
-use Rattle.ledger.specs.declared.Credential.{Credential}
 use Rattle.ledger.specs.Ledger.{find, isNone}
 use Rattle.ledger.specs.Checks.{dead}
 use Rattle.ledger.proofs.Answers.{some-none}
+use Rattle.ledger.proofs.Firsts.{if-true, if-false, if-some, none-there}
 use Rattle.store_cells.specs.Layout.{rowCount, credentialAt, gapAt, entryAt}
 use Rattle.store_cells.proofs.CredentialRows.{entry-there, entry-gap}
 use Rattle.store.specs.Store.{ledgerOf, Good, Occupied}
@@ -47,7 +46,7 @@ module _ {l : List ℕ} (g : Good l) {n : ℕ} where
   pub nowhere : ((k : ℕ) → k < rowCount l → credentialAt l k .serial ≡ n → ⊥) → LooksUp l n Nothing
   unfolding ledgerOf entryAt
   nowhere h = record {
-    nothing = (λ e. ap isNone (find-none n (rowCount l) (credentialAt l) (gapAt l) h), λ e. refl);
+    check = sym (if-true 24 _ (ap isNone (find-none n (rowCount l) (credentialAt l) (gapAt l) h)));
     place = λ k. (λ e. absurd (not-nothing (sym e)), λ p. absurd (h k (p .0 .0) (p .1)));
   }
 
@@ -55,7 +54,7 @@ module _ {l : List ℕ} (g : Good l) {n : ℕ} where
   module _ {i : ℕ} (q : i < rowCount l) (e : credentialAt l i .serial ≡ n) where
     pub has-left : gapAt l i ≡ true → LooksUp l n Nothing
     has-left z = record {
-      nothing = (λ _. ap isNone (row-found i q e ∙ entry-gap l i z), λ _. refl);
+      check = sym (if-true 24 _ (ap isNone (row-found i q e ∙ entry-gap l i z)));
       place = λ k. (
         λ y. absurd (not-nothing (sym y)),
         λ s. absurd (some-none (sym (s .0 .1) ∙ ap (entryAt l) (sym (same-row i k q e (s .0 .0) (s .1)))
@@ -65,10 +64,7 @@ module _ {l : List ℕ} (g : Good l) {n : ℕ} where
 
     pub stands : gapAt l i ≡ false → LooksUp l n (At i)
     stands z = record {
-      nothing = (
-        λ y. absurd (not-nothing y),
-        λ y. absurd (no-truth (sym (ap isNone (row-found i q e ∙ entry-there l i z)) ∙ y)),
-      );
+      check = sym (if-false 24 _ (ap isNone (row-found i q e ∙ entry-there l i z)));
       place = λ k. (
         λ y. let w : i ≡ k = cc in
             subst (λ (j : ℕ). Occupied l j × (credentialAt l j .serial ≡ n)) w ((q, entry-there l i z), e),
@@ -78,12 +74,11 @@ module _ {l : List ℕ} (g : Good l) {n : ℕ} where
 
   -- What a caller has of an answer
 
+  pub is-dead : LooksUp l n Nothing → dead (ledgerOf l) n ≡ true
+  is-dead h = if-some 24 _ (sym (h .check))
+
   pub none-found : LooksUp l n Nothing → find (ledgerOf l .live) n ≡ none
-  none-found h = go (find (ledgerOf l .live) n) (h .nothing .0 refl)
-    where
-      go : (o : Option Credential) → isNone o ≡ true → o ≡ none
-      go none e = refl
-      go (some c) e = absurd (no-truth e)
+  none-found h = none-there (find (ledgerOf l .live) n) (is-dead h)
 
   module _ {i : ℕ} (h : LooksUp l n (At i)) where
     pub occupied : Occupied l i
@@ -94,6 +89,3 @@ module _ {l : List ℕ} (g : Good l) {n : ℕ} where
 
     pub one-found : find (ledgerOf l .live) n ≡ some (credentialAt l i)
     one-found = row-found i (occupied .0) its-serial ∙ occupied .1
-
-    pub not-dead : dead (ledgerOf l) n ≡ false
-    not-dead = ap isNone one-found

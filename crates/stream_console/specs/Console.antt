@@ -1,12 +1,27 @@
--- The notes of what is read and written: how much, from which descriptor and to which. Counts are modulo 2^64.
+-- The notes of what is read and written: from which descriptor and to which, how much, and how it ended. Counts are
+-- modulo 2^64.
 use mathlib.Core.Path.{_≡_}
 use mathlib.Core.Bool.{Bool, true, false}
 use mathlib.Core.Logic.{_⊎_}
+use mathlib.Core.List.{List, _++_}
 use Prim.Native.Nat.{ℕ, _+_, _-_, _%_, _^_, _≤_, _<_}
 use lib.Dec.{eqb}
-use lib.IntN.{ℤ}
+use lib.IntN.{ℤ, pos}
+use lib.ListN.{length, take}
+use lib.Signed.{ltZ}
+use Rattle.io.specs.Counts.{clamped}
+use Rattle.libc.specs.Io.{Moved}
+pub use Rattle.stream_passed.specs.Passed.{Came, Went}
 use Rattle.stream_console.specs.declared.Input.{Input}
 use Rattle.stream_console.specs.declared.Output.{Output}
+
+-- the bytes b are those that came in with the note i
+abbrev pub CameIn : Input → List ℕ → Type 0
+CameIn i b = Came (i .from) (i .bytes) b
+
+-- the bytes w are those that went out with the note u
+abbrev pub WentOut : Output → List ℕ → Type 0
+WentOut u w = Went (u .to) (u .bytes) w
 
 -- nothing is read
 abbrev pub unread : ℤ → Input
@@ -16,20 +31,38 @@ unread d = record { from = d; reads = 0; bytes = 0; got = 0; ended = false; misr
 abbrev pub unwritten : ℤ → Output
 unwritten d = record { to = d; bytes = 0; put = 0; failed = false }
 
--- one read more of n bytes at most, and those that it gave: none at the end of the input, or where it failed
-pub record Received (i : Input) (n : ℕ) (i′ : Input) : Type 0 where
-  pub from : i′ .from ≡ i .from
-  pub reads : i′ .reads ≡ (i .reads + 1) % 2 ^ 64
-  pub bytes : i′ .bytes ≡ (i .bytes + i′ .got) % 2 ^ 64
-  pub few : i′ .got ≤ n
-  pub ended : i′ .ended ≡ eqb (i′ .got) 0
-  pub misread : i′ .misread ≡ true → i′ .got ≡ 0
+-- one read more of n bytes at most, which was answered z: the bytes that it gave, none where it ended or failed
+abbrev pub noted : Input → ℤ → ℕ → Input
+noted i z n = record {
+  from = i .from;
+  reads = (i .reads + 1) % 2 ^ 64;
+  bytes = (i .bytes + clamped z n) % 2 ^ 64;
+  got = clamped z n;
+  ended = eqb (clamped z n) 0;
+  misread = ltZ z (pos 0);
+}
 
--- bytes handed over to be written, n at most
-pub record Sent (u : Output) (n : ℕ) (u′ : Output) : Type 0 where
-  pub to : u′ .to ≡ u .to
-  pub bytes : u′ .bytes ≡ (u .bytes + u′ .put) % 2 ^ 64
-  pub few : u′ .put ≤ n
+-- n bytes more handed over, and whether all were written
+abbrev pub handed : Output → ℕ → Bool → Output
+handed u n written = record {
+  to = u .to;
+  bytes = (u .bytes + n) % 2 ^ 64;
+  put = n;
+  failed = elim written [ true ↦ false | false ↦ true ];
+}
+
+-- One read, which left the piece x: what the call answered is noted, and the first bytes of the piece came in.
+pub record Received (i : Input) (x : List ℕ) (i′ : Input) : Type 0 where
+  pub answer : ℤ
+  pub moved : Moved (length x) answer
+  pub note : i′ ≡ noted i answer (length x)
+  pub came : (b : List ℕ) → CameIn i b → CameIn i′ (b ++ take (i′ .got) x)
+
+-- One write of the bytes x: what it answered is noted, and they went out.
+pub record Sent (u : Output) (x : List ℕ) (u′ : Output) : Type 0 where
+  pub answer : Bool
+  pub note : u′ ≡ handed u (length x) answer
+  pub went : (w : List ℕ) → WentOut u w → WentOut u′ (w ++ x)
 
 -- the most reads
 abbrev pub mostReads : ℕ

@@ -1,10 +1,13 @@
 // Standard input, output and error. No contract can say which bytes a read gives and where a write puts them. So
-// `receive` and `send`, a call of C's each, note what they were asked and what they were given; these two are to be
-// read. The contracts of whatever calls them speak of the notes, which no other crate can make or change.
+// `receive` and `send`, a call of C's each, are to be read: that the piece which `receive` leaves is the one that was
+// read into, that `send` writes the text's first bytes, and that the call's answer is what is noted. The notes no other
+// crate can make or change, and of which bytes came in and went out it knows what these two contracts say.
 ghost use mathlib.Core.Path.{_≡_};
+ghost use mathlib.Core.List.{[]};
 ghost use Prim.Native.Nat.{_≤_};
-ghost use lib.ListN.{length};
-ghost use Rattle.stream_console.specs.Console.{unread, unwritten, Received, Sent, GoesOn};
+ghost use lib.ListN.{length, take};
+ghost use Rattle.stream_console.specs.Console.{unread, unwritten, noted, handed, CameIn, WentOut};
+ghost use Rattle.stream_console.specs.Console.{Received, Sent, GoesOn};
 
 // A descriptor to read from; the reads and the bytes read, both modulo 2^64; the bytes that the last read gave, whether
 // it gave none, and whether it failed.
@@ -27,7 +30,7 @@ pub struct Output {
 
 // Nothing is read yet.
 pub fn reading(from: i32) -> Input
-    ensures { λ r. ⌜ r ≡ unread from ⌝ }
+    ensures { λ r. ⌜ (r ≡ unread from) × CameIn r [] ⌝ }
 {
     Input {
         from,
@@ -41,7 +44,7 @@ pub fn reading(from: i32) -> Input
 
 // Nothing is written yet.
 pub fn writing(to: i32) -> Output
-    ensures { λ r. ⌜ r ≡ unwritten to ⌝ }
+    ensures { λ r. ⌜ (r ≡ unwritten to) × WentOut r [] ⌝ }
 {
     Output {
         to,
@@ -53,10 +56,26 @@ pub fn writing(to: i32) -> Output
 
 // Reads once. A read that fails gives nothing.
 pub fn receive(input: Input, piece: &mut [u8]) -> Input
-    ensures { λ r. ⌜ Received input (length (now (piece .exit))) r ⌝ }
+    ensures { λ r. ⌜ Received input (now (piece .exit)) r ⌝ }
+{
+    let given = libc::read(input.from, piece);
+    note_read(input, given, piece)
+}
+
+// Writes the first n bytes of the text.
+pub fn send(output: Output, text: &[u8], n: usize) -> Output
+    requires { ⌜ n ≤ length (now text) ⌝ }
+    ensures { λ r. ⌜ Sent output (take n (now (text .entry))) r ⌝ }
+{
+    let written = io::write_all(output.to, &text[..n]);
+    note_written(output, n, written)
+}
+
+// What a read was answered, noted.
+fn note_read(input: Input, given: isize, piece: &[u8]) -> Input
+    ensures { λ r. ⌜ r ≡ noted input given (length (now (piece .entry))) ⌝ }
 {
     let from = input.from;
-    let given = libc::read(from, piece);
     let got = io::count(given, piece);
     let reads = std::num::wrapping_add_u64(input.reads, 1);
     let bytes = std::num::wrapping_add_u64(input.bytes, got as u64);
@@ -70,13 +89,11 @@ pub fn receive(input: Input, piece: &mut [u8]) -> Input
     }
 }
 
-// Writes the first n bytes of the text.
-pub fn send(output: Output, text: &[u8], n: usize) -> Output
-    requires { ⌜ n ≤ length (now text) ⌝ }
-    ensures { λ r. ⌜ Sent output (length (now (text .entry))) r × (r .put ≡ n) ⌝ }
+// What a write was answered, noted.
+fn note_written(output: Output, n: usize, written: bool) -> Output
+    ensures { λ r. ⌜ r ≡ handed output n written ⌝ }
 {
     let to = output.to;
-    let written = io::write_all(to, &text[..n]);
     let bytes = std::num::wrapping_add_u64(output.bytes, n as u64);
     Output {
         to,

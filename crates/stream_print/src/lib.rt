@@ -6,6 +6,7 @@ ghost use lib.ListN.{length};
 ghost use Rattle.request.specs.Write.{digits};
 ghost use Rattle.ledger.specs.Calls.{told};
 ghost use Rattle.stream_print.specs.Printed.{line, longest, Room, Wrote};
+ghost use Rattle.stream_print.specs.Examples.{LineExamples};
 
 // No answer's line is longer.
 pub const LONGEST: usize = 36;
@@ -73,3 +74,8 @@ pub fn put_answer(text: &mut [u8], at: usize, a: Answer) -> usize
         }
     }
 }
+
+// Lines that are printed, computed. The function does nothing: its `ensures` is what is proved.
+pub fn lines_compute()
+    ensures { λ _. ⌜ LineExamples ⌝ }
+{}

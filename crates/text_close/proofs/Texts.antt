@@ -1,5 +1,5 @@
 -- The text of a store's ledger, line by line.
-use mathlib.Core.Path.{_≡_, refl, sym, ap, subst, _∙_}
+use mathlib.Core.Path.{_≡_, refl, sym, ap, ap₂, subst, _∙_}
 use mathlib.Core.List.{List, [], _∷_, _++_, map, append-assoc, map-append}
 use mathlib.Core.Bool.{Bool, true, false}
 use mathlib.Core.Option.{Option, none, some}
@@ -7,25 +7,32 @@ use Prim.Native.Nat.{ℕ, zero, suc, _+_, _≤_, _<_}
 use native.Mathlib.Numerals.{add-one}
 use native.Mathlib.Omega.{arith}
 use native.Mathlib.Decide.{decLt}
-use lib.ListN.{length, length-append}
-use borrow.Author.Tests.{le-ltb}
+use lib.Dec.{ltb}
+use lib.ListN.{length, length-append, take-append-drop}
+use borrow.Author.Tests.{ltb-true, ltb-false}
 use Rattle.logic.specs.Choice.{pick}
 use Rattle.request.specs.Request.{Line}
 use Rattle.request.specs.Write.{joined, endedLines, lineFields}
 use Rattle.steps.specs.declared.Row.{Row}
 use Rattle.ledger.specs.declared.Credential.{Credential}
-use Rattle.ledger.specs.declared.Answer.the-variants.{Accepted}
+use Rattle.ledger.specs.declared.Answer.the-variants.{Accepted, Refused}
 use Rattle.ledger.specs.Ledger.{Ledger, consSome}
+use Rattle.ledger.specs.Calls.{told}
 use Rattle.snapshot.specs.Snapshot.{titleOf, titleFields, credentialFields, snapshotTexts, text}
 use Rattle.snapshot.specs.Reopen.{close}
+use Rattle.snapshot.proofs.Reopen.{close-answers}
 use Rattle.store_cells.specs.Layout.{rowAt, credentialAt, gapAt, entryAt}
 use Rattle.store.specs.Tab.{tab, present}
 use Rattle.store.specs.Store.{lineOf, ledgerOf, Good}
 use Rattle.store.proofs.Tabs.{tab-append, present-next}
+use Rattle.call_checks.specs.declared.Verdict.{Verdict}
+use Rattle.call_checks.specs.declared.Verdict.the-variants.{Passed, Failed}
+use Rattle.call_checks.specs.Verdicts.{Tells}
+use Rattle.call_checks.proofs.Verdicts.{by-verdict}
 use Rattle.text_write.specs.Put.{Put, Measured, ended, title}
 use Rattle.text_write.proofs.Puts.{Parts, wrote-as}
 use Rattle.text_close.specs.Lines.{titleText, formulaText, formulaTexts, rowText, rowTexts}
-use Rattle.text_close.specs.Lines.{bodyLines, closing}
+use Rattle.text_close.specs.Lines.{bodyLines, ClosedAs}
 
 -- lines before others
 ended-append : (xs ys : List (List ℕ)) → endedLines (xs ++ ys) ≡ endedLines xs ++ endedLines ys
@@ -141,8 +148,23 @@ measured-sum {x} {y} {z} e u v w = record {
 }
 
 -- Closing
-pub closed-room : (t : Ledger) {o o′ : List ℕ} {n r : ℕ} → length (text t) ≤ length o → n ≡ length (text t)
-    → Put o (text t) o′ r → closing (Accepted n) o′ ≡ close t o
-unfolding close
-closed-room t {o} h e w =
-    rw (le-ltb (length o) (length (text t)) h, close, e) (ap (closing (Accepted (length (text t)))) (w .stays))
+
+-- by the verdict of 52, where n is the length of the text
+module _ (t : Ledger) (o : List ℕ) {n : ℕ} {v : Verdict} (e : n ≡ length (text t))
+    (test : Tells 52 v (ltb (length o) n)) where
+  pub closed-short : v ≡ Failed → ClosedAs t o (Refused 52 0) o
+  closed-short f =
+      let x = close-answers t o .short (omega (arith, ltb-true (length o) n (by-verdict test f))) in
+      record { answer = sym (x .answer); buffer = sym (x .buffer) }
+
+  pub has-room : v ≡ Passed → length (text t) ≤ length o
+  has-room f = omega (arith, ltb-false (length o) n (by-verdict test f))
+
+  pub closed-written : {o′ : List ℕ} {r : ℕ} → v ≡ Passed → Put o (text t) o′ r → ClosedAs t o (Accepted n) o′
+  closed-written f w =
+      let x = close-answers t o .room (has-room f) in
+      record {
+        answer = ap (λ (k : ℕ). told (Accepted k)) e ∙ sym (x .answer);
+        buffer = w .stays ∙ sym (ap₂ _++_ (x .written) (x .past))
+            ∙ take-append-drop (length (text t)) (close t o .buffer);
+      }

@@ -1,11 +1,14 @@
 -- The text of a store's ledger, in the parts that are written one after another.
+use mathlib.Core.Path.{_≡_}
 use mathlib.Core.List.{List, [], _++_, map}
 use Prim.Native.Nat.{ℕ}
 use Rattle.logic.specs.Choice.{pick}
 use Rattle.request.specs.Write.{joined, endedLines, lineFields}
 use Rattle.ledger.specs.declared.Answer.{Answer}
+use Rattle.ledger.specs.Ledger.{Ledger}
+use Rattle.ledger.specs.Calls.{told}
 use Rattle.snapshot.specs.Snapshot.{titleOf, titleFields, credentialFields}
-use Rattle.snapshot.specs.Reopen.{Closing}
+use Rattle.snapshot.specs.Reopen.{close}
 use Rattle.store_cells.specs.Layout.{lineCount, rowCount, rowAt, credentialAt, gapAt, entryAt}
 use Rattle.store.specs.Tab.{tab, present}
 use Rattle.store.specs.Store.{lineOf, ledgerOf}
@@ -39,6 +42,7 @@ rowLines l = rowTexts l (rowCount l)
 abbrev pub bodyLines : List ℕ → List ℕ
 bodyLines l = formulaLines l ++ rowLines l
 
--- an answer, and the buffer after it
-abbrev pub closing : Answer → List ℕ → Closing
-closing a o = record { answer = a; buffer = o }
+-- What closing leaves: o, o′ are the lent buffer before and after.
+pub record ClosedAs (t : Ledger) (o : List ℕ) (a : Answer) (o′ : List ℕ) : Type 0 where
+  pub answer : told a ≡ told (close t o .answer)
+  pub buffer : o′ ≡ close t o .buffer

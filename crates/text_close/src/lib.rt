@@ -1,16 +1,16 @@
 // Closing (document 02, ask 5): the ledger written as text into a lent buffer. Its length is worked out first, so that
 // a buffer that is too short stays as it was.
+use call_checks::Verdict;
+use call_checks::tested;
 use ledger::Answer;
 use store::Store;
 use store_cells::credentials;
-ghost use mathlib.Core.Path.{_≡_};
 ghost use Prim.Native.Nat.{_<_};
 ghost use Rattle.snapshot.specs.Snapshot.{text};
-ghost use Rattle.snapshot.specs.Reopen.{close as closed};
 ghost use Rattle.store_cells.specs.Layout.{rowCount};
 ghost use Rattle.store.specs.Store.{ledgerOf, Good};
 ghost use Rattle.text_write.specs.Put.{Put, Room, Measured};
-ghost use Rattle.text_close.specs.Lines.{titleText, formulaLines, rowText, rowLines, bodyLines, closing};
+ghost use Rattle.text_close.specs.Lines.{titleText, formulaLines, rowText, rowLines, bodyLines, ClosedAs};
 
 // Lengths: of the first line, of the formula lines, of the credentials' lines; a gap has none.
 
@@ -148,12 +148,13 @@ fn put_text(rest: &mut [u8], store: &Store) -> usize
 // "closing gives 52 if the buffer is too short, the buffer then untouched"
 pub fn close(store: &Store, buffer: &mut [u8]) -> Answer
     requires { ⌜ Good (now store) ⌝ }
-    ensures { λ r. ⌜ closing r (now (buffer .exit)) ≡ closed (ledgerOf (now (store .entry))) (now (buffer .entry)) ⌝ }
+    ensures { λ r. ⌜ ClosedAs (ledgerOf (now (store .entry))) (now (buffer .entry)) r (now (buffer .exit)) ⌝ }
 {
     let n = text_length(store);
-    if buffer.len() < n {
+    let room = tested(buffer.len() < n);
+    let Verdict::Passed = room else {
         return Answer::Refused(52, 0);
-    }
+    };
     put_text(buffer, store);
     Answer::Accepted(n as u32)
 }

@@ -12,6 +12,7 @@ use Rattle.logic.specs.Choice.{pick}
 use Rattle.request.specs.Text.{andThen}
 use Rattle.request.specs.Request.{Line}
 use Rattle.request.specs.Read.{formulaLine}
+use Rattle.ledger.specs.declared.Answer.{Answer}
 use Rattle.ledger.specs.declared.Answer.the-variants.{Accepted, Refused}
 use Rattle.ledger.specs.declared.Credential.{Credential}
 use Rattle.ledger.specs.Ledger.{Ledger, empty}
@@ -29,10 +30,13 @@ use Rattle.read_fields.proofs.Bytes.{past}
 use Rattle.read_rest.specs.LinesRead.{readLines, allLines}
 use Rattle.store.specs.Store.{ledgerOf, Good, StandsFor}
 use Rattle.store_credentials.specs.NextSerial.{withNext}
+use Rattle.call_checks.specs.declared.Verdict.{Verdict}
+use Rattle.call_checks.specs.declared.Verdict.the-variants.{Passed, Failed}
 use Rattle.text_read.specs.declared.Heading.{Heading}
-use Rattle.text_read.specs.TextForm.{titleAt, Fails50, Titled, Formed}
+use Rattle.text_read.specs.TextForm.{titleAt, Fails50, Titled, FormIs}
 use Rattle.text_read.proofs.TextForms.{ledgerFrom, snapshot-is}
-use Rattle.text_open.specs.Opened.{linesAdded, LinesAsked, credentialsAdded, LiveAsked, sound, passing, Opened}
+use Rattle.text_open.specs.Opened.{linesAdded, LinesAsked, credentialsAdded, LiveAsked, sound, passing, RefusalIs}
+use Rattle.text_open.specs.Opened.{Opened}
 use Rattle.text_open.proofs.Taking.{taken-lines}
 use Rattle.text_open.proofs.Giving.{both-none, liveFound, given-live}
 
@@ -249,26 +253,34 @@ module _ {b : List ℕ} {h : Heading} (f : Titled b h) where
 
 -- Opening
 
-pub opened-refused : (l b : List ℕ) {n : ℕ} → first (openChecks b) ≡ some (record { number = n; step = 0 })
-    → Opened l b (Refused n 0) l
+pub opened-refused : (l b : List ℕ) {a : Answer} → RefusalIs b a → Opened l b a l
 unfolding reopen settle
-opened-refused l b {n} e =
-    let z : reopen (ledgerOf l) b ≡ reply (Refused n 0) (ledgerOf l) =
-    ap (λ (x : Option Refusal). settle (ledgerOf l) (length b) x (snapshotOf b)) e in
+opened-refused l b r =
+    let f = r .refusal in
+    let z : reopen (ledgerOf l) b ≡ reply (Refused (f .number) (f .step)) (ledgerOf l) =
+    ap (λ (x : Option Refusal). settle (ledgerOf l) (length b) x (snapshotOf b)) (r .fails) in
     record {
-      answer = sym (ap (λ (d : Reply). told (d .answer)) z);
+      answer = r .answer ∙ sym (ap (λ (d : Reply). told (d .answer)) z);
       ledger = sym (ap (λ (d : Reply). d .ledger) z);
-      good = λ h. absurd h;
+      good = λ h. absurd (subst IsAccepted (r .answer) h);
       same = λ n k q. refl;
     }
 
--- a text in its form that does not pass
-pub fails-51 : {b : List ℕ} → Formed b → passing b ≡ none
-    → first (openChecks b) ≡ some (record { number = 51; step = 0 })
-unfolding passing sound openChecks first _if_ andThen
-fails-51 {b} f e =
-    let z : pick (unruly (f .ledger)) none (some (f .ledger)) ≡ none = rw (f .reads, f .rises) at e in
-    rw (f .reads, f .rises, unpicked (unruly (f .ledger)) _ z)
+refusal-is : {b : List ℕ} (n : ℕ) → first (openChecks b) ≡ some (record { number = n; step = 0 })
+    → RefusalIs b (Refused n 0)
+refusal-is n e = record { refusal = record { number = n; step = 0 }; fails = e; answer = refl }
+
+-- 50, by the verdict of the form; and a text in its form that does not pass
+module _ {b : List ℕ} {v : Verdict} (form : FormIs b v) where
+  pub fails-50 : v ≡ Failed → RefusalIs b (Refused 50 0)
+  fails-50 e = refusal-is 50 (subst (FormIs b) e form)
+
+  pub fails-51 : v ≡ Passed → passing b ≡ none → RefusalIs b (Refused 51 0)
+  unfolding passing sound openChecks first _if_ andThen
+  fails-51 g e =
+      let f = subst (FormIs b) g form in
+      let z : pick (unruly (f .ledger)) none (some (f .ledger)) ≡ none = rw (f .reads, f .rises) at e in
+      refusal-is 51 (rw (f .reads, f .rises, unpicked (unruly (f .ledger)) _ z))
 
 -- what passes
 record Passing (b : List ℕ) (t : Ledger) : Type 0 where
@@ -294,11 +306,10 @@ module _ (b : List ℕ) {t : Ledger} (e : passing b ≡ some t) where
 pub opened : (l b m : List ℕ) → passing b ≡ some (ledgerOf m) → Good m → Opened l b (Accepted (length b)) m
 opened l b m e g =
     let x = passes b e in
-    let z : reopen (ledgerOf l) b ≡ reply (Accepted (length b)) (ledgerOf m) =
-    open-answers (ledgerOf l) b .answers (ledgerOf m) (record { reads = x .reads; passes = x .checks }) in
+    let z = open-answers (ledgerOf l) b .answers (ledgerOf m) (record { reads = x .reads; passes = x .checks }) in
     record {
-      answer = sym (ap (λ (d : Reply). told (d .answer)) z);
-      ledger = sym (ap (λ (d : Reply). d .ledger) z);
+      answer = sym (z .answer);
+      ledger = sym (z .ledger);
       good = λ y. g;
       same = λ n k q. absurd (subst IsAccepted q tt);
     }

@@ -16,7 +16,7 @@ use Rattle.steps.specs.declared.Row.{Row}
 use Rattle.ledger.specs.declared.Credential.{Credential}
 use Rattle.ledger.specs.declared.Answer.{Answer}
 use Rattle.ledger.specs.Ledger.{Ledger}
-use Rattle.ledger.specs.Checks.{first, maxFormulas, maxLive}
+use Rattle.ledger.specs.Checks.{Refusal, first, maxFormulas, maxLive}
 use Rattle.ledger.specs.Calls.{Told, told, withLine, withCredential}
 use Rattle.ledger.specs.Statements.{IsAccepted}
 use Rattle.snapshot.specs.Snapshot.{credentialLine, snapshotOf, rising, lineRules, fails, badCredential, unruly}
@@ -109,9 +109,11 @@ abbrev pub Built : List ℕ → List ℕ → Verdict → Type 0
 Built b l Passed = (passing b ≡ some (ledgerOf l)) × Good l
 Built b l Failed = passing b ≡ none
 
--- the first check that fails
-abbrev pub RefusalIs : List ℕ → ℕ → Type 0
-RefusalIs b n = first (openChecks b) ≡ some (record { number = n; step = 0 })
+-- the answer is the refusal of the first check that fails
+pub record RefusalIs (b : List ℕ) (a : Answer) : Type 0 where
+  pub refusal : Refusal
+  pub fails : first (openChecks b) ≡ some refusal
+  pub answer : told a ≡ Told.no (refusal .number) (refusal .step)
 
 -- The till's block before and after, whatever it held before: accepted, it is a good one
 pub record Opened (l b : List ℕ) (a : Answer) (l′ : List ℕ) : Type 0 where

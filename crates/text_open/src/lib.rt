@@ -136,15 +136,16 @@ fn build(spare: &mut Store, text: &[u8]) -> Verdict
     Verdict::Passed
 }
 
-// 50 or 51, of a text that fails one of them.
-fn refusal(text: &[u8]) -> u32
+// 50, then 51, of a text that fails one of them.
+fn refusal(text: &[u8]) -> Answer
     requires { ⌜ passing (now text) ≡ none ⌝ }
     ensures { λ r. ⌜ RefusalIs (now (text .entry)) r ⌝ }
 {
-    if text_form(text) {
-        return 51;
-    }
-    50
+    let form = text_form(text);
+    let Verdict::Passed = form else {
+        return Answer::Refused(50, 0);
+    };
+    Answer::Refused(51, 0)
 }
 
 // Opening: 50, 51, or the text's ledger takes the place of whatever the till's block held, and the answer is the text's
@@ -154,7 +155,7 @@ pub fn open(till: &mut Store, spare: &mut Store, text: &[u8]) -> Answer
 {
     let v = build(spare, text);
     let Verdict::Passed = v else {
-        return Answer::Refused(refusal(text), 0);
+        return refusal(text);
     };
     *till = *spare;
     Answer::Accepted(text.len() as u32)

@@ -2,7 +2,7 @@
 use mathlib.Core.Path.{_≡_}
 use mathlib.Core.List.{List}
 use mathlib.Core.Option.{Option, none, some}
-use mathlib.Core.Bool.{Bool, true, false}
+use mathlib.Core.Bool.{true}
 use Prim.Native.Nat.{ℕ, zero, suc, _≤_}
 use lib.Dec.{ltb}
 use lib.ListN.{length, drop}
@@ -14,10 +14,13 @@ use Rattle.request.specs.Reader.{Reader, return, _>>=_}
 use Rattle.request.specs.Read.{number, interval}
 use Rattle.ledger.specs.declared.Credential.{Credential}
 use Rattle.ledger.specs.Ledger.{Ledger}
-use Rattle.ledger.specs.Checks.{first}
+use Rattle.ledger.specs.Checks.{Check, first}
 use Rattle.snapshot.specs.Snapshot.{Title, longestText, titleLine, credentialLine, snapshotOf, rising, openChecks}
 use Rattle.snapshot.specs.InForm.{TitleInRange}
 use Rattle.read_formulas.specs.Line.{readLine}
+use Rattle.call_checks.specs.declared.Verdict.{Verdict}
+use Rattle.call_checks.specs.declared.Verdict.the-variants.{Passed, Failed}
+use Rattle.call_checks.specs.Verdicts.{checked}
 use Rattle.text_read.specs.declared.Heading.{Heading}
 use Rattle.text_read.specs.declared.TextRead.{TextRead}
 use Rattle.text_read.specs.declared.TextRead.the-variants.{Read, Broken}
@@ -55,9 +58,14 @@ risingPast lo (suc n) b =
     andThen (readLine credentialLine b) (λ p.
     pick (ltb lo (p .0 .serial)) (risingPast (p .0 .serial) n (p .1)) none)
 
--- check 50 is the first that fails
+-- what a first line, read or broken, says of the check 50; a verdict says it by `checked`
+abbrev pub titleCheck : TextRead → Check
+titleCheck (Read h) = none
+titleCheck Broken = some (record { number = 50; step = 0 })
+
+-- it is the first that fails
 abbrev pub Fails50 : List ℕ → Type 0
-Fails50 b = first (openChecks b) ≡ some (record { number = 50; step = 0 })
+Fails50 b = first (openChecks b) ≡ checked 50 Failed
 
 -- A text that is not too long, and its first line
 pub record Titled (b : List ℕ) (h : Heading) : Type 0 where
@@ -67,7 +75,7 @@ pub record Titled (b : List ℕ) (h : Heading) : Type 0 where
 
 abbrev pub TitleIs : List ℕ → TextRead → Type 0
 TitleIs b (Read h) = Titled b h
-TitleIs b Broken = Fails50 b
+TitleIs b Broken = first (openChecks b) ≡ titleCheck Broken
 
 -- A text in its form, serials rising: the ledger that it says
 pub record Formed (b : List ℕ) : Type 0 where
@@ -75,6 +83,6 @@ pub record Formed (b : List ℕ) : Type 0 where
   pub reads : snapshotOf b ≡ some ledger
   pub rises : rising 0 (ledger .live) ≡ true
 
-abbrev pub FormIs : List ℕ → Bool → Type 0
-FormIs b true = Formed b
-FormIs b false = Fails50 b
+abbrev pub FormIs : List ℕ → Verdict → Type 0
+FormIs b Passed = Formed b
+FormIs b Failed = Fails50 b

@@ -1,5 +1,6 @@
 // The ledger as text, read (document 02: opening the till): its lines by positions, and whether the whole has its form
 // (refusal 50).
+use call_checks::Verdict;
 use ledger::Credential;
 use logic::Interval;
 use read_fields::Decimal;
@@ -189,24 +190,24 @@ pub fn text_title(text: &[u8]) -> TextRead
     read_title(text)
 }
 
-// Whether the text has its form (else 50): what its first line announces follows, serials rising, and nothing after it.
-pub fn text_form(text: &[u8]) -> bool
+// 50: the text has not its form: what its first line announces, serials rising, and nothing after it.
+pub fn text_form(text: &[u8]) -> Verdict
     ensures { λ r. ⌜ FormIs (now (text .entry)) r ⌝ }
 {
     let title = text_title(text);
     let TextRead::Read(h) = title else {
-        return false;
+        return Verdict::Failed;
     };
     let a = past_formulas(text, h.body, h.lines);
     let Prefix::Past(i) = a else {
-        return false;
+        return Verdict::Failed;
     };
     let b = past_credentials(text, i, h.live);
     let Prefix::Past(j) = b else {
-        return false;
+        return Verdict::Failed;
     };
     if (j as usize) < text.len() {
-        return false;
+        return Verdict::Failed;
     }
-    true
+    Verdict::Passed
 }

@@ -4,10 +4,10 @@ use mathlib.Core.List.{List, [], _++_, append-nil}
 use mathlib.Core.Bool.{true, false, true≢false}
 use mathlib.Core.Logic.{_⊎_, inl, inr, ⊎-elim}
 use Prim.Native.Nat.{ℕ, _+_, _-_, _*_, _%_, _^_, _≤_, _<_}
-use native.Mathlib.Nat.{mod-add-mod, mod-eq-of-lt}
+use native.Mathlib.Nat.{min-le-right, mod-eq-of-lt}
 use native.Mathlib.Omega.{arith}
-use lib.IntN.{pos}
-use lib.ListN.{length, take, length-append}
+use lib.IntN.{ℤ, pos, negsuc}
+use lib.ListN.{length, take}
 use lib.Seq.{length-take-le}
 use Rattle.ledger.specs.Ledger.{empty}
 use Rattle.ledger.specs.Calls.{after, answers}
@@ -19,58 +19,42 @@ use Rattle.stream.specs.Stream.{Stands, Took, Ended}
 use Rattle.stream_console.specs.declared.Input.{Input}
 use Rattle.stream_console.specs.declared.Output.{Output}
 use Rattle.tillrun.specs.declared.Turn.{Turn}
-use Rattle.stream_console.specs.Console.{unread, unwritten, Received, Sent, Stopped, mostReads}
-use Rattle.tillrun.specs.Program.{Turned, Through, Going, Played}
+use Rattle.stream_console.specs.Console.{CameIn, WentOut, unread, unwritten, noted, Received, Sent, Stopped, mostReads}
+use Rattle.tillrun.specs.Program.{Turned, Going, Played}
+
+-- a read gives no more than the piece has room for
+pub few : {i : Input} {x : List ℕ} {i′ : Input} → Received i x i′ → i′ .got ≤ length x
+few {i} {x} r = rw (ap (λ (i : Input). i .got) (r .note)) (at (r .answer))
+  where
+    at : (z : ℤ) → noted i z (length x) .got ≤ length x
+    at (pos k) = min-le-right k (length x)
+    at (negsuc k) = omega arith
 
 pub turned : {l k o : List ℕ} {t : Turn} {l′ k′ o′ x′ : List ℕ} {q : Place} {i : Input} {u : Output} {n : ℕ}
     → longest * length x′ ≤ length o′ → Took l k o (t .place) (take n x′) l′ k′ o′ q → n ≡ i .got
-    → Received (t .input) (length x′) i → Sent (t .output) (length o′) u → u .put ≡ q .text
+    → Received (t .input) x′ i → Sent (t .output) (take (q .text) o′) u → q .text ≤ length o′
     → Turned l k o t l′ k′ o′ x′
     (record { place = record { filled = q .filled; fresh = q .fresh; text = 0 }; input = i; output = u })
-turned {l′ = l′} {k′ = k′} {o′ = o′} {x′ = x′} {q = q} {u = u} h m f received sent e = record {
-  ready = record { good = m .ready .good; begun = m .ready .begun; filled = m .ready .filled; text = omega arith };
-  received = received;
-  sent = sent;
-  none = refl;
-  stands = λ w b s.
-      let now = subst (λ (n : ℕ). Stands w l′ k′ o′ q (b ++ take n x′)) f (m .stands w b s) in
-      record {
-        ledger = now .ledger;
-        begun = now .begun;
-        fresh = now .fresh;
-        text = append-nil (w ++ take (u .put) o′) ∙ ap (λ (n : ℕ). w ++ take n o′) e ∙ now .text;
-      };
-}
-
--- the count of the bytes b, and of n more, the front of x
-counted : {c c′ n : ℕ} (b x : List ℕ) → c ≡ length b % 2 ^ 64 → c′ ≡ (c + n) % 2 ^ 64 → n ≤ length x
-    → c′ ≡ length (b ++ take n x) % 2 ^ 64
-counted {n = n} b x e e′ h =
-    e′ ∙ ap (λ (c : ℕ). (c + n) % 2 ^ 64) e ∙ mod-add-mod (length b) (2 ^ 64) n
-    ∙ ap (λ (m : ℕ). m % 2 ^ 64) (sym (length-append b (take n x)
-    ∙ ap (λ (m : ℕ). length b + m) (length-take-le n x h)))
-
-read-on : {b w : List ℕ} {i i′ : Input} {u : Output} (x : List ℕ) → Through b i w u → Received i (length x) i′
-    → Through (b ++ take (i′ .got) x) i′ w u
-read-on {b} x t r = record {
-  from = r .from ∙ t .from;
-  read = counted b x (t .read) (r .bytes) (r .few);
-  to = t .to;
-  written = t .written;
-}
-
-write-on : {b w : List ℕ} {i : Input} {u u′ : Output} (o : List ℕ) → Through b i w u → Sent u (length o) u′
-    → Through b i (w ++ take (u′ .put) o) u′
-write-on {w = w} o t s = record {
-  from = t .from;
-  read = t .read;
-  to = s .to ∙ t .to;
-  written = counted w o (t .written) (s .bytes) (s .few);
-}
+turned {t = t} {l′ = l′} {k′ = k′} {o′ = o′} {x′ = x′} {q = q} {u = u} h m f received sent room =
+    let e : u .put ≡ q .text = ap (λ (u : Output). u .put) (sent .note) ∙ length-take-le (q .text) o′ room in
+    record {
+      ready = record { good = m .ready .good; begun = m .ready .begun; filled = m .ready .filled; text = omega arith };
+      received = received;
+      sent = subst (λ (n : ℕ). Sent (t .output) (take n o′) u) (sym e) sent;
+      none = refl;
+      stands = λ w b s.
+          let now = subst (λ (n : ℕ). Stands w l′ k′ o′ q (b ++ take n x′)) f (m .stands w b s) in
+          record {
+            ledger = now .ledger;
+            begun = now .begun;
+            fresh = now .fresh;
+            text = append-nil (w ++ take (u .put) o′) ∙ ap (λ (n : ℕ). w ++ take n o′) e ∙ now .text;
+          };
+    }
 
 -- nothing is read or written yet
 pub going-start : {l k o : List ℕ} (n : ℕ) {i : Input} {u : Output} → StandsFor l empty → length k ≡ most
-    → longest * n ≤ length o → i ≡ unread (pos 0) → u ≡ unwritten (pos 1)
+    → longest * n ≤ length o → (i ≡ unread (pos 0)) × CameIn i [] → (u ≡ unwritten (pos 1)) × WentOut u []
     → Going l k o (record { place = record { filled = 0; fresh = true; text = 0 }; input = i; output = u }) n
 unfolding splitFrom after answers printed
 going-start n e k o f g = record {
@@ -79,10 +63,10 @@ going-start n e k o f g = record {
   read = [];
   written = [];
   through = record {
-    from = ap (λ (i : Input). i .from) f;
-    read = ap (λ (i : Input). i .bytes) f;
-    to = ap (λ (u : Output). u .to) g;
-    written = ap (λ (u : Output). u .bytes) g;
+    from = ap (λ (i : Input). i .from) (f .0);
+    came = f .1;
+    to = ap (λ (u : Output). u .to) (g .0);
+    went = g .1;
   };
   stands = record { ledger = e .ledger; begun = refl; fresh = refl; text = refl };
 }
@@ -94,7 +78,12 @@ going-on {o′ = o′} {x′ = x′} {t′ = t′} g m = record {
   none = m .none;
   read = g .read ++ take (t′ .input .got) x′;
   written = g .written ++ take (t′ .output .put) o′;
-  through = write-on o′ (read-on x′ (g .through) (m .received)) (m .sent);
+  through = record {
+    from = ap (λ (i : Input). i .from) (m .received .note) ∙ g .through .from;
+    came = m .received .came (g .read) (g .through .came);
+    to = ap (λ (u : Output). u .to) (m .sent .note) ∙ g .through .to;
+    went = m .sent .went (g .written) (g .through .went);
+  };
   stands = m .stands (g .written) (g .read) (g .stands);
 }
 
@@ -118,11 +107,16 @@ module _ {l k o : List ℕ} {t : Turn} {n : ℕ} (g : Going l k o t n) (s : Stop
 
   -- the sheet that had begun is answered too
   pub played-whole : {o′ : List ℕ} {r : ℕ} {u : Output} → t .output .failed ≡ false
-      → Ended l k o (t .place) o′ r → Sent (t .output) (length o′) u → u .put ≡ r → Played (t .input) u
-  played-whole {o′} {u = u} f m sent e = record {
+      → Ended l k o (t .place) o′ r → Sent (t .output) (take r o′) u → Played (t .input) u
+  played-whole {o′} {r} f m sent = record {
     read = g .read;
-    written = g .written ++ take (u .put) o′;
-    through = write-on o′ (g .through) sent;
+    written = g .written ++ take r o′;
+    through = record {
+      from = g .through .from;
+      came = g .through .came;
+      to = ap (λ (u : Output). u .to) (sent .note) ∙ g .through .to;
+      went = sent .went (g .written) (g .through .went);
+    };
     stopped = ⊎-elim inl (λ c. inr (⊎-elim (λ x. absurd (true≢false (sym x ∙ f))) inr c)) s;
-    answered = inl (ap (λ (m : ℕ). g .written ++ take m o′) e ∙ m .whole (g .written) (g .read) (g .stands));
+    answered = inl (m .whole (g .written) (g .read) (g .stands));
   }

@@ -5,15 +5,14 @@ use mathlib.Core.List.{List, [], _∷_, _++_}
 use Prim.Native.Nat.{ℕ}
 use lib.Dec.{ltb}
 use lib.IntN.{pos}
-use lib.ListN.{length}
 use Rattle.request.specs.Text.{bytes}
 use Rattle.stream_console.specs.declared.Input.{Input}
 use Rattle.stream_console.specs.declared.Output.{Output}
 use Rattle.stream_console.specs.Console.{unwritten, Sent}
 
--- as many bytes as the line has were handed over, where it is to be said; otherwise nothing was
+-- the line went out, where it is to be said; otherwise nothing did
 abbrev pub Said : Output → Bool → List ℕ → Output → Type 0
-Said u true line u′ = Sent u (length line) u′ × (u′ .put ≡ length line)
+Said u true line u′ = Sent u line u′
 Said u false line u′ = u′ ≡ u
 
 -- the lines, each with its byte 10

@@ -3,7 +3,7 @@ use mathlib.Core.Path.{_≡_}
 use mathlib.Core.Bool.{true}
 use mathlib.Core.List.{List, _++_}
 use mathlib.Core.Logic.{_⊎_}
-use Prim.Native.Nat.{ℕ, _%_, _^_}
+use Prim.Native.Nat.{ℕ}
 use lib.IntN.{pos}
 use lib.ListN.{length, take}
 use Rattle.ledger.specs.Ledger.{empty}
@@ -14,25 +14,24 @@ use Rattle.stream.specs.Stream.{Ready, Stands}
 use Rattle.stream_console.specs.declared.Input.{Input}
 use Rattle.stream_console.specs.declared.Output.{Output}
 use Rattle.tillrun.specs.declared.Turn.{Turn}
-use Rattle.stream_console.specs.Console.{Received, Sent, Stopped}
+use Rattle.stream_console.specs.Console.{CameIn, WentOut, Received, Sent, Stopped}
 
--- One read, and one write of what then waited. What was read is the front of the piece x′, what was written the front
--- of the text o′.
+-- One read, and one write of what then waited. What came in is the front of the piece x′, what went out the front of
+-- the text o′.
 pub record Turned (l k o : List ℕ) (t : Turn) (l′ k′ o′ x′ : List ℕ) (t′ : Turn) : Type 0 where
   pub ready : Ready l′ k′ o′ (t′ .place) (length x′)
-  pub received : Received (t .input) (length x′) (t′ .input)
-  pub sent : Sent (t .output) (length o′) (t′ .output)
+  pub received : Received (t .input) x′ (t′ .input)
+  pub sent : Sent (t .output) (take (t′ .output .put) o′) (t′ .output)
   pub none : t′ .place .text ≡ 0
   pub stands : (w b : List ℕ) → Stands w l k o (t .place) b
       → Stands (w ++ take (t′ .output .put) o′) l′ k′ o′ (t′ .place) (b ++ take (t′ .input .got) x′)
 
--- The bytes b came from standard input, as many as were read, and the bytes w went to standard output, as many as were
--- written.
+-- The bytes b came in from standard input, and the bytes w went out to standard output.
 pub record Through (b : List ℕ) (i : Input) (w : List ℕ) (u : Output) : Type 0 where
   pub from : i .from ≡ pos 0
-  pub read : i .bytes ≡ length b % 2 ^ 64
+  pub came : CameIn i b
   pub to : u .to ≡ pos 1
-  pub written : u .bytes ≡ length w % 2 ^ 64
+  pub went : WentOut u w
 
 -- What the loop keeps.
 pub record Going (l k o : List ℕ) (t : Turn) (n : ℕ) : Type 0 where

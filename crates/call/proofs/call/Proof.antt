@@ -7,7 +7,7 @@ use borrow.Author.Needs.{needs}
 use Rattle.request.specs.Range.{maxBytes}
 use Rattle.call_checks.proofs.Verdicts.{by-verdict}
 use Rattle.call_contracts.proofs.Laws.{called-long, called-broken, called-read}
-use Rattle.call.proofs.SheetOutcomes.{Begun, line-as, word-canonical, word-reads}
+use Rattle.call.proofs.SheetOutcomes.{Begun, line-as, no-request, word-canonical, word-reads}
 use Rattle.call.proofs.call.Statement.{statement}
 use Rattle.call.proofs.call.Tie as tie
 
@@ -36,7 +36,7 @@ returns-2 : tie.Need-returns-2
 returns-2 c =
     let read = c .before .before in
     called-broken (short (read .before) .pre) (within (read .before))
-    (rw (c .enum-told3 .given .1) at (read .read-first .ensures))
+    (no-request (rw (c .enum-told3 .given .1) at (read .read-first .ensures)))
 
 word-requires : tie.Need-word-requires
 word-requires c κs =

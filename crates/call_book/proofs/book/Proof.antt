@@ -7,6 +7,7 @@ use lib.ListN.{length}
 use borrow.Author.Tests.{leb-true, leb-false}
 use borrow.Author.Needs.{needs}
 use native.Mathlib.Omega.{arith}
+use Rattle.read_rest.proofs.Told.{no-lines}
 use Rattle.call_checks.proofs.Verdicts.{by-verdict}
 use Rattle.call_book_laws.proofs.AfterHead.{holds-asked, steps-asked, ReadHolds, holds-broken, no-bytes, steps-broken}
 use Rattle.call_book_laws.proofs.AfterHead.{ReadSteps, lines-reversed, lines-broken, lines-read, lines-handled}
@@ -30,8 +31,8 @@ holds-read c =
     let read = c .before .before .read-holds in
     record {
       opened = begun c .pre;
-      held = record { few = begun c .pre .head .range .holds .most; long = read .ensures .1 };
-      lines = rw (c .held .given .1) at (read .ensures .0);
+      held = record { few = begun c .pre .head .range .holds .most; long = read .ensures .long };
+      lines = rw (c .held .given .1) at (read .ensures .lines);
     }
 
 -- where the steps have been read too: where the holds had been, the rows, whether an interval is reversed, or broken
@@ -53,14 +54,14 @@ steps-read : (c : tie.After-read) →
     (broken c)
 steps-read c = record {
   holds = holds-read (holds c);
-  steps = rw (c .read .given .1) at (c .before .before .read-steps .ensures);
+  steps = c .before .before .read-steps .ensures .lines _ _ (c .read .given .1);
 }
 
 returns : tie.Need-returns
 returns c =
     let read = c .before .before in
     holds-broken (read .before .before .before .pre)
-    (rw (c .enum-told .given .1) at (read .read-holds .ensures .0))
+    (rw (c .enum-told .given .1) at (read .read-holds .ensures .lines))
 
 returns-2 : tie.Need-returns-2
 returns-2 c =
@@ -87,7 +88,7 @@ returns-3 : tie.Need-returns-3
 returns-3 c =
     let steps = c .before .before in
     steps-broken (holds-read (steps .before .before .before .before .before .before .before))
-    (rw (c .enum-told4 .given .1) at (steps .read-steps .ensures))
+    (no-lines (rw (c .enum-told4 .given .1) at (steps .read-steps .ensures)))
 
 returns-4 : tie.Need-returns-4
 returns-4 c =

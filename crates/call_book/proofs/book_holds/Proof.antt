@@ -4,11 +4,10 @@ use denote.Ref.{now}
 use borrow.Author.Needs.{needs}
 use Rattle.ledger.specs.Checks.{Check}
 use Rattle.ledger.specs.Statements.{_▸_}
-use Rattle.ledger.proofs.Firsts.{if-false, if-true}
 use Rattle.call_checks.proofs.Verdicts.{by-verdict, reworded, shown}
 use Rattle.call_contracts.proofs.Laws.{refused}
 use Rattle.call_book_laws.specs.BookingFound.{Past}
-use Rattle.call_book_laws.proofs.BookingOutcomes.{held-alive}
+use Rattle.call_book_laws.proofs.BookingOutcomes.{held-as}
 use Rattle.call_book.proofs.book_holds.Statement.{statement}
 use Rattle.call_book.proofs.book_holds.Tie as tie
 
@@ -26,7 +25,7 @@ returns c =
     let hold = c .before .before in
     let start = hold .before .before .before in
     refused (start .pre .lines .good) (start .pre .so-far)
-    (if-true 24 _ (rw (c .enum-told .given .1) at (hold .hold-all .ensures)))
+    (held-as (hold .hold-all .ensures) (c .enum-told .given .1))
 
 -- 24 has passed
 abbrev past-24 : (c : tie.After-held) →
@@ -34,8 +33,7 @@ abbrev past-24 : (c : tie.After-held) →
     (rest : List Check) × Past (now (a .store)) (a .head) (now (a .serials)) (now (a .rows)) rest
 past-24 c = (
   _,
-  live c .pre .so-far
-      ▸ if-false 24 _ (held-alive (rw (c .held .given .1) at (c .before .before .hold-all .ensures))),
+  live c .pre .so-far ▸ held-as (c .before .before .hold-all .ensures) (c .held .given .1),
 )
 
 twice-requires : tie.Need-twice-requires
@@ -56,7 +54,7 @@ book-steps-requires c κs =
     let once = reworded (tested .tested .ensures 31) (tested .before .twice .ensures) in
     record {
       before = live held .pre;
-      holds = rw (held .held .given .1) at (held .before .before .hold-all .ensures);
+      holds = held .before .before .hold-all .ensures .held _ (held .held .given .1);
       apart = by-verdict once (passed .enum-told2 .given .1);
       so-far = past-24 held .1 ▸ shown once (passed .enum-told2 .given .1);
     }

@@ -1,15 +1,15 @@
 -- `hold_all` meets its contract. The loop: the first k holds have their labels.
 use Prim.Native.Nat.{_-_, _≤_}
-use mathlib.Core.Path.{refl, sym, ap, _∙_}
+use mathlib.Core.Path.{sym, ap, _∙_}
 use mathlib.Core.Option.{some}
 use native.Mathlib.Omega.{arith}
 use lib.ListN.{take}
 use borrow.Author.Needs.{needs}
 use Rattle.store.specs.Store.{ledgerOf}
-use Rattle.store_lookup.proofs.Places.{looked-up-as, occupied, one-found}
+use Rattle.store_lookup.proofs.Places.{looked-up-as, is-dead, occupied, one-found}
 use Rattle.step_rows.specs.LabelRows.{putLabel}
 use Rattle.call_holds.proofs.HoldSerials.{next-serial, no-serial}
-use Rattle.call_holds.proofs.Holding.{Holding, first-hold, dead-hold, next-hold, all-held}
+use Rattle.call_holds.proofs.Holding.{Holding, first-hold, dead-hold, next-hold, live-holds}
 use Rattle.call_holds.proofs.hold_all.Statement.{statement}
 use Rattle.call_holds.proofs.hold_all.Tie as tie
 
@@ -29,7 +29,7 @@ returns c =
     let turn = look .before .before in
     let at = turn .before in
     dead-hold _ _ _ (at .loop .inv .1) (next-serial (at .before .pre .1) _ (turn .loop-test .taken))
-    (looked-up-as (look .locate .ensures) (c .enum-told .given .1) .nothing .0 refl)
+    (is-dead (at .before .pre .0) (looked-up-as (look .locate .ensures) (c .enum-told .given .1)))
 
 credential-at-requires : tie.Need-credential-at-requires Inv-loop μ-loop
 credential-at-requires c κs =
@@ -41,7 +41,7 @@ credential-at-requires c κs =
 returns-2 : tie.Need-returns-2 Inv-loop μ-loop
 returns-2 c =
     let at = c .before in
-    all-held _ _ _ (at .loop .inv .1) (no-serial (at .before .pre .1) _ (c .loop-test .left))
+    live-holds _ _ _ (at .loop .inv .1) (no-serial (at .before .pre .1) _ (c .loop-test .left))
 
 loop-again : tie.Need-loop-again Inv-loop μ-loop
 loop-again c =

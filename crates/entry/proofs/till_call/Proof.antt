@@ -1,5 +1,5 @@
 -- `till_call` meets its contract.
-use mathlib.Core.Path.{_≡_, ap, _∙_}
+use mathlib.Core.Path.{_≡_, refl, ap, _∙_}
 use mathlib.Core.List.{List}
 use Prim.Native.Nat.{ℕ}
 use borrow.Author.Needs.{needs}
@@ -21,5 +21,7 @@ entered c q = record {
 pub till-call-spec : {M : Type 1} → statement M
 till-call-spec =
     tie.close
-    (tie.spec (λ c κs. search needs) (λ c κs. search needs) (λ c. entered (c .before .before .call .ensures)
-    (c .tell .ensures)))
+    (tie.spec
+    (λ c κs. search needs)
+    (λ c κs. search needs)
+    (λ c. (entered (c .before .before .call .ensures) (c .tell .ensures), refl)))

@@ -1,5 +1,5 @@
 -- `till_close` meets its contract.
-use mathlib.Core.Path.{_≡_, ap, _∙_}
+use mathlib.Core.Path.{_≡_, refl, ap, _∙_}
 use mathlib.Core.List.{List}
 use Prim.Native.Nat.{ℕ, _<_}
 use native.Mathlib.Omega.{arith}
@@ -7,9 +7,8 @@ use native.Mathlib.Decide.{decLt}
 use lib.ListN.{length}
 use borrow.Author.Needs.{needs}
 use Rattle.ledger.specs.Ledger.{Ledger}
-use Rattle.ledger.specs.Calls.{told}
 use Rattle.snapshot.specs.Snapshot.{text}
-use Rattle.snapshot.specs.Reopen.{Closing, close}
+use Rattle.snapshot.specs.Reopen.{close}
 use Rattle.snapshot.proofs.Reopen.{close-answers}
 use Rattle.entry.specs.Entered.{numbers}
 use Rattle.entry_text.proofs.till_close.Statement.{statement}
@@ -20,20 +19,22 @@ close-long : (t : Ledger) (o : List ℕ) → length (close t o .buffer) ≡ leng
 close-long t o = go (decLt (length o) (length (text t)))
   where
     go : Dec (length o < length (text t)) → length (close t o .buffer) ≡ length o
-    go (yes h) = ap (λ (x : Closing). length (x .buffer)) (close-answers t o .short h)
+    go (yes h) = ap length (close-answers t o .short h .buffer)
     go (no h) = close-answers t o .room (omega arith) .size
 
 same-length : tie.Need-same-length
 same-length c =
-    ap (λ (x : Closing). length (x .buffer)) (c .before .before .before .before .close .ensures) ∙ close-long _ _
+    ap length (c .before .before .before .before .close .ensures .buffer) ∙ close-long _ _
 
 returns : tie.Need-returns
 returns c =
-    let e = c .before .before .before .before .close .ensures in
-    record {
-      answer = c .tell .ensures ∙ ap (λ (x : Closing). numbers (told (x .answer))) e;
-      buffer = ap (λ (x : Closing). x .buffer) e;
-    }
+    let e = c .before .before .before .before .close .ensures in (
+      record {
+        answer = c .tell .ensures ∙ ap numbers (e .answer);
+        buffer = e .buffer;
+      },
+      refl,
+    )
 
 pub till-close-spec : {M : Type 1} → statement M
 till-close-spec = tie.close (tie.spec (λ c κs. search needs) (λ c κs. search needs) same-length returns)

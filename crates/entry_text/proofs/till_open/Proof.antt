@@ -1,5 +1,5 @@
 -- `till_open` meets its contract.
-use mathlib.Core.Path.{_≡_, sym, ap, subst, _∙_}
+use mathlib.Core.Path.{_≡_, refl, sym, ap, subst, _∙_}
 use mathlib.Core.List.{List}
 use Prim.Native.Nat.{ℕ}
 use borrow.Author.Needs.{needs}
@@ -28,5 +28,7 @@ reopened {l} {b} o q = record {
 pub till-open-spec : {M : Type 1} → statement M
 till-open-spec =
     tie.close
-    (tie.spec (λ c κs. search needs) (λ c κs. search needs) (λ c. reopened (c .before .before .open .ensures)
-    (c .tell .ensures)))
+    (tie.spec
+    (λ c κs. search needs)
+    (λ c κs. search needs)
+    (λ c. (reopened (c .before .before .open .ensures) (c .tell .ensures), refl)))

@@ -15,8 +15,13 @@ returns-2 c =
     let u = c .before in
     let v = u .before .before in
     let w = v .before in
-    simp (ne-eqb _ _ (w .before .before .if1 .left))
-    (cc (c .covers3 .ensures, u .greater .ensures, v .covers2 .ensures, w .lesser .ensures))
+    simp (
+      ne-eqb _ _ (w .before .before .if1 .left),
+      c .covers3 .ensures,
+      u .greater .ensures,
+      v .covers2 .ensures,
+      w .lesser .ensures,
+    )
 
 pub contains-spec : {M : Type 1} → statement M
 contains-spec =

@@ -10,6 +10,8 @@ use Rattle.read_lines.specs.Step.{holdOf}
 use Rattle.read_fields.proofs.Then.{seen}
 use Rattle.read_rest.proofs.Several.{prefixed, lines-begin, lines-end, lines-turn, lines-broken}
 use Rattle.read_rest.proofs.Several.{take-next, take-here}
+use Rattle.read_rest.proofs.Told.{holds-told}
+use Rattle.read_rest.specs.declared.HoldsRead.the-variants.{Read, Broken}
 use Rattle.read_rest.specs.LinesRead.{readLines}
 use Rattle.read_rest.proofs.read_holds.Statement.{statement}
 use Rattle.read_rest.proofs.read_holds.Tie as tie
@@ -41,11 +43,9 @@ loop-again c =
     )
 
 returns-2 : tie.Need-returns-2 Inv-loop μ-loop
-returns-2 c = (
-  take-here _ _ _ _ (c .before .loop .inv .0) (c .loop-test .left)
-      ∙ sym (c .before .loop .inv .1 .1 ∙ lines-end _ _ _ _ _ (c .loop-test .left)),
-  c .before .loop .inv .1 .0,
-)
+returns-2 c =
+    holds-told (Read _) (take-here _ _ _ _ (c .before .loop .inv .0) (c .loop-test .left)
+    ∙ sym (c .before .loop .inv .1 .1 ∙ lines-end _ _ _ _ _ (c .loop-test .left))) (c .before .loop .inv .1 .0)
 
 pub read-holds-spec : {M : Type 1} → statement M
 read-holds-spec =
@@ -58,11 +58,9 @@ read-holds-spec =
     (λ c κs. search needs)
     (λ c. search needs)
     (λ c. search needs)
-    (λ c. let l = c .before .before .before in (
-      sym (l .before .loop .inv .1 .1 ∙ lines-broken _ _ _ _ (l .loop-test .taken)
-          (seen (holdOf _) (c .before .before .read-hold .ensures) (c .enum-told .given .1)) _),
-      l .before .loop .inv .1 .0,
-    ))
+    (λ c. let l = c .before .before .before in
+    holds-told Broken (sym (l .before .loop .inv .1 .1 ∙ lines-broken _ _ _ _ (l .loop-test .taken)
+    (seen (holdOf _) (c .before .before .read-hold .ensures) (c .enum-told .given .1)) _)) (l .before .loop .inv .1 .0))
     (λ c. search needs)
     (λ c. search needs)
     (λ c. search needs)

@@ -5,6 +5,7 @@ use Rattle.read_lines.specs.Step.{stepLineOf}
 use Rattle.read_fields.proofs.Then.{seen}
 use Rattle.read_rest.proofs.Reading.{Reading, first-reading, no-step, next-reading, more-bytes}
 use Rattle.read_rest.proofs.Reading.{all-lines-read}
+use Rattle.read_rest.proofs.Told.{none-told, all-told}
 use Rattle.read_rest.proofs.read_steps.Statement.{statement}
 use Rattle.read_rest.proofs.read_steps.Tie as tie
 
@@ -27,11 +28,11 @@ loop-again c =
 
 returns-2 : tie.Need-returns-2 Inv-loop μ-loop
 returns-2 c =
-    more-bytes (c .before .before .loop .inv) (c .before .loop-test .left) (c .if1 .taken)
+    none-told (more-bytes (c .before .before .loop .inv) (c .before .loop-test .left) (c .if1 .taken))
 
 returns-3 : tie.Need-returns-3 Inv-loop μ-loop
 returns-3 c =
-    all-lines-read (c .before .before .loop .inv) (c .before .loop-test .left) (c .if1 .left)
+    all-told (all-lines-read (c .before .before .loop .inv) (c .before .loop-test .left) (c .if1 .left))
 
 pub read-steps-spec : {M : Type 1} → statement M
 read-steps-spec =
@@ -45,8 +46,8 @@ read-steps-spec =
     (λ c. search needs)
     (λ c. search needs)
     (λ c. let l = c .before .before .before in
-    no-step (l .before .loop .inv) (l .loop-test .taken)
-    (seen (stepLineOf _) (c .before .before .read-step .ensures) (c .enum-told .given .1)))
+    none-told (no-step (l .before .loop .inv) (l .loop-test .taken)
+    (seen (stepLineOf _) (c .before .before .read-step .ensures) (c .enum-told .given .1))))
     (λ c κs. search needs)
     (λ c. search needs)
     (λ c κs. search needs)

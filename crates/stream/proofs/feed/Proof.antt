@@ -19,6 +19,9 @@ Inv-loop till₀ rows₀ begun₀ text₀ piece p₀ i₀ store rows begun text 
 abbrev μ-loop : tie.MeasureT-loop
 μ-loop till₀ rows₀ begun₀ text₀ piece p₀ i₀ store rows begun text p i = length piece - i
 
+loop-holds : tie.Need-loop-holds Inv-loop μ-loop
+loop-holds c = (omega arith, (refl, (refl, took-none (c .before .before .before .pre))))
+
 take-sheet-requires : tie.Need-take-sheet-requires Inv-loop μ-loop
 take-sheet-requires c κs =
     let test = c .before .before .before .before .before in
@@ -76,7 +79,7 @@ feed-spec =
     (tie.spec
     Inv-loop
     μ-loop
-    (λ c. (omega arith, (refl, (refl, took-none (c .before .before .before .pre)))))
+    loop-holds
     (λ c. search needs)
     (λ c. search needs)
     (λ c. search needs)

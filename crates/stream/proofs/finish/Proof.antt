@@ -8,6 +8,9 @@ use Rattle.stream.proofs.Pieces.{ended-none, ended-one}
 use Rattle.stream.proofs.finish.Statement.{statement}
 use Rattle.stream.proofs.finish.Tie as tie
 
+returns : tie.Need-returns
+returns c = ended-none (c .before .before .before .pre) (c .if1 .taken)
+
 slice-aggregate-answer : tie.Need-slice-aggregate-answer
 slice-aggregate-answer c =
     let start = c .before .before .before .before .before .before in
@@ -24,7 +27,7 @@ pub finish-spec : {M : Type 1} → statement M
 finish-spec =
     tie.close
     (tie.spec
-    (λ c. ended-none (c .before .before .before .pre) (c .if1 .taken))
+    returns
     slice-aggregate-answer
     (λ c κs. search needs)
     (λ c. search needs)

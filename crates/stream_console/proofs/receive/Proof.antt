@@ -1,43 +1,32 @@
 -- `receive` meets its contract.
-use mathlib.Core.Path.{_≡_, refl, _∙_}
-use mathlib.Core.Bool.{true}
-use Prim.Native.Nat.{ℕ}
-use native.Mathlib.Omega.{arith}
-use lib.IntN.{ℤ, pos, negsuc}
+use mathlib.Core.Path.{_≡_, ap, _∙_}
+use lib.IntN.{ℤ}
 use lib.ListN.{length}
-use lib.Signed.{ltZ}
 use mir.Syntax.{w64}
-use mir.Val.{toZ, ofZ}
+use mir.Facts.{toZ-ofZ}
 use borrow.Author.Needs.{needs}
-use borrow.Author.Tests.{ltb-true}
-use Rattle.io.specs.Counts.{clamped}
+use Rattle.stream_console.specs.Console.{noted}
+use Rattle.stream_console.proofs.Notes.{came-on}
 use Rattle.stream_console.proofs.receive.Statement.{statement}
 use Rattle.stream_console.proofs.receive.Tie as tie
 
--- a read that failed gave nothing
-nothing : (z : ℤ) (n : ℕ) → ltZ z (pos 0) ≡ true → clamped z n ≡ 0
-nothing (pos k) n e = let h = ltb-true k 0 e in absurd (omega (arith, h))
-nothing (negsuc k) n e = refl
-
 returns : tie.Need-returns
-returns c = record {
-  from = search needs;
-  reads = search needs;
-  bytes = search needs;
-  few = search needs;
-  ended = refl;
-  misread = λ e.
-      let read = c .before .before .before .before .before .before .read in
-      c .before .before .count .ensures .1 ∙ nothing (toZ w64 (ofZ w64 (read .result))) (length (read .last .1 .0)) e;
-}
+returns c =
+    let after = c .before .before .before .before in
+    let start = after .before .before .before .before in
+    let z = after .read .result in
+    let x = after .read .last .1 .0 in
+    let note : c .note-read .result ≡ noted (start .args .input) z (length x) =
+    c .note-read .ensures
+    ∙ ap (λ (z : ℤ). noted (start .args .input) z (length x))
+    (toZ-ofZ {w = w64} {z = z} (record { sfits = after .read .ok })) in
+    record {
+      answer = z;
+      moved = rw (after .read .kept .1 .0) (after .read .ensures);
+      note = note;
+      came = came-on (start .args .input) x z note;
+    }
 
 pub receive-spec : {M : Type 1} → statement M
 receive-spec =
-    tie.close
-    (tie.spec
-    (λ c κs. search needs)
-    (λ c κs. search needs)
-    (λ c κs. search needs)
-    (λ c κs. search needs)
-    (λ c. search needs)
-    returns)
+    tie.close (tie.spec (λ c κs. search needs) (λ c κs. search needs) (λ c. search needs) returns)

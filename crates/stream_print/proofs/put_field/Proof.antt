@@ -5,6 +5,20 @@ use Rattle.stream_print.proofs.Writing.{wrote-then, digits-few}
 use Rattle.stream_print.proofs.put_field.Statement.{statement}
 use Rattle.stream_print.proofs.put_field.Tie as tie
 
+returns : tie.Need-returns
+returns c =
+    let last = c .before .before in
+    let put = last .before .before .before .before in
+    let start = put .before .before .before in (
+      wrote-then (put .put-byte .ensures) (last .put-digits .ensures),
+      omega (
+        arith,
+        digits-few (start .args .n) (start .fits .n .fits),
+        last .put-digits .ensures .end,
+        put .put-byte .ensures .end,
+      ),
+    )
+
 pub put-field-spec : {M : Type 1} → statement M
 put-field-spec =
     tie.close
@@ -21,15 +35,4 @@ put-field-spec =
       start .pre,
     ))
     (λ c. search needs)
-    (λ c.
-    let last = c .before .before in
-    let put = last .before .before .before .before in
-    let start = put .before .before .before in (
-      wrote-then (put .put-byte .ensures) (last .put-digits .ensures),
-      omega (
-        arith,
-        digits-few (start .args .n) (start .fits .n .fits),
-        last .put-digits .ensures .end,
-        put .put-byte .ensures .end,
-      ),
-    )))
+    returns)

@@ -4,6 +4,11 @@ use Rattle.stream_print.proofs.Writing.{wrote-then}
 use Rattle.stream_print.proofs.put_word.Statement.{statement}
 use Rattle.stream_print.proofs.put_word.Tie as tie
 
+returns : tie.Need-returns
+returns c =
+    let last = c .before .before in
+    wrote-then (last .before .before .before .before .put-byte .ensures) (last .put-byte2 .ensures)
+
 pub put-word-spec : {M : Type 1} → statement M
 put-word-spec =
     tie.close
@@ -11,6 +16,4 @@ put-word-spec =
     (λ c κs. search needs)
     (λ c κs. search needs)
     (λ c. search needs)
-    (λ c.
-    let last = c .before .before in
-    wrote-then (last .before .before .before .before .put-byte .ensures) (last .put-byte2 .ensures)))
+    returns)

@@ -24,6 +24,13 @@ put-of-requires c κs =
     let start = c .before .before .before .before .before .before .before in
     part-room (parts start) (c .before .before .before .put-serial .ensures)
 
+returns : tie.Need-returns
+unfolding credentialFields
+returns c =
+    let put = c .before .before .before .before .before .before in
+    let start = put .before .before .before .before in
+    wrote-parts (parts start) (put .put-serial .ensures) (c .before .before .put-of .ensures)
+
 pub put-credential-spec : {M : Type 1} → statement M
 unfolding credentialFields
 put-credential-spec =
@@ -41,7 +48,4 @@ put-credential-spec =
     let start = put .before .before .before .before in
     sum-fits (parts start) (put .put-serial .ensures) (c .before .before .put-of .ensures) (start .good .0 .0))
     (λ c. search needs)
-    (λ c.
-    let put = c .before .before .before .before .before .before in
-    let start = put .before .before .before .before in
-    wrote-parts (parts start) (put .put-serial .ensures) (c .before .before .put-of .ensures)))
+    returns)

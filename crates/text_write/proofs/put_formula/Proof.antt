@@ -27,6 +27,20 @@ put-superset-requires c κs =
     let shape = told .before .before in
     room-as (sym (text (shape .shape-of .ensures) (told .shape4 .given .1))) (shape .before .before .pre)
 
+returns-3 : tie.Need-returns-3
+unfolding shapeFields
+returns-3 c =
+    let told = c .before .before .before .before .before in
+    wrote-as (text (told .before .before .shape-of .ensures) (told .shape2 .given .1))
+    (c .before .before .put-pair .ensures)
+
+returns-5 : tie.Need-returns-5
+unfolding shapeFields
+returns-5 c =
+    let told = c .before .before .before .before .before in
+    wrote-as (text (told .before .before .shape-of .ensures) (told .shape4 .given .1))
+    (c .before .before .put-superset .ensures)
+
 pub put-formula-spec : {M : Type 1} → statement M
 unfolding shapeFields
 put-formula-spec =
@@ -63,17 +77,11 @@ put-formula-spec =
     wrote-as (text (told .before .before .shape-of .ensures) (told .shape .given .1))
     (c .before .before .put-bang .ensures))
     (λ c. search needs)
-    (λ c.
-    let told = c .before .before .before .before .before in
-    wrote-as (text (told .before .before .shape-of .ensures) (told .shape2 .given .1))
-    (c .before .before .put-pair .ensures))
+    returns-3
     (λ c. search needs)
     (λ c.
     let told = c .before .before .before .before .before in
     wrote-as (text (told .before .before .shape-of .ensures) (told .shape3 .given .1))
     (c .before .before .put-at .ensures))
     (λ c. search needs)
-    (λ c.
-    let told = c .before .before .before .before .before in
-    wrote-as (text (told .before .before .shape-of .ensures) (told .shape4 .given .1))
-    (c .before .before .put-superset .ensures)))
+    returns-5)

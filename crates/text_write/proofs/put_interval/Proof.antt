@@ -18,6 +18,13 @@ put-fields-requires-2 c κs =
     let start = c .before .before .before .before .before .before in
     part-room (parts start) (c .before .before .before .put-fields .ensures)
 
+returns : tie.Need-returns
+unfolding minutes
+returns c =
+    let put = c .before .before .before .before .before .before in
+    let start = put .before .before .before in
+    wrote-parts (parts start) (put .put-fields .ensures) (c .before .before .put-fields2 .ensures)
+
 pub put-interval-spec : {M : Type 1} → statement M
 unfolding minutes
 put-interval-spec =
@@ -33,7 +40,4 @@ put-interval-spec =
     let start = put .before .before .before in
     sum-fits (parts start) (put .put-fields .ensures) (c .before .before .put-fields2 .ensures) (start .good .0 .0))
     (λ c. search needs)
-    (λ c.
-    let put = c .before .before .before .before .before .before in
-    let start = put .before .before .before in
-    wrote-parts (parts start) (put .put-fields .ensures) (c .before .before .put-fields2 .ensures)))
+    returns)

@@ -19,6 +19,13 @@ put-fields-requires c κs =
     let start = c .before .before .before .before .before .before in
     part-room (parts start) (c .before .before .before .put-letter .ensures)
 
+returns : tie.Need-returns
+unfolding shapeFields
+returns c =
+    let put = c .before .before .before .before .before .before in
+    let start = put .before .before .before in
+    wrote-parts (parts start) (put .put-letter .ensures) (c .before .before .put-fields .ensures)
+
 pub put-pair-spec : {M : Type 1} → statement M
 unfolding shapeFields
 put-pair-spec =
@@ -34,7 +41,4 @@ put-pair-spec =
     let start = put .before .before .before in
     sum-fits (parts start) (put .put-letter .ensures) (c .before .before .put-fields .ensures) (start .good .0 .0))
     (λ c. search needs)
-    (λ c.
-    let put = c .before .before .before .before .before .before in
-    let start = put .before .before .before in
-    wrote-parts (parts start) (put .put-letter .ensures) (c .before .before .put-fields .ensures)))
+    returns)

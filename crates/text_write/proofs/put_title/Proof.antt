@@ -20,6 +20,13 @@ put-counts-requires c κs =
     let start = c .before .before .before .before .before .before in
     part-room (parts start) (c .before .before .before .put-edition .ensures)
 
+returns : tie.Need-returns
+unfolding titleFields editionFields
+returns c =
+    let put = c .before .before .before .before .before .before in
+    let start = put .before .before .before in
+    wrote-parts (parts start) (put .put-edition .ensures) (c .before .before .put-counts .ensures)
+
 pub put-title-spec : {M : Type 1} → statement M
 unfolding titleFields editionFields
 put-title-spec =
@@ -35,7 +42,4 @@ put-title-spec =
     let start = put .before .before .before in
     sum-fits (parts start) (put .put-edition .ensures) (c .before .before .put-counts .ensures) (start .good .0 .0))
     (λ c. search needs)
-    (λ c.
-    let put = c .before .before .before .before .before .before in
-    let start = put .before .before .before in
-    wrote-parts (parts start) (put .put-edition .ensures) (c .before .before .put-counts .ensures)))
+    returns)

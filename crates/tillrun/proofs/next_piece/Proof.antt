@@ -6,13 +6,13 @@ use lib.ListN.{length}
 use lib.Seq.{length-take-le}
 use borrow.Author.Needs.{needs}
 use Rattle.stream.proofs.Pieces.{ready-for}
-use Rattle.tillrun.proofs.Turns.{turned}
+use Rattle.tillrun.proofs.Turns.{few, turned}
 use Rattle.tillrun.proofs.next_piece.Statement.{statement}
 use Rattle.tillrun.proofs.next_piece.Tie as tie
 
 -- the bytes that the read gave stand in the piece
 inside : (c : tie.After-got) → c .got .result ≤ length (c .before .before .before .receive .last .1 .0)
-inside c = omega (arith, c .got .ensures, c .before .before .before .receive .ensures .few)
+inside c = omega (arith, c .got .ensures, few (c .before .before .before .receive .ensures))
 
 slice-aggregate-feed : tie.Need-slice-aggregate-feed
 slice-aggregate-feed c =
@@ -40,7 +40,8 @@ returns c =
     let receive = got .before .before .before in
     let start = receive .before .before .before .before .before in
     turned (omega (arith, fed .feed .kept .1 .1 .1 .0, receive .receive .kept .1 .0, start .pre .text))
-    (fed .feed .ensures) (got .got .ensures) (receive .receive .ensures) (c .send .ensures .0) (c .send .ensures .1)
+    (fed .feed .ensures) (got .got .ensures) (receive .receive .ensures) (c .send .ensures)
+    (omega (arith, fed .feed .ensures .ready .text))
 
 pub next-piece-spec : {M : Type 1} → statement M
 next-piece-spec =
@@ -48,7 +49,7 @@ next-piece-spec =
     (tie.spec
     (λ c κs. search needs)
     (λ c κs. search needs)
-    (λ c. search needs)
+    (λ c. inside (c .before .before .before .before))
     slice-aggregate-feed
     feed-requires
     (λ c κs. search needs)

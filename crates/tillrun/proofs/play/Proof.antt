@@ -1,12 +1,13 @@
 -- The loop's invariant: the state stands for some bytes that were read and some that were written, as many as were
 -- noted. Its measure: the reads that are left.
-use mathlib.Core.Path.{_≡_, sym, subst, _∙_}
+use mathlib.Core.Path.{_≡_, sym, ap, subst, _∙_}
 use Prim.Native.Nat.{_-_}
 use native.Mathlib.Omega.{arith}
 use lib.ListN.{length}
 use borrow.Author.Needs.{needs}
 use Rattle.request.specs.Range.{maxBytes}
 use Rattle.stream.proofs.Pieces.{ready-for}
+use Rattle.stream_console.specs.declared.Input.{Input}
 use Rattle.stream_console.specs.Console.{mostReads, Stopped, GoesOn}
 use Rattle.tillrun.specs.Program.{Going}
 use Rattle.tillrun.proofs.Turns.{going-start, going-on, fewer, played-cut, played-whole}
@@ -38,7 +39,7 @@ loop-less : tie.Need-loop-less Inv-loop μ-loop
 loop-less c =
     let test = c .before .before .before .before .before .before in
     fewer (subst (GoesOn _ _) (test .if1 .taken) (test .before .goes-on .ensures) .1 .1)
-    (c .next-piece .ensures .received .reads)
+    (ap (λ (i : Input). i .reads) (c .next-piece .ensures .received .note))
 
 loop-again : tie.Need-loop-again Inv-loop μ-loop
 loop-again c =
@@ -71,8 +72,7 @@ returns-2 c =
     let failed = end .before .before .before .before .before .before in
     let test = failed .before .before .before .before in
     played-whole (test .before .before .loop .inv .0) (stopped test)
-    (sym (failed .before .failed .ensures) ∙ failed .if2 .left) (end .finish .ensures) (c .send .ensures .0)
-    (c .send .ensures .1)
+    (sym (failed .before .failed .ensures) ∙ failed .if2 .left) (end .finish .ensures) (c .send .ensures)
 
 pub play-spec : {M : Type 1} → statement M
 play-spec =

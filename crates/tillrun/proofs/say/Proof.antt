@@ -3,7 +3,8 @@ use mathlib.Core.Path.{_≡_, refl, sym, subst}
 use mathlib.Core.Bool.{Bool, true, false}
 use mathlib.Core.List.{List}
 use Prim.Native.Nat.{ℕ}
-use lib.ListN.{length}
+use lib.ListN.{length, take}
+use lib.Seq.{take-length}
 use borrow.Author.Needs.{needs}
 use Rattle.stream_console.specs.declared.Output.{Output}
 use Rattle.stream_console.specs.Console.{Sent}
@@ -12,9 +13,10 @@ use Rattle.tillrun.proofs.say.Statement.{statement}
 use Rattle.tillrun.proofs.say.Tie as tie
 
 -- by whether it is to be said
-said : (u : Output) (line : List ℕ) (u′ : Output) {b : Bool} → b ≡ true
-    → Sent u (length line) u′ × (u′ .put ≡ length line) → Said u b line u′
-said u line u′ e s = subst (λ (b : Bool). Said u b line u′) (sym e) s
+said : (u : Output) (line : List ℕ) (u′ : Output) {b : Bool} → b ≡ true → Sent u (take (length line) line) u′
+    → Said u b line u′
+said u line u′ e s =
+    subst (λ (b : Bool). Said u b line u′) (sym e) (subst (λ (x : List ℕ). Sent u x u′) (take-length line) s)
 
 unsaid : (u : Output) (line : List ℕ) {b : Bool} → b ≡ false → Said u b line u
 unsaid u line e = subst (λ (b : Bool). Said u b line u) (sym e) refl

@@ -12,7 +12,7 @@ returns : tie.Need-returns
 unfolding bytes
 returns c =
     subst (λ (u : Output). Said u (ltb 1 (c .before .before .before .args .words)) noArguments (c .say .result))
-    (c .before .before .writing .ensures) (c .say .ensures)
+    (c .before .before .writing .ensures .0) (c .say .ensures)
 
 pub warn-spec : {M : Type 1} → statement M
 warn-spec = tie.close (tie.spec (λ c κs. search needs) (λ c. search needs) (λ c κs. search needs) returns)

@@ -7,7 +7,7 @@ use Rattle.request.specs.Range.{predicate, session, principal, formulaNumber}
 use Rattle.request.specs.Text.{bytes, sameBytes, andThen}
 use Rattle.request.specs.Reader.{named, choose}
 use Rattle.request.specs.Request.{Line}
-use Rattle.request.specs.Read.{part, parts, formulaLine}
+use Rattle.request.specs.Read.{part, parts, formulaLineWith}
 use Rattle.ledger.specs.Table.{lettered}
 use Rattle.read_formulas.specs.Line.{rowed}
 use Rattle.read_formulas.proofs.FormulaLetters.{one-row, numbers-line, at-row, superset-row}
@@ -18,21 +18,21 @@ use Rattle.read_formulas.proofs.formulas.formula_line.Statement.{statem
 use Rattle.read_formulas.proofs.formulas.formula_line.Tie as tie
 
 returns-5 : tie.Need-returns-5
-unfolding rowed formulaLine choose named sameBytes bytes part parts andThen
+unfolding rowed formulaLineWith choose named sameBytes bytes part parts andThen
 returns-5 c =
     let d = c .before .before .before .before in
     numbers-line _ _ (d .before .before .if1 .left) (code "a") (predicate .last) (session .last) Line.atom
     (c .before .match .keys1) (c .before .before .if4 .left) (λ b. refl) (λ i j. refl) (c .two-fields .ensures)
 
 returns-13 : tie.Need-returns-13
-unfolding rowed formulaLine choose named sameBytes bytes part parts andThen
+unfolding rowed formulaLineWith choose named sameBytes bytes part parts andThen
 returns-13 c =
     let d = c .before .before .before .before in
     numbers-line _ _ (d .before .before .if1 .left) (code "u") (formulaNumber .last) (formulaNumber .last) Line.implies
     (c .before .match .keys9) (c .before .before .if4 .left) (λ b. refl) (λ i j. refl) (c .two-fields6 .ensures)
 
 pub formula-line-spec : {M : Type 1} → statement M
-unfolding rowed formulaLine choose named sameBytes bytes part parts andThen
+unfolding rowed formulaLineWith choose named sameBytes bytes part parts andThen
 formula-line-spec =
     tie.close
     (tie.spec

@@ -7,6 +7,27 @@ use Rattle.read_lines.proofs.Ops.{step-none, step-told}
 use Rattle.read_lines.proofs.rows.read_step.Statement.{statement}
 use Rattle.read_lines.proofs.rows.read_step.Tie as tie
 
+returns-2 : tie.Need-returns-2
+returns-2 c =
+    let d = c .before .before .before .before in
+    sym (step-plain-on _ _ (d .before .before .if1 .left) (c .before .before .before .op-of .ensures)
+    (c .before .if2 .taken) (c .if3 .taken))
+
+returns-3 : tie.Need-returns-3
+returns-3 c =
+    let d = c .before .before .before .before in
+    step-told _ (c .plain-step .ensures)
+    ∙ sym (step-plain _ _ (d .before .before .before .if1 .left) (d .op-of .ensures) (c .before .before .if2 .taken)
+    (c .before .if3 .left))
+
+returns-8 : tie.Need-returns-8
+returns-8 c =
+    let d = c .before .before .before .before in
+    let e = d .before .before .before .before in
+    c .implies-fields .ensures
+    ∙ sym (step-fields _ _ (e .before .before .before .if1 .left) (e .op-of .ensures) (d .before .if4 .left) ulNumber
+    (c .before .if8 .taken))
+
 pub read-step-spec : {M : Type 1} → statement M
 read-step-spec =
     tie.close
@@ -20,14 +41,9 @@ read-step-spec =
     (λ c. search needs)
     (λ c. search needs)
     (λ c. search needs)
-    (λ c. let d = c .before .before .before .before in
-    sym (step-plain-on _ _ (d .before .before .if1 .left) (c .before .before .before .op-of .ensures)
-    (c .before .if2 .taken) (c .if3 .taken)))
+    returns-2
     (λ c κs. search needs)
-    (λ c. let d = c .before .before .before .before in
-    step-told _ (c .plain-step .ensures)
-    ∙ sym (step-plain _ _ (d .before .before .before .if1 .left) (d .op-of .ensures) (c .before .before .if2 .taken)
-    (c .before .if3 .left)))
+    returns-3
     (λ c. let d = c .before .before .before .before in
     sym (step-bare _ _ (d .before .before .if1 .left) (c .before .before .before .op-of .ensures)
     (c .before .if2 .left) (c .if4 .taken)))
@@ -51,11 +67,7 @@ read-step-spec =
     ∙ sym (step-fields _ _ (e .before .before .if1 .left) (d .before .before .before .op-of .ensures)
     (d .if4 .left) llNumber (c .before .if7 .taken)))
     (λ c κs. search needs)
-    (λ c. let d = c .before .before .before .before in
-    let e = d .before .before .before .before in
-    c .implies-fields .ensures
-    ∙ sym (step-fields _ _ (e .before .before .before .if1 .left) (e .op-of .ensures) (d .before .if4 .left) ulNumber
-    (c .before .if8 .taken)))
+    returns-8
     (λ c. let d = c .before .before .before .before in
     let e = d .before .before .before .before in
     sym (step-none _ _ (e .before .before .if1 .left) (d .before .before .before .op-of .ensures) (d .if4 .left)
