@@ -82,9 +82,9 @@ pub counted : (l : List ℕ) {n : ℕ} {v : Verdict} → n ≡ length (ledgerOf 
     → Tells 14 v (leb maxFormulas (length (ledgerOf l .lines)))
 counted l e h = reworded h (ap (leb maxFormulas) e)
 
-module _ {l : List ℕ} {x : Row} {z : ℕ} (f : Fitting l x z) where
+module _ {l : List ℕ} {x : Row} {z : ℕ} {u w : Bool} (f : Fitting l x z u w) where
   pub word-added : {p b : Bool} → p ≡ plain (form (formula (ledgerOf l)) (lineOf x))
-      → b ≡ balanced (form (formula (ledgerOf l)) (lineOf x)) → Wordable l x z p b
+      → b ≡ balanced (form (formula (ledgerOf l)) (lineOf x)) → Wordable l x z p b u w
   word-added q y = record {
     good = f .named .good;
     room = leb-false maxFormulas (length (ledgerOf l .lines)) (f .room);
@@ -93,6 +93,8 @@ module _ {l : List ℕ} {x : Row} {z : ℕ} (f : Fitting l x z) where
     sized = f .sized;
     plain-kept = q;
     balancedly = y;
+    unbound-kept = f .unbound;
+    quantified-kept = f .quantified;
     small = ltb-false maxSize z (f .small);
   }
 

@@ -10,22 +10,27 @@ ghost use Rattle.call_contracts.specs.Called.{Handled};
 ghost use Rattle.call_word.specs.Wording.{Named, Fitting};
 
 // A line that has passed all checks is added.
-fn add(store: &mut Store, row: Row, size: u32) -> Answer
-    requires { ⌜ Fitting (now store) row size ⌝ }
+fn add(store: &mut Store, row: Row, size: u32, unbound: bool, quantified: bool) -> Answer
+    requires { ⌜ Fitting (now store) row size unbound quantified ⌝ }
     ensures { λ r. ⌜ Handled (now (store .entry)) (wordRequest (lineOf row)) r (now (store .exit)) ⌝ }
 {
     let plain = formula_facts::row_plain(store, row);
     let balanced = formula_weights::row_balanced(store, row);
     let number = store::formula_count(store);
-    store_formulas::add_row(store, row, size, plain, balanced);
+    store_formulas::add_row(store, row, size, plain, balanced, unbound, quantified);
     Answer::Accepted(number)
 }
 
-// 12, 13, 14 of a line that names what is there.
+// 53, 12, 13, 14 of a line that names what is there.
 fn word_named(store: &mut Store, row: Row) -> Answer
     requires { ⌜ Named (now store) row ⌝ }
     ensures { λ r. ⌜ Handled (now (store .entry)) (wordRequest (lineOf row)) r (now (store .exit)) ⌝ }
 {
+    let holders = formula_facts::row_holders(store, row);
+    let apart = call_checks::tested(holders.nested);
+    let Verdict::Passed = apart else {
+        return Answer::Refused(53, 0);
+    };
     let size = formula_facts::row_size(store, row);
     let small = call_checks::tested(ledger::MAX_SIZE < size);
     let Verdict::Passed = small else {
@@ -39,7 +44,7 @@ fn word_named(store: &mut Store, row: Row) -> Answer
     let Verdict::Passed = free else {
         return Answer::Refused(14, 0);
     };
-    add(store, row, size)
+    add(store, row, size, holders.unbound, holders.quantified)
 }
 
 // Word: 3, 43, 10, then as above.

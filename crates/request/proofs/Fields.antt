@@ -7,7 +7,7 @@ use Rattle.logic.specs.Counts.{allOf}
 use Rattle.request.specs.declared.Kind.{Kind}
 use Rattle.request.specs.declared.Kind.the-variants.{Linear, Unrestricted}
 use Rattle.request.specs.Range.{Range, predicate, session, principal, minute, formulaNumber, serial, label}
-use Rattle.request.specs.Range.{holds, steps}
+use Rattle.request.specs.Range.{holds, steps, holder, namedHolder}
 use Rattle.request.specs.Text.{bytes, sameBytes}
 use Rattle.request.specs.Reader.{named, choose}
 use Rattle.request.specs.Read.{number, labelSet, interval, kind}
@@ -42,6 +42,12 @@ principal-exact = number-exact principal 2 (omega arith)
 
 pub session-exact : NumberExact session 6
 session-exact = number-exact session 4 (omega arith)
+
+pub holder-exact : NumberExact holder 6
+holder-exact = number-exact holder 4 (omega arith)
+
+pub named-holder-exact : NumberExact namedHolder 6
+named-holder-exact = number-exact namedHolder 4 (omega arith)
 
 pub holds-exact : NumberExact holds 3
 holds-exact = number-exact holds 1 (omega arith)

@@ -16,7 +16,7 @@ use Rattle.request.proofs.Readers.{Texts, Reads, Only, Exact, done, _al
 use Rattle.request.proofs.Readers.{only-after, reads-return, reads-then, reads-last, choose-only, word-reads}
 use Rattle.request.proofs.Readers.{one-reads, one-only, two-reads, two-only}
 use Rattle.request.proofs.Fields.{predicate-exact, principal-exact, label-exact, formula-exact, session-exact}
-use Rattle.request.proofs.Fields.{serial-exact, labelSet-exact, interval-exact}
+use Rattle.request.proofs.Fields.{serial-exact, labelSet-exact, interval-exact, holder-exact, named-holder-exact}
 
 -- Formula lines: at most 66 bytes
 
@@ -43,6 +43,10 @@ formula-line-reads (Line.says k i) h =
     two-reads principal-exact formula-exact Line.says "s" k i (h .principal) (h .part) refl (λ us. refl)
 formula-line-reads (Line.superset v w) h =
     two-reads interval-exact interval-exact Line.superset "g" v w (h .first) (h .second) refl (λ us. refl)
+formula-line-reads (Line.named p s k) h =
+    word-reads "n" refl (λ us. refl) (reads-then _ (predicate-exact .reads p (h .predicate))
+    (reads-then _ (session-exact .reads s (h .session)) (reads-last _ (holder-exact .reads k (h .holder)))))
+formula-line-reads (Line.forEvery i) h = one-reads formula-exact Line.forEvery "q" i h refl (λ us. refl)
 
 parts-only : {before : Texts} (make : ℕ → ℕ → Line)
     → ((i j : ℕ) → Parts i j → LineInRange (make i j) × (lineFields (make i j) ≡ before ++ (digits i ∷ digits j ∷ [])))
@@ -66,6 +70,9 @@ formula-line-exact = record {
       also two-only formula-exact interval-exact Line.at (λ i w h k. (record { part = h; interval = k }, refl))
       also two-only principal-exact formula-exact Line.says (λ k i h j. (record { principal = h; part = j }, refl))
       also two-only interval-exact interval-exact Line.superset (λ v w h k. (record { first = h; second = k }, refl))
+      also only-then _ (predicate-exact .only) (λ p h. two-only session-exact holder-exact (Line.named p)
+      (λ s k i j. (record { predicate = h; session = i; holder = j }, refl)))
+      also one-only formula-exact Line.forEvery (λ i h. (h, refl))
       also done);
 }
 
@@ -98,6 +105,8 @@ step-line-reads Step.sr h = word-reads "sr" refl (λ us. refl) (reads-return 48 
 step-line-reads Step.af h = word-reads "af" refl (λ us. refl) (reads-return 48 Step.af)
 step-line-reads (Step.sl l) h = one-reads label-exact Step.sl "sl" l h refl (λ us. refl)
 step-line-reads Step.gr h = word-reads "gr" refl (λ us. refl) (reads-return 48 Step.gr)
+step-line-reads (Step.al l k) h =
+    two-reads label-exact named-holder-exact Step.al "al" l k (h .label) (h .holder) refl (λ us. refl)
 
 pub step-line-exact : Exact 48 stepLine StepInRange stepFields 55
 unfolding stepLine stepFields labelled minutes
@@ -127,6 +136,7 @@ step-line-exact = record {
       also only-return Step.af tt refl
       also one-only label-exact Step.sl (λ l h. (h, refl))
       also only-return Step.gr tt refl
+      also two-only label-exact named-holder-exact Step.al (λ l k h i. (record { label = h; holder = i }, refl))
       also done);
 }
 

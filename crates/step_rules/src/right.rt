@@ -1,4 +1,6 @@
-// The right steps and `ax`, at the linear labels d and a goal whose row is x, at i.
+// The right steps and `ax`, at the linear labels d and a goal at i: the formula with the number m, whose row, before a
+// holder is put in, is x.
+use crate::instance;
 use logic::Window;
 use steps::Fresh;
 use steps::Goal;
@@ -7,12 +9,13 @@ use steps::Plan;
 use steps::Row;
 use steps::letters;
 ghost use mathlib.Core.Path.{_≡_};
-ghost use mathlib.Core.Bool.{_&&_};
+ghost use mathlib.Core.Bool.{_&&_, _||_};
 ghost use Prim.Native.Nat.{_<_};
 ghost use lib.Dec.{eqb};
 ghost use Rattle.logic.specs.Interval.{contains};
 ghost use Rattle.request.specs.Range.{labelCount};
 ghost use Rattle.labels.specs.Labels.{isEmpty, isJust, subset, without};
+ghost use Rattle.steps.specs.Instance.{_for_, holderOf, _after_};
 ghost use Rattle.steps.specs.Plans.{when, is, premise};
 
 // "1, D empty; closes."
@@ -38,81 +41,97 @@ pub fn gr(d: u64, x: Row) -> Plan
 }
 
 // "⊕, that arm."
-pub fn p1(d: u64, x: Row, i: Window) -> Plan
-    ensures { λ r. ⌜ r ≡ when (is x "p") (Plan.One (premise d (Goal.Holds (x .a) i) Fresh.Nothing)) ⌝ }
+pub fn p1(d: u64, x: Row, m: u32, i: Window) -> Plan
+    ensures { λ r. ⌜ r ≡ when (is x "p") (Plan.One (premise d (Goal.Holds ((x .a) for holderOf m) i) Fresh.Nothing)) ⌝ }
 {
-    step_plans::goal(x.letter == letters::PLUS, d, x.a, i)
+    step_plans::goal(x.letter == letters::PLUS, d, instance::part_of(x.a, m), i)
 }
 
-pub fn p2(d: u64, x: Row, i: Window) -> Plan
-    ensures { λ r. ⌜ r ≡ when (is x "p") (Plan.One (premise d (Goal.Holds (x .b) i) Fresh.Nothing)) ⌝ }
+pub fn p2(d: u64, x: Row, m: u32, i: Window) -> Plan
+    ensures { λ r. ⌜ r ≡ when (is x "p") (Plan.One (premise d (Goal.Holds ((x .b) for holderOf m) i) Fresh.Nothing)) ⌝ }
 {
-    step_plans::goal(x.letter == letters::PLUS, d, x.b, i)
+    step_plans::goal(x.letter == letters::PLUS, d, instance::part_of(x.b, m), i)
 }
 
 // "!, D empty, then the part."
-pub fn br(d: u64, x: Row, i: Window) -> Plan
+pub fn br(d: u64, x: Row, m: u32, i: Window) -> Plan
     ensures { λ r. ⌜ r ≡ when (is x "b") (when (isEmpty d)
-        (Plan.One (premise d (Goal.Holds (x .a) i) Fresh.Nothing))) ⌝ }
+        (Plan.One (premise d (Goal.Holds ((x .a) for holderOf m) i) Fresh.Nothing))) ⌝ }
 {
-    step_plans::goal((x.letter == letters::BANG) & labels::is_empty(d), d, x.a, i)
+    let a = instance::part_of(x.a, m);
+    step_plans::goal((x.letter == letters::BANG) & labels::is_empty(d), d, a, i)
 }
 
 // "A@J becomes A at J."
-pub fn hr(d: u64, x: Row) -> Plan
-    ensures { λ r. ⌜ r ≡ when (is x "h") (Plan.One (premise d (Goal.Holds (x .a) (x .first)) Fresh.Nothing)) ⌝ }
+pub fn hr(d: u64, x: Row, m: u32) -> Plan
+    ensures { λ r. ⌜ r ≡ when (is x "h")
+        (Plan.One (premise d (Goal.Holds ((x .a) for holderOf m) (x .first)) Fresh.Nothing)) ⌝ }
 {
     let j = x.first;
-    step_plans::goal(x.letter == letters::AT, d, x.a, j)
+    step_plans::goal(x.letter == letters::AT, d, instance::part_of(x.a, m), j)
 }
 
 // "⟨K⟩A becomes K affirms A."
-pub fn sr(d: u64, x: Row, i: Window) -> Plan
-    ensures { λ r. ⌜ r ≡ when (is x "s") (Plan.One (premise d (Goal.Affirms (x .b) i (x .a)) Fresh.Nothing)) ⌝ }
+pub fn sr(d: u64, x: Row, m: u32, i: Window) -> Plan
+    ensures { λ r. ⌜ r ≡ when (is x "s")
+        (Plan.One (premise d (Goal.Affirms ((x .b) for holderOf m) i (x .a)) Fresh.Nothing)) ⌝ }
 {
+    let b = instance::part_of(x.b, m);
     step_plans::one(
         x.letter == letters::SAYS,
         d,
-        Goal::Affirms(x.b, i, x.a),
+        Goal::Affirms(b, i, x.a),
         Fresh::Nothing,
     )
 }
 
 // "&, both arms, each from all of D."
-pub fn wr(d: u64, x: Row, i: Window) -> Plan
-    ensures { λ r. ⌜ r ≡ when (is x "w") (Plan.Two (premise d (Goal.Holds (x .a) i) Fresh.Nothing)
-        (premise d (Goal.Holds (x .b) i) Fresh.Nothing)) ⌝ }
+pub fn wr(d: u64, x: Row, m: u32, i: Window) -> Plan
+    ensures { λ r. ⌜ r ≡ when (is x "w") (Plan.Two (premise d (Goal.Holds ((x .a) for holderOf m) i) Fresh.Nothing)
+        (premise d (Goal.Holds ((x .b) for holderOf m) i) Fresh.Nothing)) ⌝ }
 {
-    step_plans::goals(x.letter == letters::WITH, d, x.a, d, x.b, i)
+    let a = instance::part_of(x.a, m);
+    let b = instance::part_of(x.b, m);
+    step_plans::goals(x.letter == letters::WITH, d, a, d, b, i)
 }
 
 // "⊗; left from the share, right from the rest of D."
-pub fn tr(d: u64, x: Row, i: Window, share: u64) -> Plan
+pub fn tr(d: u64, x: Row, m: u32, i: Window, share: u64) -> Plan
     ensures { λ r. ⌜ r ≡ when (is x "t") (when (subset share d)
-        (Plan.Two (premise share (Goal.Holds (x .a) i) Fresh.Nothing)
-        (premise (without d share) (Goal.Holds (x .b) i) Fresh.Nothing))) ⌝ }
+        (Plan.Two (premise share (Goal.Holds ((x .a) for holderOf m) i) Fresh.Nothing)
+        (premise (without d share) (Goal.Holds ((x .b) for holderOf m) i) Fresh.Nothing))) ⌝ }
 {
+    let a = instance::part_of(x.a, m);
+    let b = instance::part_of(x.b, m);
     let rest = labels::without(d, share);
     step_plans::goals(
         (x.letter == letters::TENSOR) & labels::subset(share, d),
         share,
-        x.a,
+        a,
         rest,
-        x.b,
+        b,
         i,
     )
 }
 
 // "D holds just L, an atom equal to the goal; L's window ⊇ goal's. Closes." Label k stands for h, whose row is y.
-pub fn ax(d: u64, x: Row, i: Window, k: u32, h: Hypothesis, y: Row) -> Plan
+// Document 02: "Equality at `ax` is that of the formula after the holder is put in."
+pub fn ax(d: u64, x: Row, m: u32, i: Window, k: u32, h: Hypothesis, y: Row) -> Plan
     requires { ⌜ k < labelCount ⌝ }
-    ensures { λ r. ⌜ r ≡ when (is x "a") (when (isJust d k
-        && ((is y "a" && (eqb (y .a) (x .a) && eqb (y .b) (x .b))) && contains (h .interval) i)) Plan.Closed) ⌝ }
+    ensures { λ r. ⌜ r ≡ when (is x "a" || is x "n") (when (isJust d k
+        && ((eqb (y .letter) (x .letter) && (eqb (y .a) (x .a) && (eqb (y .b) (x .b)
+        && (is x "a" || eqb ((y after (h .formula)) .holder) ((x after m) .holder)))))
+        && contains (h .interval) i)) Plan.Closed) ⌝ }
 {
     let j = h.interval;
-    let same = (y.letter == letters::ATOM) & ((y.a == x.a) & (y.b == x.b));
+    let bare = x.letter == letters::ATOM;
+    let atomic = bare | (x.letter == letters::NAMED);
+    let holders = bare
+        | (instance::holder_of(y.letter, y.holder, h.formula)
+            == instance::holder_of(x.letter, x.holder, m));
+    let same = (y.letter == x.letter) & ((y.a == x.a) & ((y.b == x.b) & holders));
     step_plans::when(
-        (x.letter == letters::ATOM) & (labels::is_just(d, k) & (same & intervals::contains(j, i))),
+        atomic & (labels::is_just(d, k) & (same & intervals::contains(j, i))),
         Plan::Closed,
     )
 }

@@ -98,6 +98,7 @@ module _ (ls : Labels) (R D : ℕ) (known-R : R < 2 ^ length ls) (known-D : D < 
   makes Rule.af w = λ y my. (Derives.af y, refl, omega arith, my)
   makes (Rule.sl {l = l} m e c) w = λ y my. (Derives.same rest (out l m e) (Derives.sl c y), refl, omega arith, my)
   makes (Rule.gr e c) w = (Derives.same rest (perm-sym (bare D e)) (Derives.gr c), refl, refl, tt)
+  makes (Rule.al {l = l} m e n) w = λ y my. (Derives.same rest (out l m e) (Derives.al n y), refl, omega arith, my)
 
 -- The derivation that the lines spell: by their rules, as many labels as it takes.
 pub record Derived (ss : List Step) (ls : Labels) (q : Labelled) (rest : List Step) (ls′ : Labels) : Type 0 where

@@ -10,17 +10,19 @@ use Rattle.store_formulas.proofs.same_row.Statement.{statement}
 use Rattle.store_formulas.proofs.same_row.Tie as tie
 
 -- the letter is tried after the numbers
-letter-last : (l a b f : Bool) → (l && (a && (b && f))) ≡ ((a && (b && l)) && f)
-letter-last true true true f = refl
-letter-last true true false f = refl
-letter-last true false b f = refl
-letter-last false true true f = refl
-letter-last false true false f = refl
-letter-last false false b f = refl
+letter-last : (l a b h f : Bool) → (l && (a && (b && (h && f)))) ≡ ((a && (b && (h && l))) && f)
+letter-last true true true true f = refl
+letter-last true true true false f = refl
+letter-last true true false h f = refl
+letter-last true false b h f = refl
+letter-last false true true true f = refl
+letter-last false true true false f = refl
+letter-last false true false h f = refl
+letter-last false false b h f = refl
 
 module _ (x y : Row) where
   abbrev heads : Bool
-  heads = eqb (x .a) (y .a) && (eqb (x .b) (y .b) && eqb (x .letter) (y .letter))
+  heads = eqb (x .a) (y .a) && (eqb (x .b) (y .b) && (eqb (x .holder) (y .holder) && eqb (x .letter) (y .letter)))
 
   abbrev firsts : Bool
   firsts = sameInterval (x .first) (y .first)
@@ -30,7 +32,9 @@ module _ (x y : Row) where
 
   in-three : sameRow x y ≡ (heads && (firsts && seconds))
   unfolding sameRow
-  in-three = letter-last (eqb (x .letter) (y .letter)) (eqb (x .a) (y .a)) (eqb (x .b) (y .b)) (firsts && seconds)
+  in-three =
+      letter-last (eqb (x .letter) (y .letter)) (eqb (x .a) (y .a)) (eqb (x .b) (y .b)) (eqb (x .holder) (y .holder))
+      (firsts && seconds)
 
   all-same : heads ≡ true → firsts ≡ true → seconds ≡ sameRow x y
   all-same e f = sym (in-three ∙ rw (e, f))

@@ -9,6 +9,15 @@ pub ll-spec : {M : Type 1} → statement M
 ll-spec =
     tie.close
     (tie.spec (λ c κs. search needs) (λ c κs. search needs) (λ c κs. search needs) (λ c κs. search needs)
-    (λ c. let b = c .before .before in
+    (λ c κs. search needs) (λ c κs. search needs)
+    (λ c. let s = c .before in
+    let i = s .before in
+    let w = i .before .before in
     c .applied .ensures
-    ∙ rw when-and (simp (c .before .subset .ensures, b .contains .ensures, b .before .before .without .ensures))))
+    ∙ rw when-and (simp (
+      s .subset .ensures,
+      i .contains .ensures,
+      w .without .ensures,
+      w .before .part-of2 .ensures,
+      w .before .before .part-of .ensures,
+    ))))

@@ -8,5 +8,11 @@ use Rattle.step_rules.proofs.left.ul.Tie as tie
 pub ul-spec : {M : Type 1} → statement M
 ul-spec =
     tie.close
-    (tie.spec (λ c κs. search needs) (λ c κs. search needs)
-    (λ c. c .applied .ensures ∙ rw when-and (simp (c .before .contains .ensures))))
+    (tie.spec (λ c κs. search needs) (λ c κs. search needs) (λ c κs. search needs) (λ c κs. search needs)
+    (λ c. let s = c .before in
+    c .applied .ensures
+    ∙ rw when-and (simp (
+      s .contains .ensures,
+      s .before .before .part-of2 .ensures,
+      s .before .before .before .part-of .ensures,
+    ))))

@@ -8,5 +8,6 @@ use Rattle.step_rules.proofs.right.br.Tie as tie
 pub br-spec : {M : Type 1} → statement M
 br-spec =
     tie.close
-    (tie.spec (λ c κs. search needs) (λ c κs. search needs)
-    (λ c. c .goal .ensures ∙ rw when-and (simp (c .before .is-empty .ensures))))
+    (tie.spec (λ c κs. search needs) (λ c κs. search needs) (λ c κs. search needs)
+    (λ c. let b = c .before .before .before in
+    c .goal .ensures ∙ rw when-and (simp (c .before .is-empty .ensures, b .part-of .ensures))))

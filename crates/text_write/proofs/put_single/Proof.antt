@@ -1,19 +1,19 @@
--- `put_bang` meets its contract.
+-- `put_single` meets its contract.
 use mathlib.Core.List.{[], _∷_}
 use borrow.Author.Needs.{needs}
 use Rattle.request.specs.Write.{digits}
 use Rattle.text_write.specs.Put.{shapeFields}
 use Rattle.text_write.proofs.Puts.{Fields, in-fields, first-room, part-start, part-room, sum-fits, wrote-parts}
-use Rattle.text_write.proofs.put_bang.Statement.{statement}
-use Rattle.text_write.proofs.put_bang.Tie as tie
+use Rattle.text_write.proofs.put_single.Statement.{statement}
+use Rattle.text_write.proofs.put_single.Tie as tie
 
-parts : (c : tie.Start) → Fields (c .args .rest .now) 10 ((98 ∷ []) ∷ []) (digits (c .args .n) ∷ [])
+parts : (c : tie.Start) → Fields (c .args .rest .now) 10 ((c .args .x ∷ []) ∷ []) (digits (c .args .n) ∷ [])
 unfolding shapeFields
 parts c = in-fields _ _ _ tt tt (c .pre)
 
-pub put-bang-spec : {M : Type 1} → statement M
+pub put-single-spec : {M : Type 1} → statement M
 unfolding shapeFields
-put-bang-spec =
+put-single-spec =
     tie.close
     (tie.spec
     (λ c κs. first-room (parts (c .before .before)))
