@@ -22,20 +22,23 @@ ghost use Rattle.steps.specs.Plans.{when, is, premise};
 pub fn or(d: u64, x: Row) -> Plan
     ensures { λ r. ⌜ r ≡ when (is x "o") (when (isEmpty d) Plan.Closed) ⌝ }
 {
-    step_plans::when(
-        (x.letter == letters::ONE) & labels::is_empty(d),
-        Plan::Closed,
-    )
+    if x.letter != letters::ONE {
+        return Plan::Refused;
+    }
+    step_plans::when(labels::is_empty(d), Plan::Closed)
 }
 
 // "⊇ that holds, D empty; closes."
 pub fn gr(d: u64, x: Row) -> Plan
     ensures { λ r. ⌜ r ≡ when (is x "g") (when (isEmpty d && contains (x .first) (x .second)) Plan.Closed) ⌝ }
 {
+    if x.letter != letters::SUPERSET {
+        return Plan::Refused;
+    }
     let i = x.first;
     let j = x.second;
     step_plans::when(
-        (x.letter == letters::SUPERSET) & (labels::is_empty(d) & intervals::contains(i, j)),
+        labels::is_empty(d) & intervals::contains(i, j),
         Plan::Closed,
     )
 }
@@ -44,13 +47,19 @@ pub fn gr(d: u64, x: Row) -> Plan
 pub fn p1(d: u64, x: Row, m: u32, i: Window) -> Plan
     ensures { λ r. ⌜ r ≡ when (is x "p") (Plan.One (premise d (Goal.Holds ((x .a) for holderOf m) i) Fresh.Nothing)) ⌝ }
 {
-    step_plans::goal(x.letter == letters::PLUS, d, instance::part_of(x.a, m), i)
+    if x.letter != letters::PLUS {
+        return Plan::Refused;
+    }
+    step_plans::goal(true, d, instance::part_of(x.a, m), i)
 }
 
 pub fn p2(d: u64, x: Row, m: u32, i: Window) -> Plan
     ensures { λ r. ⌜ r ≡ when (is x "p") (Plan.One (premise d (Goal.Holds ((x .b) for holderOf m) i) Fresh.Nothing)) ⌝ }
 {
-    step_plans::goal(x.letter == letters::PLUS, d, instance::part_of(x.b, m), i)
+    if x.letter != letters::PLUS {
+        return Plan::Refused;
+    }
+    step_plans::goal(true, d, instance::part_of(x.b, m), i)
 }
 
 // "!, D empty, then the part."
@@ -58,8 +67,11 @@ pub fn br(d: u64, x: Row, m: u32, i: Window) -> Plan
     ensures { λ r. ⌜ r ≡ when (is x "b") (when (isEmpty d)
         (Plan.One (premise d (Goal.Holds ((x .a) for holderOf m) i) Fresh.Nothing))) ⌝ }
 {
+    if x.letter != letters::BANG {
+        return Plan::Refused;
+    }
     let a = instance::part_of(x.a, m);
-    step_plans::goal((x.letter == letters::BANG) & labels::is_empty(d), d, a, i)
+    step_plans::goal(labels::is_empty(d), d, a, i)
 }
 
 // "A@J becomes A at J."
@@ -67,8 +79,11 @@ pub fn hr(d: u64, x: Row, m: u32) -> Plan
     ensures { λ r. ⌜ r ≡ when (is x "h")
         (Plan.One (premise d (Goal.Holds ((x .a) for holderOf m) (x .first)) Fresh.Nothing)) ⌝ }
 {
+    if x.letter != letters::AT {
+        return Plan::Refused;
+    }
     let j = x.first;
-    step_plans::goal(x.letter == letters::AT, d, instance::part_of(x.a, m), j)
+    step_plans::goal(true, d, instance::part_of(x.a, m), j)
 }
 
 // "⟨K⟩A becomes K affirms A."
@@ -76,13 +91,11 @@ pub fn sr(d: u64, x: Row, m: u32, i: Window) -> Plan
     ensures { λ r. ⌜ r ≡ when (is x "s")
         (Plan.One (premise d (Goal.Affirms ((x .b) for holderOf m) i (x .a)) Fresh.Nothing)) ⌝ }
 {
+    if x.letter != letters::SAYS {
+        return Plan::Refused;
+    }
     let b = instance::part_of(x.b, m);
-    step_plans::one(
-        x.letter == letters::SAYS,
-        d,
-        Goal::Affirms(b, i, x.a),
-        Fresh::Nothing,
-    )
+    step_plans::one(true, d, Goal::Affirms(b, i, x.a), Fresh::Nothing)
 }
 
 // "&, both arms, each from all of D."
@@ -90,9 +103,12 @@ pub fn wr(d: u64, x: Row, m: u32, i: Window) -> Plan
     ensures { λ r. ⌜ r ≡ when (is x "w") (Plan.Two (premise d (Goal.Holds ((x .a) for holderOf m) i) Fresh.Nothing)
         (premise d (Goal.Holds ((x .b) for holderOf m) i) Fresh.Nothing)) ⌝ }
 {
+    if x.letter != letters::WITH {
+        return Plan::Refused;
+    }
     let a = instance::part_of(x.a, m);
     let b = instance::part_of(x.b, m);
-    step_plans::goals(x.letter == letters::WITH, d, a, d, b, i)
+    step_plans::goals(true, d, a, d, b, i)
 }
 
 // "⊗; left from the share, right from the rest of D."
@@ -101,17 +117,13 @@ pub fn tr(d: u64, x: Row, m: u32, i: Window, share: u64) -> Plan
         (Plan.Two (premise share (Goal.Holds ((x .a) for holderOf m) i) Fresh.Nothing)
         (premise (without d share) (Goal.Holds ((x .b) for holderOf m) i) Fresh.Nothing))) ⌝ }
 {
+    if x.letter != letters::TENSOR {
+        return Plan::Refused;
+    }
     let a = instance::part_of(x.a, m);
     let b = instance::part_of(x.b, m);
     let rest = labels::without(d, share);
-    step_plans::goals(
-        (x.letter == letters::TENSOR) & labels::subset(share, d),
-        share,
-        a,
-        rest,
-        b,
-        i,
-    )
+    step_plans::goals(labels::subset(share, d), share, a, rest, b, i)
 }
 
 // "D holds just L, an atom equal to the goal; L's window ⊇ goal's. Closes." Label k stands for h, whose row is y.
@@ -124,14 +136,15 @@ pub fn ax(d: u64, x: Row, m: u32, i: Window, k: u32, h: Hypothesis, y: Row) -> P
         && contains (h .interval) i)) Plan.Closed) ⌝ }
 {
     let j = h.interval;
-    let bare = x.letter == letters::ATOM;
-    let atomic = bare | (x.letter == letters::NAMED);
-    let holders = bare
-        | (instance::holder_of(y.letter, y.holder, h.formula)
-            == instance::holder_of(x.letter, x.holder, m));
-    let same = (y.letter == x.letter) & ((y.a == x.a) & ((y.b == x.b) & holders));
+    let same = (y.letter == x.letter) & ((y.a == x.a) & (y.b == x.b));
+    let fits = labels::is_just(d, k) & (same & intervals::contains(j, i));
+    if x.letter == letters::ATOM {
+        return step_plans::when(fits, Plan::Closed);
+    }
+    let theirs = instance::holder_of(y.letter, y.holder, h.formula);
+    let ours = instance::holder_of(x.letter, x.holder, m);
     step_plans::when(
-        atomic & (labels::is_just(d, k) & (same & intervals::contains(j, i))),
+        (x.letter == letters::NAMED) & (fits & (theirs == ours)),
         Plan::Closed,
     )
 }
