@@ -110,3 +110,8 @@ module _ (l : List ℕ) (r : Row) (c : Canonical r) where
 
   pub nests-is : nests (ledgerOf l) (lineOf r) ≡ (eqb (r .letter) (code "q") && any quantified)
   nests-is = ap (λ (x : Row). eqb (x .letter) (code "q") && any quantified) c
+
+-- the line of a `q` names its part alone
+pub every-part : (r : Row) → Canonical r → r .letter ≡ code "q" → names (lineOf r) ≡ (r .a ∷ [])
+unfolding partsOf
+every-part r c e = sym (parts-row (lineOf r)) ∙ ap partsOf c ∙ rw e

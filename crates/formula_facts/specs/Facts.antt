@@ -7,7 +7,7 @@ use Rattle.logic.specs.Formula.{unbound, quantified}
 use Rattle.steps.specs.declared.Row.{Row}
 use Rattle.ledger.specs.Table.{form, names}
 use Rattle.ledger.specs.Ledger.{formula}
-use Rattle.ledger.specs.Checks.{anyOf, nests}
+use Rattle.ledger.specs.Checks.{anyOf}
 use Rattle.ledger.specs.Bounds.{There}
 use Rattle.store.specs.Store.{lineOf, ledgerOf, Canonical, Good}
 
@@ -17,12 +17,12 @@ pub record Formable (l : List ℕ) (r : Row) : Type 0 where
   pub canonical : Canonical r
   pub there : There (ledgerOf l) (names (lineOf r))
 
--- holders: of the parts that the row names, and of its formula
-pub record InsideOf (l : List ℕ) (r : Row) (u q : Bool) : Type 0 where
+-- holders, in the parts that the row names and in its formula: u whether there is an unbound one, q whether a `q` stands
+-- there
+pub record PartsHoldersOf (l : List ℕ) (r : Row) (u q : Bool) : Type 0 where
   pub unbound : u ≡ anyOf (λ k. unbound (formula (ledgerOf l) k)) (names (lineOf r))
   pub quantified : q ≡ anyOf (λ k. quantified (formula (ledgerOf l) k)) (names (lineOf r))
 
-pub record HoldersOf (l : List ℕ) (r : Row) (u q n : Bool) : Type 0 where
+pub record HoldersOf (l : List ℕ) (r : Row) (u q : Bool) : Type 0 where
   pub unbound : u ≡ unbound (form (formula (ledgerOf l)) (lineOf r))
   pub quantified : q ≡ quantified (form (formula (ledgerOf l)) (lineOf r))
-  pub nested : n ≡ nests (ledgerOf l) (lineOf r)
