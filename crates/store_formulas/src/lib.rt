@@ -14,7 +14,10 @@ ghost use Rattle.store.specs.Store.{lineOf, ledgerOf, Good, StandsFor, Wordable
 fn same_row(x: Row, y: Row) -> bool
     ensures { λ r. ⌜ r ≡ sameRow x y ⌝ }
 {
-    if (x.a == y.a) & ((x.b == y.b) & ((x.holder == y.holder) & (x.letter == y.letter))) {
+    if x.a != y.a {
+        return false;
+    }
+    if (x.b == y.b) & ((x.holder == y.holder) & (x.letter == y.letter)) {
         if intervals::same(x.first, y.first) {
             return intervals::same(x.second, y.second);
         }
