@@ -2,11 +2,11 @@
 use mathlib.Core.Path.{_≡_}
 use mathlib.Core.List.{List, [], _∷_}
 use mathlib.Core.Option.{some}
-use mathlib.Core.Bool.{Bool, false}
+use mathlib.Core.Bool.{false}
 use Prim.Native.Nat.{ℕ}
 use lib.Dec.{leb, ltb}
 use lib.ListN.{length}
-use Rattle.logic.specs.Formula.{size, unbound, quantified}
+use Rattle.logic.specs.Formula.{size}
 use Rattle.request.specs.Request.{Line, word}
 use Rattle.steps.specs.declared.Row.{Row}
 use Rattle.ledger.specs.Table.{form, names}
@@ -35,12 +35,10 @@ pub record Named (l : List ℕ) (r : Row) : Type 0 where
   pub there : anyOf (missing (ledgerOf l)) (names (lineOf r)) ≡ false
   pub so-far : Past l r (fitChecks (ledgerOf l) (lineOf r))
 
--- all have passed; z is the formula's size, u whether it has an unbound holder, q whether a `q` stands in it
-pub record Fitting (l : List ℕ) (r : Row) (z : ℕ) (u q : Bool) : Type 0 where
+-- all have passed; z is the formula's size
+pub record Fitting (l : List ℕ) (r : Row) (z : ℕ) : Type 0 where
   pub named : Named l r
   pub sized : z ≡ size (form (formula (ledgerOf l)) (lineOf r))
-  pub unbound : u ≡ unbound (form (formula (ledgerOf l)) (lineOf r))
-  pub quantified : q ≡ quantified (form (formula (ledgerOf l)) (lineOf r))
   pub small : ltb maxSize z ≡ false
   pub room : leb maxFormulas (length (ledgerOf l .lines)) ≡ false
   pub so-far : Past l r []

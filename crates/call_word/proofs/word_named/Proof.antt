@@ -6,8 +6,8 @@ use Rattle.ledger.specs.Checks.{Check}
 use Rattle.ledger.specs.Statements.{_▸_}
 use Rattle.call_checks.proofs.Verdicts.{by-verdict, shown, reworded}
 use Rattle.call_contracts.proofs.Laws.{refused}
-use Rattle.call_word.specs.Wording.{Past}
-use Rattle.call_word.proofs.WordOutcomes.{named-formable, sized, known, counted}
+use Rattle.call_word.specs.Wording.{Past, Fitting}
+use Rattle.call_word.proofs.WordOutcomes.{named-formable, sized, known, counted, word-added, word-done}
 use Rattle.call_word.proofs.word_named.Statement.{statement}
 use Rattle.call_word.proofs.word_named.Tie as tie
 
@@ -27,19 +27,19 @@ PastAt s rest = Past (now (s .args .store)) (s .args .row) rest
 
 returns : tie.Need-returns
 returns c =
-    let holders = c .before .before .before in
-    let start = holders .before .before in
+    let nested = c .before .before .before in
+    let start = nested .before .before in
     refused (start .pre .good) (start .pre .so-far)
-    (shown (reworded (c .before .before .tested .ensures 53) (holders .row-holders .ensures .nested))
+    (shown (reworded (c .before .before .tested .ensures 53) (nested .row-nested .ensures))
     (c .enum-told2 .given .1))
 
 -- 53 has passed
 abbrev past-53 : (c : tie.After-enum-told) → (rest : List Check) × PastAt (apart c) rest
 past-53 c =
-    let holders = c .before .before .before in (
+    let nested = c .before .before .before in (
       _,
       apart c .pre .so-far
-          ▸ shown (reworded (c .before .before .tested .ensures 53) (holders .row-holders .ensures .nested))
+          ▸ shown (reworded (c .before .before .tested .ensures 53) (nested .row-nested .ensures))
           (c .enum-told .given .1),
     )
 
@@ -82,23 +82,39 @@ returns-4 c =
     (shown (counted _ (c .before .before .before .formula-count .ensures) (c .before .before .tested4 .ensures 14))
     (c .enum-told8 .given .1))
 
-add-requires : tie.Need-add-requires
-add-requires c κs =
-    let free = c .before in
-    let there = free .before .before .before .before .before in
-    let size = there .before .before .before .before .before in
-    let holders = size .before .before .before .before .before in
-    let room = counted _ (free .before .before .before .formula-count .ensures)
-    (free .before .before .tested4 .ensures 14) in
+-- and 14: all have passed, for the size that was asked
+abbrev free : tie.After-enum-told7 → tie.Start
+free c = new (c .before .before .before .before .before)
+
+abbrev sizing : tie.After-enum-told7 → tie.After-enum-told3
+sizing c = c .before .before .before .before .before .before .before .before .before .before
+
+fits : (c : tie.After-enum-told7)
+    → Fitting (now (free c .args .store)) (free c .args .row) (sizing c .before .before .before .row-size .result)
+fits c =
+    let there = c .before .before .before .before .before in
+    let size = sizing c in
+    let room = counted _ (c .before .before .before .formula-count .ensures) (c .before .before .tested4 .ensures 14) in
     record {
-      named = new there .pre;
+      named = free c .pre;
       sized = size .before .before .before .row-size .ensures;
-      unbound = holders .before .before .before .row-holders .ensures .unbound;
-      quantified = holders .before .before .before .row-holders .ensures .quantified;
       small = by-verdict (size .before .before .tested2 .ensures 12) (size .enum-told3 .given .1);
-      room = by-verdict room (free .enum-told7 .given .1);
-      so-far = past-13 there .1 ▸ shown room (free .enum-told7 .given .1);
+      room = by-verdict room (c .enum-told7 .given .1);
+      so-far = past-13 there .1 ▸ shown room (c .enum-told7 .given .1);
     }
+
+add-row-requires : tie.Need-add-row-requires
+add-row-requires c κs =
+    let holders = c .before in
+    let balanced = holders .before .before in
+    let plain = balanced .before .before in
+    word-added (fits (plain .before .before)) (plain .row-plain .ensures) (balanced .row-balanced .ensures)
+    (holders .row-holders .ensures)
+
+returns-5 : tie.Need-returns-5
+returns-5 c =
+    let passed = c .before .before .before .before .before .before .before .before in
+    word-done (fits passed) (passed .before .before .before .formula-count .ensures) (c .add-row .ensures)
 
 pub word-named-spec : {M : Type 1} → statement M
 word-named-spec =
@@ -124,5 +140,8 @@ word-named-spec =
     (λ c. search needs)
     (λ c. search needs)
     returns-4
-    add-requires
-    (λ c. c .add .ensures))
+    (λ c κs. named-formable (free (c .before) .pre))
+    (λ c κs. named-formable (free (c .before .before .before) .pre))
+    (λ c κs. named-formable (free (c .before .before .before .before .before) .pre))
+    add-row-requires
+    returns-5)
