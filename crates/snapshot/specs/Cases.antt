@@ -6,13 +6,12 @@ use Prim.Native.Nat.{ℕ}
 use Prim.Native.String.{String}
 use Rattle.request.specs.Text.{bytes}
 use Rattle.request.specs.Ends.{Ends}
-use Rattle.ledger.specs.declared.Answer.the-variants.{Accepted, Refused}
 use Rattle.ledger.specs.Ledger.{Ledger, empty}
-use Rattle.ledger.specs.Calls.{ok, told, after}
+use Rattle.ledger.specs.Calls.{Told, ok, told, after}
 use Rattle.ledger.specs.Sessions.{ofLines, each, words, second, m1Booking}
 use Rattle.ledger.specs.Cases.{Turn, _⇒_, _⇛_, accepted, refused, AnsweredFrom}
 use Rattle.snapshot.specs.Snapshot.{lineCount, liveCount, text}
-use Rattle.snapshot.specs.Reopen.{reopen, Closing, close}
+use Rattle.snapshot.specs.Reopen.{reopen, close}
 
 -- M1: its ledger before and after the booking
 
@@ -185,16 +184,16 @@ holderText = "n,9,65535,65535" ∷ "n,1,7,0" ∷ "q,1" ∷ "t,2,0" ∷ []
 abbrev pub holderWords : List String
 holderWords = "word,n,9,65535,65535" ∷ "word,n,1,7,0" ∷ "word,q,1" ∷ "word,t,2,0" ∷ []
 
--- the empty ledger, closed into a buffer of these bytes
-abbrev pub closedInto : String → Closing
-closedInto o = close empty (bytes o)
+-- the empty ledger, closed into a buffer of these bytes: what is told, and the buffer after
+abbrev pub closedInto : String → Told × List ℕ
+closedInto o = (told (close empty (bytes o) .answer), close empty (bytes o) .buffer)
 
 pub record Closings : Type 0 where
   -- one byte too short, just long enough, and longer
-  pub short : closedInto "abcdefghijkl" ≡ record { answer = Refused 52 0; buffer = bytes "abcdefghijkl" }
-  pub none : closedInto "" ≡ record { answer = Refused 52 0; buffer = [] }
-  pub fits : closedInto "abcdefghijklm" ≡ record { answer = Accepted 13; buffer = bytes "till,1,1,0,0\n" }
-  pub past : closedInto "abcdefghijklmnopqr" ≡ record { answer = Accepted 13; buffer = bytes "till,1,1,0,0\nnopqr" }
+  pub short : closedInto "abcdefghijkl" ≡ (refused 52, bytes "abcdefghijkl")
+  pub none : closedInto "" ≡ (refused 52, [])
+  pub fits : closedInto "abcdefghijklm" ≡ (accepted 13, bytes "till,1,1,0,0\n")
+  pub past : closedInto "abcdefghijklmnopqr" ≡ (accepted 13, bytes "till,1,1,0,0\nnopqr")
   pub paused : text (playedOn empty pausedCalls) ≡ pausedText
   -- a text that is read and refused (51) leaves the ledger
   pub left : reopen (reopened lastSerial) (ofLines (one "3,s,0,0,9,0,0")) .ledger ≡ reopened lastSerial
