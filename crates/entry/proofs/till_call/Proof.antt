@@ -18,10 +18,16 @@ entered c q = record {
   same = λ f k z. c .same f k (c .answer ∙ z);
 }
 
+-- what one of the clauses asks of the state that a call leaves
+abbrev clause : {A C : Type 0} {B : C → Type 0} → (A → (c : C) → B c) → Type 0
+clause {C = C} {B = B} _ = (c : C) → B c
+
+returns-entered : clause (λ (x : tie.Need-returns) (c : tie.After-tell). x c .0)
+returns-entered c = entered (c .before .before .call .ensures) (c .tell .ensures)
+
+returns-lent : clause (λ (x : tie.Need-returns) (c : tie.After-tell). x c .1)
+returns-lent c = refl
+
 pub till-call-spec : {M : Type 1} → statement M
 till-call-spec =
-    tie.close
-    (tie.spec
-    (λ c κs. search needs)
-    (λ c κs. search needs)
-    (λ c. (entered (c .before .before .call .ensures) (c .tell .ensures), refl)))
+    tie.close (tie.spec (λ c κs. search needs) (λ c κs. search needs) (λ c. (returns-entered c, returns-lent c)))
