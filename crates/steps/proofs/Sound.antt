@@ -4,9 +4,13 @@ use mathlib.Core.List.{List, [], _∷_, _++_, append-assoc, List·Memᴰ, List·
 use Prim.Native.Nat.{ℕ, _+_, _^_, _<_, _≤_}
 use native.Mathlib.Omega.{arith}
 use lib.ListN.{length}
-use Rattle.logic.specs.Derives.{Hyp, Judgment, Derives, Letter, letters, taken}
+use Rattle.logic.specs.declared.Interval.{Interval}
+use Rattle.logic.specs.Interval.{Window, _⊇_, WellFormed}
+use Rattle.logic.specs.Formula.{Formula}
+use Rattle.logic.specs.Derives.{Hyp, _⟦_⟧, Judgment, holds, Derives, Letter, letters, taken}
 use Rattle.logic.specs.Multiset.{Perm, Every}
 use Rattle.logic.proofs.Multisets.{perm-refl, perm-sym, perm-trans}
+use Rattle.request.specs.Range.{minute}
 use Rattle.request.specs.Request.{Step}
 use Rattle.labels.specs.Labels.{_∋_, remove}
 use Rattle.labels.proofs.Sets.{only-member, member-below}
@@ -58,10 +62,10 @@ chosen-ul w = w .1 .0
 letter-ul : (l : ℕ) (j : Interval) → letterOf (Step.ul l j) ≡ Letter.ul j
 letter-ul l j = refl
 
-minutes-ul : {R D E : List Hyp} {g : Judgment} {a b : Formula} {i j : Interval} {o : WellFormed j} {c : i ⊇ j}
-    {y : Derives R [] (Judgment.holds a j)} {z : Derives R (b ⟦ j ⟧ ∷ D) g} → j .to ≤ minute .last
-    → Minutes y → Minutes z → Minutes (Derives.ul {i = i} o c y z)
-minutes-ul e my mz = (e, my, mz)
+minutes-ul : {R D : List Hyp} {g : Judgment} {a b : Formula} {i j : Window} (o : WellFormed j) (c : i ⊇ j)
+    (y : Derives R [] (holds a j)) (z : Derives R (b ⟦ j ⟧ ∷ D) g) → j .to ≤ minute .last
+    → Minutes y → Minutes z → Minutes (Derives.ul o c y z)
+minutes-ul o c y z e my mz = (e, my, mz)
 
 module _ (ls : Labels) (R D : ℕ) (known-R : R < 2 ^ length ls) (known-D : D < 2 ^ length ls)
     (low : length ls ≤ maxLabels) where
@@ -148,7 +152,7 @@ module _ (ls : Labels) (R D : ℕ) (known-R : R < 2 ^ length ls) (known-D : D < 
     from-ul (Rule.ul m e c) (chosen-ul w) y z,
     ap (_∷ (letters y ++ letters z)) (sym (letter-ul l j)),
     omega arith,
-    minutes-ul (w .0 .interval .to .most) my mz,
+    minutes-ul (chosen-ul w) c (Derives.same rest (bare 0 refl) y) z (w .0 .interval .to .most) my mz,
   )
 
   -- every rule
