@@ -3,6 +3,7 @@ use mathlib.Core.Path.{refl}
 use mathlib.Core.List.{[], _∷_}
 use Prim.Native.Nat.{ℕ, suc, _+_, _^_, _<_}
 use native.Mathlib.Omega.{arith}
+use Rattle.logic.specs.declared.Interval.{Interval}
 use Rattle.logic.specs.Counts.{allOf}
 use Rattle.request.specs.declared.Kind.{Kind}
 use Rattle.request.specs.declared.Kind.the-variants.{Linear, Unrestricted}
@@ -65,16 +66,24 @@ pub labelSet-exact : Exact 48 labelSet LabelSet (λ s. hexDigits s ∷ []) 17
 unfolding labelSet
 labelSet-exact = next-exact set-back set-plain (λ s h. omega (arith, set-length s h)) set-only
 
-pub interval-exact : Exact 48 interval IntervalInRange minutes 32
+-- a break ends with a minute
+break-last : {i : Interval} → IntervalInRange i → i .last inRange minute
+break-last h = h .last
+
+-- an interval is read as its four minutes are
+interval-exactly : NumberExact minute 8 → Exact 48 interval IntervalInRange minutes 32
 unfolding interval minutes
-interval-exact = record {
+interval-exactly minutes-exact = record {
   reads = λ i h.
-      reads-then _ (minute-exact .reads (i .from) (h .from)) (reads-then _ (minute-exact .reads (i .to) (h .to))
-      (reads-then _ (minute-exact .reads (i .first) (h .first))
-      (reads-last _ (minute-exact .reads (i .last) (h .last)))));
-  only = only-then _ (minute-exact .only) (λ i h. only-then _ (minute-exact .only) (λ j k.
-      two-only minute-exact minute-exact _ (λ p q l m. (record { from = h; to = k; first = l; last = m }, refl))));
+      reads-then _ (minutes-exact .reads (i .from) (h .from)) (reads-then _ (minutes-exact .reads (i .to) (h .to))
+      (reads-then _ (minutes-exact .reads (i .first) (h .first))
+      (reads-last _ (minutes-exact .reads (i .last) (break-last h)))));
+  only = only-then _ (minutes-exact .only) (λ i h. only-then _ (minutes-exact .only) (λ j k.
+      two-only minutes-exact minutes-exact _ (λ p q l m. (record { from = h; to = k; first = l; last = m }, refl))));
 }
+
+pub interval-exact : Exact 48 interval IntervalInRange minutes 32
+interval-exact = interval-exactly minute-exact
 
 abbrev pub AnyKind : Kind → Type 0
 AnyKind k = Unit {0}
