@@ -1,10 +1,10 @@
 -- Fields: numbers, sets of labels, intervals, kinds.
 use mathlib.Core.Path.{refl}
+use mathlib.Core.Logic.{_↔_}
 use mathlib.Core.List.{[], _∷_}
 use Prim.Native.Nat.{ℕ, suc, _+_, _^_, _<_}
 use native.Mathlib.Omega.{arith}
 use Rattle.logic.specs.declared.Interval.{Interval}
-use Rattle.logic.specs.Statements.{_↔_}
 use Rattle.logic.specs.Counts.{allOf}
 use Rattle.request.specs.declared.Kind.{Kind}
 use Rattle.request.specs.declared.Kind.the-variants.{Linear, Unrestricted}
