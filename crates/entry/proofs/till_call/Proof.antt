@@ -7,6 +7,7 @@ use Rattle.ledger.specs.declared.Answer.{Answer}
 use Rattle.ledger.specs.Calls.{told}
 use Rattle.call_contracts.specs.Called.{Called}
 use Rattle.entry.specs.Entered.{numbers, Entered}
+use Rattle.entry.proofs.Clauses.{clause}
 use Rattle.entry.proofs.till_call.Statement.{statement}
 use Rattle.entry.proofs.till_call.Tie as tie
 
@@ -17,10 +18,6 @@ entered c q = record {
   ledger = c .ledger;
   same = λ f k z. c .same f k (c .answer ∙ z);
 }
-
--- what one of the clauses asks of the state that a call leaves
-abbrev clause : {A C : Type 0} {B : C → Type 0} → (A → (c : C) → B c) → Type 0
-clause {C = C} {B = B} _ = (c : C) → B c
 
 returns-entered : clause (λ (x : tie.Need-returns) (c : tie.After-tell). x c .0)
 returns-entered c = entered (c .before .before .call .ensures) (c .tell .ensures)
