@@ -49,7 +49,7 @@ module _ {l k o : List ℕ} {t : Turn} {l′ k′ o′ x′ : List ℕ} {t′ : 
       → Turned l k o t l′ k′ o′ x′ t′
   turned {q} h m f received sent room placed =
       let e : t′ .output .put ≡ q .text =
-          ap (λ (u : Output). u .put) (sent .note) ∙ length-take-le (q .text) o′ room in
+      ap (λ (u : Output). u .put) (sent .note) ∙ length-take-le (q .text) o′ room in
       subst (λ (p : Place). Turned l k o t l′ k′ o′ x′ (record { place = p; input = t′ .input; output = t′ .output }))
       (sym placed) (record {
         ready = record { good = m .ready .good; begun = m .ready .begun; filled = m .ready .filled; text = omega arith };
