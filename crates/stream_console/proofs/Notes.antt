@@ -17,8 +17,8 @@ use Rattle.stream_console.specs.declared.Input.{Input}
 use Rattle.stream_console.specs.declared.Output.{Output}
 use Rattle.stream_console.specs.Console.{noted, handed, CameIn, WentOut, Sent}
 
--- A law that says of what a function returns one thing of all that a need asks: `part (λ (x : Need) (y : Law). y)`, where
--- the law takes what is returned from x, an equation of it.
+-- A law that says of what a function returns one thing of all that a need asks: `part (λ (x : Need) (y : Law). y)`,
+-- where the law takes what is returned from x, an equation of it.
 abbrev pub part : {A B : Type 0} → (A → B → B) → Type 0
 part {B = B} _ = B
 

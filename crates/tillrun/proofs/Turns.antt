@@ -30,8 +30,8 @@ few {i} {x} r = rw (ap (λ (i : Input). i .got) (r .note)) (at (r .answer))
     at (pos k) = min-le-right k (length x)
     at (negsuc k) = omega arith
 
--- A law that says of what a function returns one thing of all that a need asks: `part (λ (x : Need) (y : Law). y)`, where
--- the law takes the values from x.
+-- A law that says of what a function returns one thing of all that a need asks: `part (λ (x : Need) (y : Law). y)`,
+-- where the law takes the values from x.
 abbrev pub part : {A B : Type 0} → (A → B → B) → Type 0
 part {B = B} _ = B
 
@@ -52,7 +52,12 @@ module _ {l k o : List ℕ} {t : Turn} {l′ k′ o′ x′ : List ℕ} {t′ : 
       ap (λ (u : Output). u .put) (sent .note) ∙ length-take-le (q .text) o′ room in
       subst (λ (p : Place). Turned l k o t l′ k′ o′ x′ (record { place = p; input = t′ .input; output = t′ .output }))
       (sym placed) (record {
-        ready = record { good = m .ready .good; begun = m .ready .begun; filled = m .ready .filled; text = omega arith };
+        ready = record {
+          good = m .ready .good;
+          begun = m .ready .begun;
+          filled = m .ready .filled;
+          text = omega arith;
+        };
         received = received;
         sent = subst (λ (n : ℕ). Sent (t .output) (take n o′) (t′ .output)) (sym e) sent;
         none = refl;

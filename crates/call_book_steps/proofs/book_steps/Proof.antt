@@ -32,8 +32,8 @@ use Rattle.call_book_laws.proofs.BookingOutcomes.{room-less, Settled, book-spen
 use Rattle.call_book_steps.proofs.book_steps.Statement.{statement}
 use Rattle.call_book_steps.proofs.book_steps.Tie as tie
 
--- A law that says of what a function returns one thing of all that a need asks: `part (λ (x : Need) (y : Law). y)`, where
--- the law takes the values from x.
+-- A law that says of what a function returns one thing of all that a need asks: `part (λ (x : Need) (y : Law). y)`,
+-- where the law takes the values from x.
 abbrev part : {A B : Type 0} → (A → B → B) → Type 0
 part {B = B} _ = B
 

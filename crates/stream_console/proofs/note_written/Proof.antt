@@ -9,7 +9,8 @@ use Rattle.stream_console.proofs.note_written.Statement.{statement}
 use Rattle.stream_console.proofs.note_written.Tie as tie
 
 abbrev Law : (tie.Start → Output → Type 0) → Type 0
-Law P = part (λ (x : tie.Need-returns) (y : (c : tie.After-wrapping-add-u64) → P (c .before .before) (returned (x c))). y)
+Law P =
+    part (λ (x : tie.Need-returns) (y : (c : tie.After-wrapping-add-u64) → P (c .before .before) (returned (x c))). y)
 
 bytes-more : Law (λ s r. r .bytes ≡ (s .args .output .bytes + s .args .n) % 2 ^ 64)
 bytes-more c = search needs
