@@ -4,17 +4,19 @@ use mathlib.Core.List.{[], _∷_, _++_}
 use mathlib.Core.Bool.{true}
 use Prim.Native.Nat.{ℕ}
 use Prim.Native.String.{String}
+use Rattle.logic.specs.declared.Interval.{Interval}
 use Rattle.logic.specs.Counts.{allOf}
-use Rattle.request.specs.Range.{serial}
+use Rattle.request.specs.Range.{serial, label}
 use Rattle.request.specs.Text.{bytes, sameBytes}
 use Rattle.request.specs.Reader.{named, choose}
 use Rattle.request.specs.Request.{Line, Step}
-use Rattle.request.specs.Read.{part, parts, formulaLine, formulaLineWith, labelled, stepLine, holdLine}
+use Rattle.request.specs.Read.{interval, part, parts, formulaLine, formulaLineWith, labelled, stepLine, holdLine}
 use Rattle.request.specs.Write.{digits, minutes, lineFields, stepFields, holdFields}
-use Rattle.request.specs.InRange.{_inRange_, Parts, LineInRange, StepInRange}
+use Rattle.request.specs.InRange.{_inRange_, IntervalInRange, Parts, LineInRange, StepInRange}
 use Rattle.request.proofs.Readers.{Texts, Reads, Only, Exact, done, _also_, fits, only-return, only-then}
 use Rattle.request.proofs.Readers.{only-after, reads-return, reads-then, reads-last, choose-only, word-reads}
 use Rattle.request.proofs.Readers.{one-reads, one-only, two-reads, two-only}
+use Rattle.request.proofs.Fields.{NumberExact}
 use Rattle.request.proofs.Fields.{predicate-exact, principal-exact, label-exact, formula-exact, session-exact}
 use Rattle.request.proofs.Fields.{serial-exact, labelSet-exact, interval-exact, holder-exact, named-holder-exact}
 
@@ -78,6 +80,12 @@ formula-line-exact = record {
 
 -- Step lines: at most 55 bytes
 
+-- `ul` reads as its label and its interval do
+ul-reads : NumberExact label 3 → Exact 48 interval IntervalInRange minutes 32 → (l : ℕ) (j : Interval)
+    → StepInRange (Step.ul l j) → Reads 48 stepLine (Step.ul l j) (stepFields (Step.ul l j)) 55
+unfolding stepLine stepFields labelled bytes sameBytes choose named allOf
+ul-reads labels intervals l j h = two-reads labels intervals Step.ul "ul" l j (h .label) (h .interval) refl (λ us. refl)
+
 step-line-reads : (s : Step) → StepInRange s → Reads 48 stepLine s (stepFields s) 55
 unfolding stepLine stepFields labelled bytes sameBytes choose named allOf
 step-line-reads (Step.ax l) h = one-reads label-exact Step.ax "ax" l h refl (λ us. refl)
@@ -95,8 +103,7 @@ step-line-reads (Step.pl l) h = one-reads label-exact Step.pl "pl" l h refl (λ 
 step-line-reads (Step.ll l s j) h =
     word-reads "ll" refl (λ us. refl) (reads-then _ (label-exact .reads l (h .label))
     (reads-then _ (labelSet-exact .reads s (h .share)) (reads-last _ (interval-exact .reads j (h .interval)))))
-step-line-reads (Step.ul l j) h =
-    two-reads label-exact interval-exact Step.ul "ul" l j (h .label) (h .interval) refl (λ us. refl)
+step-line-reads (Step.ul l j) h = ul-reads label-exact interval-exact l j h
 step-line-reads Step.br h = word-reads "br" refl (λ us. refl) (reads-return 48 Step.br)
 step-line-reads (Step.bl l) h = one-reads label-exact Step.bl "bl" l h refl (λ us. refl)
 step-line-reads Step.hr h = word-reads "hr" refl (λ us. refl) (reads-return 48 Step.hr)

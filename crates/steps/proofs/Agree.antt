@@ -149,6 +149,49 @@ module _ {row : ℕ → Row} {f : ℕ → Formula} (u : Unrolls row f) (names : 
     is-every : {a : Formula} {i : Interval} (l : ℕ) → D ∋ l → names l ≡ forEvery a ⟦ i ⟧ → rowAt l .letter ≡ code "q"
     is-every l m e = letter-of u (label l .formula) (ap (λ (h : Hyp). h .formula) (sym (on-D l m) ∙ e)) .0
 
+    plan-wr : (g : Goal) → Ruled (goalOf u g) Step.wr (planOf row label R D g Step.wr)
+    unfolding planOf
+    plan-wr g = ruled-right g Step.wr "w" _ (λ n i. Rule.wr)
+
+    plan-ll : (g : Goal) (l s : ℕ) (j : Interval)
+        → Ruled (goalOf u g) (Step.ll l s j) (planOf row label R D g (Step.ll l s j))
+    unfolding planOf
+    plan-ll g l s j =
+        ruled-left (goalOf u g) g (Step.ll l s j) l "l" _ (λ m e. ruled-when (goalOf u g) (Step.ll l s j) _ _
+        (and-decides (contains-decides (label l .interval) j) (itself _)) (λ t. Rule.ll m e (t .0) (t .1)))
+
+    plan-ul : (g : Goal) (l : ℕ) (j : Interval)
+        → Ruled (goalOf u g) (Step.ul l j) (planOf row label R D g (Step.ul l j))
+    unfolding planOf
+    plan-ul g l j =
+        ruled-left (goalOf u g) g (Step.ul l j) l "u" _ (λ m e. ruled-when (goalOf u g) (Step.ul l j) _ _
+        (contains-decides (label l .interval) j) (λ c. Rule.ul m e c))
+
+    plan-sl : (g : Goal) (l : ℕ) → Ruled (goalOf u g) (Step.sl l) (planOf row label R D g (Step.sl l))
+    unfolding planOf
+    plan-sl g l =
+        ruled-affirmed g (Step.sl l) _ (λ p n j q. ruled-left (affirms p (f n) j) g (Step.sl l) l "s" _ (λ m e.
+        ruled-when (affirms p (f n) j) (Step.sl l) _ _
+        (and-decides (eq-decides (rowAt l .a) p) (contains-decides (label l .interval) j)) (λ t.
+        subst (λ (y : Judgment). Rule names R D (Step.sl l) (affirms p (f n) j)
+        (premise (from (remove D l) y (f (rowAt l .b) ⟦ label l .interval ⟧ ∷ [])))) (sym (ap (goalOf u) q))
+        (Rule.sl m (e ∙ ap (λ (k : ℕ). says k (f (rowAt l .b)) ⟦ label l .interval ⟧) (t .0)) (t .1)))))
+
+    plan-gr : (g : Goal) → Ruled (goalOf u g) Step.gr (planOf row label R D g Step.gr)
+    unfolding planOf
+    plan-gr g = ruled-right g Step.gr "g" _ (λ n i. ruled-when _ Step.gr _ Closed
+        (and-decides (eq-decides D 0) (contains-decides (row n .first) (row n .second)))
+        (λ t. Rule.gr (t .0) (t .1)))
+
+    plan-al : (g : Goal) (l h : ℕ) → Ruled (goalOf u g) (Step.al l h) (planOf row label R D g (Step.al l h))
+    unfolding planOf
+    plan-al g l h = ruled-left (goalOf u g) g (Step.al l h) l "q" _ (λ m e.
+        ruled-when (goalOf u g) (Step.al l h) _ _ (holder-decides h) (λ n.
+        subst (λ (a : Formula). Rule names R D (Step.al l h) (goalOf u g)
+        (premise (from (remove D l) (goalOf u g) (a ⟦ label l .interval ⟧ ∷ []))))
+        (sym (u .opened (label l .formula) h (is-every l m e))) (Rule.al m e n)))
+
+    -- every rule
     pub plan-rule : (g : Goal) (s : Step) → Ruled (goalOf u g) s (planOf row label R D g s)
     unfolding planOf
     plan-rule g (Step.ax l) =
@@ -166,18 +209,14 @@ module _ {row : ℕ → Row} {f : ℕ → Formula} (u : Unrolls row f) (names : 
     plan-rule g Step.or =
         ruled-right g Step.or "o" _ (λ n i. ruled-when _ Step.or _ Closed (eq-decides D 0) (λ z. Rule.or z))
     plan-rule g (Step.ol l) = ruled-left (goalOf u g) g (Step.ol l) l "o" _ (λ m e. Rule.ol m e)
-    plan-rule g Step.wr = ruled-right g Step.wr "w" _ (λ n i. Rule.wr)
+    plan-rule g Step.wr = plan-wr g
     plan-rule g (Step.w1 l) = ruled-left (goalOf u g) g (Step.w1 l) l "w" _ (λ m e. Rule.w1 m e)
     plan-rule g (Step.w2 l) = ruled-left (goalOf u g) g (Step.w2 l) l "w" _ (λ m e. Rule.w2 m e)
     plan-rule g Step.p1 = ruled-right g Step.p1 "p" _ (λ n i. Rule.p1)
     plan-rule g Step.p2 = ruled-right g Step.p2 "p" _ (λ n i. Rule.p2)
     plan-rule g (Step.pl l) = ruled-left (goalOf u g) g (Step.pl l) l "p" _ (λ m e. Rule.pl m e)
-    plan-rule g (Step.ll l s j) =
-        ruled-left (goalOf u g) g (Step.ll l s j) l "l" _ (λ m e. ruled-when (goalOf u g) (Step.ll l s j) _ _
-        (and-decides (contains-decides (label l .interval) j) (itself _)) (λ t. Rule.ll m e (t .0) (t .1)))
-    plan-rule g (Step.ul l j) =
-        ruled-left (goalOf u g) g (Step.ul l j) l "u" _ (λ m e. ruled-when (goalOf u g) (Step.ul l j) _ _
-        (contains-decides (label l .interval) j) (λ c. Rule.ul m e c))
+    plan-rule g (Step.ll l s j) = plan-ll g l s j
+    plan-rule g (Step.ul l j) = plan-ul g l j
     plan-rule g Step.br =
         ruled-right g Step.br "b" _ (λ n i. ruled-when _ Step.br _ _ (eq-decides D 0) (λ z. Rule.br z))
     plan-rule g (Step.bl l) = ruled-left (goalOf u g) g (Step.bl l) l "b" _ (λ m e. Rule.bl m e)
@@ -185,21 +224,9 @@ module _ {row : ℕ → Row} {f : ℕ → Formula} (u : Unrolls row f) (names : 
     plan-rule g (Step.hl l) = ruled-left (goalOf u g) g (Step.hl l) l "h" _ (λ m e. Rule.hl m e)
     plan-rule g Step.sr = ruled-right g Step.sr "s" _ (λ n i. Rule.sr)
     plan-rule g Step.af = ruled-affirmed g Step.af _ (λ p n i e. Rule.af)
-    plan-rule g (Step.sl l) =
-        ruled-affirmed g (Step.sl l) _ (λ p n j q. ruled-left (affirms p (f n) j) g (Step.sl l) l "s" _ (λ m e.
-        ruled-when (affirms p (f n) j) (Step.sl l) _ _
-        (and-decides (eq-decides (rowAt l .a) p) (contains-decides (label l .interval) j)) (λ t.
-        subst (λ (y : Judgment). Rule names R D (Step.sl l) (affirms p (f n) j)
-        (premise (from (remove D l) y (f (rowAt l .b) ⟦ label l .interval ⟧ ∷ [])))) (sym (ap (goalOf u) q))
-        (Rule.sl m (e ∙ ap (λ (k : ℕ). says k (f (rowAt l .b)) ⟦ label l .interval ⟧) (t .0)) (t .1)))))
-    plan-rule g Step.gr = ruled-right g Step.gr "g" _ (λ n i. ruled-when _ Step.gr _ Closed
-        (and-decides (eq-decides D 0) (contains-decides (row n .first) (row n .second)))
-        (λ t. Rule.gr (t .0) (t .1)))
-    plan-rule g (Step.al l h) = ruled-left (goalOf u g) g (Step.al l h) l "q" _ (λ m e.
-        ruled-when (goalOf u g) (Step.al l h) _ _ (holder-decides h) (λ n.
-        subst (λ (a : Formula). Rule names R D (Step.al l h) (goalOf u g)
-        (premise (from (remove D l) (goalOf u g) (a ⟦ label l .interval ⟧ ∷ []))))
-        (sym (u .opened (label l .formula) h (is-every l m e))) (Rule.al m e n)))
+    plan-rule g (Step.sl l) = plan-sl g l
+    plan-rule g Step.gr = plan-gr g
+    plan-rule g (Step.al l h) = plan-al g l h
 
     -- From the rule to the plan
 
