@@ -17,8 +17,8 @@ pub record Formable (l : List ℕ) (r : Row) : Type 0 where
   pub canonical : Canonical r
   pub there : There (ledgerOf l) (names (lineOf r))
 
--- holders, in the parts that the row names and in its formula: u whether there is an unbound one, q whether a `q` stands
--- there
+-- holders, in the parts that the row names and in its formula: u whether there is an unbound one, q whether a `q`
+-- stands there
 pub record PartsHoldersOf (l : List ℕ) (r : Row) (u q : Bool) : Type 0 where
   pub unbound : u ≡ anyOf (λ k. unbound (formula (ledgerOf l) k)) (names (lineOf r))
   pub quantified : q ≡ anyOf (λ k. quantified (formula (ledgerOf l) k)) (names (lineOf r))

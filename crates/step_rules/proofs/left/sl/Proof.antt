@@ -14,7 +14,8 @@ returns-2 : tie.Need-returns-2
 unfolding when
 returns-2 c =
     let b = c .before .before .before in
-    rw (eq-eqb _ _ (b .before .if1 .left)) (c .linear .ensures ∙ simp (c .before .contains .ensures, b .part-of .ensures))
+    rw (eq-eqb _ _ (b .before .if1 .left))
+    (c .linear .ensures ∙ simp (c .before .contains .ensures, b .part-of .ensures))
 
 pub sl-spec : {M : Type 1} → statement M
 sl-spec =

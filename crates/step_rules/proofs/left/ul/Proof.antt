@@ -14,9 +14,11 @@ returns-2 : tie.Need-returns-2
 unfolding when
 returns-2 c =
     let b = c .before .before in
-    rw (eq-eqb _ _ (b .before .before .if1 .left)) (c .applied .ensures ∙ simp (c .before .contains .ensures, b .part-of2 .ensures, b .before .part-of .ensures))
+    rw (eq-eqb _ _ (b .before .before .if1 .left))
+    (c .applied .ensures ∙ simp (c .before .contains .ensures, b .part-of2 .ensures, b .before .part-of .ensures))
 
 pub ul-spec : {M : Type 1} → statement M
 ul-spec =
     tie.close
-    (tie.spec returns (λ c κs. search needs) (λ c κs. search needs) (λ c κs. search needs) (λ c κs. search needs) returns-2)
+    (tie.spec returns (λ c κs. search needs) (λ c κs. search needs) (λ c κs. search needs) (λ c κs. search needs)
+    returns-2)

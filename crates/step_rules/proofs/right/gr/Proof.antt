@@ -13,7 +13,8 @@ returns c = rw (ne-eqb _ _ (c .if1 .taken))
 returns-2 : tie.Need-returns-2
 unfolding when
 returns-2 c =
-    rw (eq-eqb _ _ (c .before .before .before .before .before .if1 .left)) (c .when .ensures ∙ simp (c .before .contains .ensures, c .before .before .is-empty .ensures))
+    rw (eq-eqb _ _ (c .before .before .before .before .before .if1 .left))
+    (c .when .ensures ∙ simp (c .before .contains .ensures, c .before .before .is-empty .ensures))
 
 pub gr-spec : {M : Type 1} → statement M
 gr-spec =
