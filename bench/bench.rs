@@ -63,8 +63,8 @@ trait Side {
 }
 
 struct Proved {
-    block: [u32; 10996],
-    spare: [u32; 10996],
+    block: [u32; 11596],
+    spare: [u32; 11596],
     scratch: [u32; 2048],
     buffer: [u8; BUFFER],
 }
@@ -255,7 +255,7 @@ impl Together {
 
 fn main() {
     let mut proved =
-        Box::new(Proved { block: [0; 10996], spare: [0; 10996], scratch: [0; 2048], buffer: [0; BUFFER] });
+        Box::new(Proved { block: [0; 11596], spare: [0; 11596], scratch: [0; 2048], buffer: [0; BUFFER] });
     let mut reference = Box::new(Reference { till: Till::new(), buffer: [0; BUFFER] });
     let words: Vec<String> = std::env::args().skip(1).collect();
     if words[0] == "--once" {

@@ -130,6 +130,7 @@ def refused():
     sizes = words(["a,1,7", "t,0,0", "t,1,1", "t,2,2", "t,3,3", "t,4,4"])
     all_words = words([f"a,{1 + n % 3},{n // 3}" for n in range(200)])
     atom, issue = words(["a,1,7"]), "issue,s,0,0,9,0,0"
+    holders = words(M1 + ["n,2,7,0", "q,8"]) + begin[-3:]
     return {
         1: (begin, ["x" * 16384]),  # with its line end 16,385 bytes
         2: (begin, ["word,a,01,7", book(head, [1, 2, 3], good[:-1] + ["ax,64"]), "issue,s,99,0", "", "tally,1,1,1"]),
@@ -149,6 +150,7 @@ def refused():
         41: (begin, [book(head, [1, 2, 3], ["cp,0"] * 70)]),
         42: (begin, [book(head, [1, 2, 3], good[:-1]), book(head, [1, 2, 3], good + ["or"])]),
         43: (begin, ["issue,s,3,0,9,5,9", book(head, [1, 2, 3], ["ul,3,0,9,0,5"] + good)]),
+        53: (holders, ["word,q,9", "issue,s,8,0,9,0,0", book("540,8,540,600,0,0", [1, 2, 3], good)]),
     }
 
 

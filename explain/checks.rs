@@ -83,9 +83,10 @@ fn word(desk: &Desk, head: &Read, formula: Formula) -> Result<(), Refused> {
     wordings::has_room(&desk.till.formulas, head, formula)
 }
 
-/// Refusals 10, 12 and 13 of a wording's line.
+/// Refusals 10, 53, 12 and 13 of a wording's line.
 pub fn may_enter(formulas: &Formulas, line: &Read, formula: Formula, hint: Option<String>) -> Result<(), Refused> {
     wordings::there(formulas, line, hint)?;
+    wordings::not_nested(formulas, line, formula)?;
     wordings::fits(formulas, line, formula)?;
     wordings::is_new(formulas, line, formula)
 }
@@ -95,10 +96,11 @@ fn issue(desk: &Desk, head: &Read, linear: bool) -> Result<(), Refused> {
     coupons::has_room(&desk.till, head, 0)
 }
 
-/// Refusals 10, 20 and 21 of a coupon's line.
+/// Refusals 10, 53, 20 and 21 of a coupon's line, and of the goal in a booking's head.
 pub fn may_stand(formulas: &Formulas, line: &Read, linear: bool, hint: Option<String>) -> Result<(), Refused> {
     wordings::there(formulas, line, hint)?;
     let id = line.value("wording").unwrap_or(0);
+    wordings::is_bound(formulas, line, id)?;
     match linear {
         true => wordings::is_plain(formulas, line, id),
         false => wordings::is_balanced(formulas, line, id),

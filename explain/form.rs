@@ -106,7 +106,7 @@ fn split(bytes: &[u8], start: usize) -> Vec<Range<usize>> {
 }
 
 /// No byte but small letters, digits and commas.
-fn right_bytes<'a>(line: Line<'a>, start: usize, form: Option<&Form>) -> Result<(), Fault<'a>> {
+fn right_bytes<'a>(line: Line<'a>, start: usize, form: Option<&'static Form>) -> Result<(), Fault<'a>> {
     let fine = |byte: &u8| byte.is_ascii_lowercase() || byte.is_ascii_digit() || *byte == b',';
     let Some(at) = line.bytes[start..].iter().position(|byte| !fine(byte)).map(|at| start + at) else {
         return Ok(());
@@ -115,14 +115,15 @@ fn right_bytes<'a>(line: Line<'a>, start: usize, form: Option<&Form>) -> Result<
     let (before, place) = (commas(&line.bytes[..start]), commas(&line.bytes[start..at]));
     // a carriage return at the end of the line is of no field
     let ends = line.bytes[at] == b'\r' && at + 1 == line.bytes.len();
-    let field = form.filter(|_| !ends).and_then(|form| form.names().nth(place.wrapping_sub(form.before())));
+    let named = |form: &'static Form| Some((form, form.names().nth(place.wrapping_sub(form.before()))?));
+    let field = form.filter(|_| !ends).and_then(named);
     let may = match field {
-        Some(field) => allowed(field).words(),
+        Some((form, field)) => allowed(form, field).words(),
         None => "small letters, digits and commas; each line ends with byte 10 alone".to_string(),
     };
     let (found, length) = name(&line.bytes[at..]);
     let mut spot = Spot::new(line, at, at + length);
-    spot.field = field.map(|field| format!("field {}, {}", before + place + 1, called(field)));
+    spot.field = field.map(|(_, field)| format!("field {}, {}", before + place + 1, called(field)));
     let fault = Fault::new(spot, "a byte that does not belong here");
     Err(fault.found(found).allowed(may).may_do(cure(line, at)))
 }
@@ -211,7 +212,7 @@ fn window_fields(read: &Read, found: usize, due: usize) -> Option<String> {
 
 fn right_field<'a>(read: &Read<'a>, at: usize, name: &str) -> Result<(), Fault<'a>> {
     let bytes = &read.line.bytes[read.fields[at].clone()];
-    let allowed = allowed(name);
+    let allowed = allowed(read.form, name);
     let fault = match &allowed {
         Allowed::Number { low, high, .. } => number_fault(bytes, *low, *high),
         Allowed::Share => share_fault(bytes),

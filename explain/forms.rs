@@ -2,7 +2,7 @@
 
 use crate::text::grouped;
 use crate::till::credentials::MAX_LIVE;
-use crate::till::form::{MAX_BYTE_FIELD, MAX_FORMULA, MAX_LABEL, MAX_MINUTE, MAX_SERIAL, MAX_SESSION};
+use crate::till::form::{MAX_BYTE_FIELD, MAX_FORMULA, MAX_HOLDER, MAX_LABEL, MAX_MINUTE, MAX_SERIAL, MAX_SESSION};
 use crate::till::form::{MAX_HOLDS, MAX_STEPS};
 use crate::till::formulas::MAX_FORMULAS;
 use crate::till::saved::MAX_NEXT;
@@ -25,7 +25,7 @@ pub static SHEETS: [Form; 5] = [
     form("tally", "session,minute"),
 ];
 
-pub static WORDINGS: [Form; 11] = [
+pub static WORDINGS: [Form; 13] = [
     form("a", "predicate,session"),
     form("o", ""),
     form("t", "i,j"),
@@ -37,11 +37,13 @@ pub static WORDINGS: [Form; 11] = [
     form("h", "i,from,to,first,last"),
     form("s", "principal,i"),
     form("g", "from,to,first,last,from,to,first,last"),
+    form("n", "predicate,session,holder"),
+    form("q", "i"),
 ];
 
 pub static HOLD: [Form; 1] = [form("hold", "serial")];
 
-pub static STEPS: [Form; 22] = [
+pub static STEPS: [Form; 23] = [
     form("ax", "L"),
     form("cp", "L"),
     form("tr", "share"),
@@ -64,6 +66,7 @@ pub static STEPS: [Form; 22] = [
     form("af", ""),
     form("sl", "L"),
     form("gr", ""),
+    form("al", "L,holder"),
 ];
 
 /// The first line of a till's text.
@@ -114,13 +117,15 @@ pub enum Allowed {
     Just(&'static str),
 }
 
-/// What the field of that name allows.
-pub fn allowed(name: &str) -> Allowed {
+/// What the field of that name allows in a line of that form.
+pub fn allowed(form: &Form, name: &str) -> Allowed {
     let number = |low, high, what| Allowed::Number { low, high, what };
     match name {
         "predicate" => number(0, MAX_BYTE_FIELD, "a predicate (1 is a seat, 2 a place, others are free)"),
         "principal" => number(0, MAX_BYTE_FIELD, "a principal (1 is the house)"),
         "session" => number(0, MAX_SESSION, "a session"),
+        "holder" if form.word == "al" => number(1, MAX_HOLDER, "the holder to be put in"),
+        "holder" => number(0, MAX_HOLDER, "a holder (0 is the one that `q` binds)"),
         "wording" | "i" | "j" => number(0, MAX_FORMULA, "the number of a wording"),
         "serial" => number(1, MAX_SERIAL, "a coupon's serial"),
         "L" => number(0, MAX_LABEL, "a label"),

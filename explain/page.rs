@@ -66,7 +66,7 @@ fn branch(body: &mut String, derivation: &Derivation, first: &Node) {
 }
 
 fn step(derivation: &Derivation, node: &Node) -> String {
-    let (line, does) = (escaped(&node.line), escaped(node.does));
+    let (line, does) = (escaped(&node.line), escaped(&node.does));
     let number = node.number;
     let mut text = format!("<div class=\"step\" id=\"step-{number}\"><b>{number}</b> <code>{line}</code> ");
     text += &format!("<span class=\"soft\">{does}</span>");

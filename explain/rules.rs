@@ -1,7 +1,7 @@
 //! The rules of the steps: what each does, what it asks in the paper's words, and its conditions one by one.
 
-use crate::till::logic::{Formula, FormulaId, Interval, Label, Step};
-use crate::till::steps::{just, Goal, Labels, Sequent};
+use crate::till::logic::{Formula, Interval, Label, Step};
+use crate::till::steps::{just, Goal, Instance, Labels, Sequent};
 use crate::walk::Walk;
 use crate::windows::misses;
 use crate::words::*;
@@ -18,7 +18,7 @@ const fn rule(word: &'static str, does: &'static str, asks: &'static str) -> Rul
     Rule { word, does, asks }
 }
 
-pub static RULES: [Rule; 22] = [
+pub static RULES: [Rule; 23] = [
     rule("ax", "meets the goal by a label", "D holds just L, an atom equal to the goal; L's window ⊇ goal's. Closes."),
     rule("cp", "copies a standing label", "L in R; a new single label of the same wording and window."),
     rule("tr", "proves both parts of ⊗", "⊗; left from the share, right from the rest of D. The share lies within D."),
@@ -50,7 +50,16 @@ pub static RULES: [Rule; 22] = [
     rule("af", "affirms what holds", "K affirms A becomes A."),
     rule("sl", "opens ⟨K⟩ A", "L, in D, is ⟨K⟩A and the goal K affirms B, same K; L's window ⊇ goal's."),
     rule("gr", "proves ⊇", "⊇ that holds, D empty; closes."),
+    rule("al", "uses a ∀ for one holder", "L, in D, is a ∀; its part, with the holder put in for holder 0, replaces it."),
 ];
+
+/// What a step does, in short; of `al` with its holder.
+pub fn does(rule: &Rule, step: Step) -> String {
+    match step {
+        Step::ForallL(_, holder) => format!("uses a ∀ for holder {holder}"),
+        _ => rule.does.to_string(),
+    }
+}
 
 /// The rule of a step word.
 pub fn rule_of(word: &str) -> &'static Rule {
@@ -97,6 +106,7 @@ impl<'w, 'a> Asking<'w, 'a> {
             Step::BangL(label) => self.label_is(label, &BANG).map(drop),
             Step::AtL(label) => self.label_is(label, &AT).map(drop),
             Step::SaysL(label) => self.says(label),
+            Step::ForallL(label, _) => self.label_is(label, &FORALL).map(drop),
             Step::ImpliesL(label, on) => self.label_is(label, &IMPLIES).and_then(|_| self.reaches(label, on)),
             Step::LolliL(label, share, on) => {
                 self.label_is(label, &LOLLI)?;
@@ -112,12 +122,16 @@ impl<'w, 'a> Asking<'w, 'a> {
         holds.then_some(())
     }
 
-    fn spell(&self, id: FormulaId) -> String {
-        spell(self.walk.formulas, id)
+    fn spell(&self, instance: Instance) -> String {
+        spell_instance(self.walk.formulas, instance)
+    }
+
+    fn line(&self, instance: Instance) -> Formula {
+        line_of(self.walk.formulas, instance)
     }
 
     /// The goal, without affirms.
-    fn bare_goal(&mut self) -> Option<FormulaId> {
+    fn bare_goal(&mut self) -> Option<Instance> {
         let told = goal(self.walk.formulas, self.sequent.goal);
         let Goal::True(formula) = self.sequent.goal else {
             let cure = "Put `af` before this step: it leaves what is affirmed.".to_string();
@@ -129,8 +143,8 @@ impl<'w, 'a> Asking<'w, 'a> {
     }
 
     fn goal_is(&mut self, kind: &'static Kind) -> Option<Formula> {
-        let id = self.bare_goal()?;
-        let (line, told) = (self.walk.formulas.line(id), self.spell(id));
+        let goal = self.bare_goal()?;
+        let (line, told) = (self.line(goal), self.spell(goal));
         let found = kind_of(line);
         self.ask(found.name == kind.name, format!("the goal is {}: {told}", kind.name), || {
             let cure = format!("A goal that is {} is proved by {}.", found.name, found.right);
@@ -150,8 +164,9 @@ impl<'w, 'a> Asking<'w, 'a> {
         let Goal::True(goal) = self.sequent.goal else { return None };
         let held = self.walk.hypothesis(label);
         let (own, due) = (self.spell(held.formula), self.spell(goal));
-        self.ask(held.formula == goal, format!("label {label} is the goal: {own}"), || {
-            (format!("label {label} is not the goal: it is {own}, the goal is {due}"), None)
+        let (its, goals) = (self.line(held.formula), self.line(goal));
+        self.ask(its == goals, format!("label {label} is the goal: {own}"), || {
+            (format!("label {label} is not the goal: it is {own}, the goal is {due}"), unlike_holders(its, goals))
         })?;
         self.contains_goal(label)
     }
@@ -201,8 +216,8 @@ impl<'w, 'a> Asking<'w, 'a> {
 
     fn label_is(&mut self, label: Label, kind: &'static Kind) -> Option<Formula> {
         self.in_linear(label)?;
-        let id = self.walk.hypothesis(label).formula;
-        let (line, told) = (self.walk.formulas.line(id), self.spell(id));
+        let held = self.walk.hypothesis(label).formula;
+        let (line, told) = (self.line(held), self.spell(held));
         let found = kind_of(line);
         self.ask(found.name == kind.name, format!("label {label} is {}: {told}", kind.name), || {
             let cure = format!("A label that is {} is used by {}.", found.name, found.left);
@@ -268,6 +283,24 @@ impl<'w, 'a> Asking<'w, 'a> {
             (format!("not the same principal: {own} says label {label}, {due} is to affirm the goal"), Some(cure))
         })?;
         self.contains_goal(label)
+    }
+}
+
+/// What to do where two atoms differ in their holders alone.
+fn unlike_holders(own: Formula, due: Formula) -> Option<String> {
+    let of = |line| match line {
+        Formula::Named { predicate, session, holder } => Some((predicate, session, Some(holder))),
+        Formula::Atom { predicate, session } => Some((predicate, session, None)),
+        _ => None,
+    };
+    match (of(own)?, of(due)?) {
+        ((p, s, Some(own)), (q, t, Some(due))) if (p, s) == (q, t) => {
+            Some(format!("`al` puts in the holder: name {due} there, or book for holder {own}."))
+        }
+        ((p, s, _), (q, t, _)) if (p, s) == (q, t) => {
+            Some("An atom with a holder (`n`) is never equal to one without (`a`).".to_string())
+        }
+        _ => None,
     }
 }
 

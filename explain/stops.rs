@@ -1,7 +1,7 @@
 //! Refusals 40 to 42 in words.
 
 use crate::refused::Refused;
-use crate::rules::{rule_of, Condition};
+use crate::rules::{does, rule_of, Condition};
 use crate::spot::{shown, Spot};
 use crate::text::{counted, Text};
 use crate::till::refusal;
@@ -15,7 +15,8 @@ impl Walk<'_> {
         let line = &self.lines[self.read - 1];
         let rule = rule_of(line.form.word);
         let mut text = Text::default();
-        self.show_step(&mut text, self.read, &format!("({}) breaks its rule", rule.does));
+        let doing = does(rule, self.steps[self.read - 1]);
+        self.show_step(&mut text, self.read, &format!("({doing}) breaks its rule"));
         text.blank();
         self.judged(&mut text, "The judged line before it:", (sequent, Entering::Nothing));
         text.blank();

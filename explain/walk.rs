@@ -3,13 +3,13 @@
 use crate::coupons::find;
 use crate::form::Read;
 use crate::refused::Refused;
-use crate::rules::{rule_of, Asking};
+use crate::rules::{does, rule_of, Asking};
 use crate::till::form::Booking;
 use crate::till::formulas::Formulas;
 use crate::till::logic::{Label, Step};
-use crate::till::steps::{just, Checker, Goal, Hypothesis, Labels, Outcome, Premise, Sequent, MAX_LABELS};
+use crate::till::steps::{just, Checker, Goal, Hypothesis, Instance, Labels, Outcome, Premise, Sequent, MAX_LABELS};
 use crate::till::Till;
-use crate::words::{at, coupon, each, goal, spell, use_of, window, wording};
+use crate::words::{at, coupon, each, goal, spell_instance, use_of, window, wording};
 
 /// A label of a booking, in words.
 pub struct Taken {
@@ -25,7 +25,7 @@ pub struct Node {
     pub number: usize,
     /// `sl,1`
     pub line: String,
-    pub does: &'static str,
+    pub does: String,
     pub standing: Labels,
     pub single: Labels,
     pub goal: String,
@@ -96,7 +96,7 @@ impl<'a> Walk<'a> {
         }
         let Booking { now, formula, interval, .. } = booking;
         Ok(Derivation {
-            goal: at(self.formulas, formula, interval),
+            goal: at(self.formulas, Instance::of(formula), interval),
             now,
             gives: format!("{}, {}, in {}", use_of(true), wording(self.formulas, formula), window(interval)),
             holds,
@@ -108,11 +108,11 @@ impl<'a> Walk<'a> {
 
     /// The first judged line: the holds take labels 0, 1, .. in order.
     fn hold(&mut self, booking: Booking, serials: &[u32]) -> (Sequent, Vec<Held>) {
-        let goal = Goal::True(booking.formula);
+        let goal = Goal::True(Instance::of(booking.formula));
         let mut sequent = Sequent { unrestricted: 0, linear: 0, goal, interval: booking.interval };
         let mut holds = Vec::new();
         for held in serials.iter().filter_map(|&serial| find(self.till, serial)) {
-            let hypothesis = Hypothesis { formula: held.formula, interval: held.interval };
+            let hypothesis = Hypothesis { formula: Instance::of(held.formula), interval: held.interval };
             let label = self.checker.take(hypothesis).unwrap_or(0);
             *(if held.linear { &mut sequent.linear } else { &mut sequent.unrestricted }) |= label;
             self.whence.push(format!("hold {}, serial {}", holds.len() + 1, held.serial));
@@ -146,7 +146,7 @@ impl<'a> Walk<'a> {
         Ok(Node {
             number,
             line: String::from_utf8_lossy(line.bytes()).into_owned(),
-            does: rule_of(line.form.word).does,
+            does: does(rule_of(line.form.word), step),
             standing: sequent.unrestricted,
             single: sequent.linear,
             goal: format!("{} at {}", goal(self.formulas, sequent.goal), window(sequent.interval)),
@@ -196,7 +196,7 @@ impl<'a> Walk<'a> {
     pub fn named(&self, labels: Labels) -> String {
         let all: Vec<String> = each(labels)
             .map(|label| match label < self.checker.taken {
-                true => format!("{label} ({})", spell(self.formulas, self.checker.hypotheses[label].formula)),
+                true => format!("{label} ({})", spell_instance(self.formulas, self.checker.hypotheses[label].formula)),
                 false => format!("{label} (not taken yet)"),
             })
             .collect();

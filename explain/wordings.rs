@@ -1,4 +1,4 @@
-//! Checks of wordings: refusals 10, 12, 13, 14, 20 and 21. The line is one that names or enters a wording.
+//! Checks of wordings: refusals 10, 53, 12, 13, 14, 20 and 21. The line is one that names or enters a wording.
 
 use crate::form::Read;
 use crate::refused::{Fault, Refused};
@@ -8,7 +8,7 @@ use crate::till::content::Content;
 use crate::till::formulas::{Formulas, MAX_FORMULAS, MAX_SIZE};
 use crate::till::logic::{Formula, FormulaId};
 use crate::till::refusal;
-use crate::words::{kind_of, spell, spell_line, wording};
+use crate::words::{kind_of, spell, spell_line, wording, ATOM};
 
 /// Refusal 10: every wording that the line names is there. `hint` may say why numbers are other than planned.
 pub fn there(formulas: &Formulas, line: &Read, hint: Option<String>) -> Result<(), Refused> {
@@ -31,6 +31,59 @@ fn not_there<'a>(formulas: &Formulas, spot: Spot<'a>, id: FormulaId, hint: Optio
         .found(format!("wording {id}; {there}"))
         .allowed("the number that an accepted `word` before this line was answered; they begin with 0")
         .may_do(hint)
+}
+
+/// Refusal 53 of a word: no `q` stands within the `q` that it enters.
+pub fn not_nested(formulas: &Formulas, line: &Read, formula: Formula) -> Result<(), Refused> {
+    let Formula::Forall(part) = formula else { return Ok(()) };
+    let Some(inner) = find_part(formulas, part, |line| matches!(line, Formula::Forall(_))) else {
+        return Ok(());
+    };
+    let found = match inner == part {
+        true => format!("{}, which is a `q` itself", wording(formulas, part)),
+        false => format!("{}; in it stands a `q`, {}", wording(formulas, part), wording(formulas, inner)),
+    };
+    let fault = Fault::new(line.spot_of("i"), "a `q` would stand within this `q`")
+        .found(found)
+        .allowed("a part in which no `q` stands, at whatever depth; side by side there may be several")
+        .to_do("Word the part without its `q`, and put one `q` around the whole.");
+    Err(fault.refused(refusal::HOLDER))
+}
+
+/// Refusal 53 of an issue or a booking: holder 0 stands nowhere outside `q`.
+pub fn is_bound(formulas: &Formulas, line: &Read, id: FormulaId) -> Result<(), Refused> {
+    let Some(part) = loose_part(formulas, id) else {
+        return Ok(());
+    };
+    let found = match part == id {
+        true => format!("{}, in no `q`", wording(formulas, id)),
+        false => format!("{}; in it, in no `q`, {}", wording(formulas, id), wording(formulas, part)),
+    };
+    let cure = match line.form.word {
+        "book" => "Book for one holder: word it with the holder's number in the place of 0.".to_string(),
+        _ => format!("Word `q,{id}` and issue that, as standing; or word it with a holder's number in the place of 0."),
+    };
+    let fault = Fault::new(line.spot_of("wording"), format!("wording {id} has holder 0 outside `q`"))
+        .found(found)
+        .allowed("holder 0 inside `q` alone, where it stands for the holder put in; elsewhere a holder, 1 to 65,535")
+        .to_do(cure);
+    Err(fault.refused(refusal::HOLDER))
+}
+
+/// The first atom with holder 0 that stands outside `q`.
+fn loose_part(formulas: &Formulas, id: FormulaId) -> Option<FormulaId> {
+    match formulas.line(id) {
+        Formula::Named { holder: 0, .. } => Some(id),
+        Formula::Forall(_) => None,
+        line => line.parts().into_iter().flatten().find_map(|part| loose_part(formulas, part)),
+    }
+}
+
+/// The first part, itself included, whose line is as asked.
+fn find_part(formulas: &Formulas, id: FormulaId, test: fn(Formula) -> bool) -> Option<FormulaId> {
+    let line = formulas.line(id);
+    let within = || line.parts().into_iter().flatten().find_map(|part| find_part(formulas, part, test));
+    if test(line) { Some(id) } else { within() }
 }
 
 /// Refusal 12: the size is at most 64.
@@ -81,7 +134,7 @@ pub fn has_room(formulas: &Formulas, line: &Read, formula: Formula) -> Result<()
 
 /// Refusal 20: made of atoms, ⊗ and ⟨K⟩ alone.
 pub fn is_plain(formulas: &Formulas, line: &Read, id: FormulaId) -> Result<(), Refused> {
-    let Some(part) = other_part(formulas, id) else {
+    let Some(part) = find_part(formulas, id, |line| !is_plain_line(line)) else {
         return Ok(());
     };
     let kind = kind_of(formulas.line(part));
@@ -99,20 +152,14 @@ pub fn is_plain(formulas: &Formulas, line: &Read, id: FormulaId) -> Result<(), R
     };
     let fault = Fault::new(line.spot_of("wording"), format!("wording {id} is not plain"))
         .found(found)
-        .allowed(format!("{use_of} is plain: only atoms (`a`), ⊗ (`t`) and ⟨K⟩ (`s`)"))
+        .allowed(format!("{use_of} is plain: only atoms (`a`, `n`), ⊗ (`t`) and ⟨K⟩ (`s`)"))
         .to_do(cure);
     Err(fault.refused(refusal::NOT_PLAIN))
 }
 
-/// The first part that is neither an atom nor ⊗ nor ⟨K⟩.
-fn other_part(formulas: &Formulas, id: FormulaId) -> Option<FormulaId> {
-    let line = formulas.line(id);
-    match line {
-        Formula::Atom { .. } | Formula::Tensor(..) | Formula::Says(..) => {
-            line.parts().into_iter().flatten().find_map(|part| other_part(formulas, part))
-        }
-        _ => Some(id),
-    }
+/// An atom, a ⊗ or a ⟨K⟩.
+fn is_plain_line(line: Formula) -> bool {
+    kind_of(line).name == ATOM.name || matches!(line, Formula::Tensor(..) | Formula::Says(..))
 }
 
 /// Refusal 21: no seat or place is made or lost, however often the coupon is used.
@@ -153,7 +200,9 @@ fn weighed(formulas: &Formulas, id: FormulaId, session: u16) -> String {
         Formula::Lolli(i, j) => format!("{} on the right of ⊸, less {} on the left", of(j), of(i)),
         Formula::With(i, _) | Formula::Plus(i, _) => format!("{} in the left arm", of(i)),
         Formula::Implies(_, j) => format!("{} on the right of ⊃", of(j)),
-        Formula::Bang(i) | Formula::At(i, _) | Formula::Says(_, i) => format!("as its part, {}", wording(formulas, i)),
+        Formula::Bang(i) | Formula::At(i, _) | Formula::Says(_, i) | Formula::Forall(i) => {
+            format!("as its part, {}", wording(formulas, i))
+        }
         _ => "a seat or a place weighs 1".to_string(),
     }
 }

@@ -2,8 +2,8 @@
 
 use crate::till::credentials::Credential;
 use crate::till::formulas::Formulas;
-use crate::till::logic::{Formula, FormulaId, Interval};
-use crate::till::steps::{just, Goal, Labels, MAX_LABELS};
+use crate::till::logic::{Formula, FormulaId, Holder, Interval};
+use crate::till::steps::{just, Goal, Instance, Labels, MAX_LABELS};
 
 /// A kind of wording: its name, and the steps that prove it and use it.
 pub struct Kind {
@@ -29,10 +29,11 @@ pub static BANG: Kind = kind("a !", 'b', "`br`", "`bl`");
 pub static AT: Kind = kind("an @", 'h', "`hr`", "`hl`");
 pub static SAYS: Kind = kind("a ⟨K⟩", 's', "`sr`", "`sl`");
 pub static COVERS: Kind = kind("a ⊇", 'g', "`gr`", "no step");
+pub static FORALL: Kind = kind("a ∀", 'q', "no step", "`al`");
 
 pub fn kind_of(line: Formula) -> &'static Kind {
     match line {
-        Formula::Atom { .. } => &ATOM,
+        Formula::Atom { .. } | Formula::Named { .. } => &ATOM,
         Formula::One => &ONE,
         Formula::Tensor(..) => &TENSOR,
         Formula::With(..) => &WITH,
@@ -43,6 +44,7 @@ pub fn kind_of(line: Formula) -> &'static Kind {
         Formula::At(..) => &AT,
         Formula::Says(..) => &SAYS,
         Formula::Covers(..) => &COVERS,
+        Formula::Forall(..) => &FORALL,
     }
 }
 
@@ -55,15 +57,31 @@ pub fn window(interval: Interval) -> String {
 
 /// The formula of a wording that is there, spelled out.
 pub fn spell(formulas: &Formulas, id: FormulaId) -> String {
-    spell_line(formulas, formulas.line(id))
+    spell_instance(formulas, Instance::of(id))
 }
 
 /// The formula of a wording line whose parts are there.
 pub fn spell_line(formulas: &Formulas, line: Formula) -> String {
-    let part = |id| inside(formulas, id);
+    spelled(formulas, line, Instance::of(0))
+}
+
+/// A formula of a booking, with the holder that was put in.
+pub fn spell_instance(formulas: &Formulas, instance: Instance) -> String {
+    spelled(formulas, line_of(formulas, instance), instance)
+}
+
+/// The line of a formula of a booking; an atom has the holder that was put in.
+pub fn line_of(formulas: &Formulas, instance: Instance) -> Formula {
+    formulas.line(instance.formula()).put(instance.holder())
+}
+
+/// The formula of a line; the holder of `instance` goes along into its parts.
+fn spelled(formulas: &Formulas, line: Formula, instance: Instance) -> String {
+    let part = |id| inside(formulas, instance.part(id));
     let two = |i, sign, j| format!("{} {sign} {}", part(i), part(j));
     match line {
-        Formula::Atom { predicate, session } => atom(predicate, session),
+        Formula::Atom { predicate, session } => atom(predicate, session, None),
+        Formula::Named { predicate, session, holder } => atom(predicate, session, Some(holder)),
         Formula::One => "1".to_string(),
         Formula::Tensor(i, j) => two(i, "⊗", j),
         Formula::With(i, j) => two(i, "&", j),
@@ -75,22 +93,25 @@ pub fn spell_line(formulas: &Formulas, line: Formula) -> String {
         Formula::At(i, interval) => format!("{}@({})", part(i), window(interval)),
         Formula::Says(principal, i) => format!("⟨{principal}⟩ {}", part(i)),
         Formula::Covers(one, other) => format!("({}) ⊇ ({})", window(one), window(other)),
+        Formula::Forall(i) => format!("for every holder: {}", spell_instance(formulas, instance.part(i))),
     }
 }
 
-/// A formula as a part of another: in brackets where it has two parts.
-fn inside(formulas: &Formulas, id: FormulaId) -> String {
-    let text = spell(formulas, id);
-    let joined = formulas.line(id).parts().iter().flatten().count() == 2;
-    let compares = matches!(formulas.line(id), Formula::Covers(..));
-    if joined || compares { format!("({text})") } else { text }
+/// A formula as a part of another: in brackets where it has two parts or begins with words.
+fn inside(formulas: &Formulas, instance: Instance) -> String {
+    let (text, line) = (spell_instance(formulas, instance), line_of(formulas, instance));
+    let joined = line.parts().iter().flatten().count() == 2;
+    let brackets = joined || matches!(line, Formula::Covers(..) | Formula::Forall(..));
+    if brackets { format!("({text})") } else { text }
 }
 
-fn atom(predicate: u8, session: u16) -> String {
+/// `seat(7)`, `place(7, holder 12)`
+fn atom(predicate: u8, session: u16, holder: Option<Holder>) -> String {
+    let of = holder.map_or(session.to_string(), |holder| format!("{session}, holder {holder}"));
     match predicate {
-        1 => format!("seat({session})"),
-        2 => format!("place({session})"),
-        _ => format!("pred{predicate}({session})"),
+        1 => format!("seat({of})"),
+        2 => format!("place({of})"),
+        _ => format!("pred{predicate}({of})"),
     }
 }
 
@@ -110,14 +131,14 @@ pub fn use_of(linear: bool) -> &'static str {
 }
 
 /// `⟨1⟩ seat(7) at 0..600`
-pub fn at(formulas: &Formulas, id: FormulaId, interval: Interval) -> String {
-    format!("{} at {}", spell(formulas, id), window(interval))
+pub fn at(formulas: &Formulas, instance: Instance, interval: Interval) -> String {
+    format!("{} at {}", spell_instance(formulas, instance), window(interval))
 }
 
 /// `1 affirms seat(7)`
 pub fn goal(formulas: &Formulas, goal: Goal) -> String {
     match goal {
-        Goal::True(formula) => spell(formulas, formula),
+        Goal::True(formula) => spell_instance(formulas, formula),
         Goal::Affirms(principal, formula) => format!("{principal} affirms {}", inside(formulas, formula)),
     }
 }
@@ -148,16 +169,19 @@ pub fn set(labels: Labels) -> String {
 }
 
 /// Signs and what they mean; `#` stands for a digit.
-const SIGNS: [(&str, &str); 15] = [
+const SIGNS: [(&str, &str); 18] = [
     ("seat(", "seat(7): a seat of session 7"),
     ("place(", "place(7): a place of session 7"),
     ("pred#", "pred9(7): predicate 9 of session 7, a free one"),
+    (", holder #", "place(7, holder 12): a place of session 7 in holder 12's name"),
+    (", holder 0)", "holder 0: whichever holder is put in; it stands inside `for every holder` alone"),
     ("⟨", "⟨1⟩ A: principal 1 says A; the house is principal 1"),
     (" affirms ", "1 affirms A: what is to be shown of ⟨1⟩ A"),
     ("⊗", "A ⊗ B: A and B together"),
     (" & ", "A & B: A or B, as the one who uses it chooses"),
     ("⊕", "A ⊕ B: A or B, and the one who uses it must be ready for both"),
     ("⊸", "A ⊸ B: give A, get B; an offer"),
+    ("for every holder: ", "for every holder: A, a ∀: A for each holder, 1 to 65,535, as the one who uses it names"),
     ("⊃", "A ⊃ B: where A holds without spending a single, B"),
     ("!", "!A: A as often as wanted"),
     ("@", "A@J: A in the window J, whatever the window around it"),

@@ -25,10 +25,10 @@ extern "C" {
 
 /* The edition of this header. A library of another edition may want larger blocks or answer other refusals: see
  * till_edition and till_start below. */
-#define TILL_EDITION 1
+#define TILL_EDITION 2
 
-/* A till: a block of 10,996 numbers of 32 bits (43,984 bytes), aligned as uint32_t. It holds no pointer. */
-#define TILL_NUMBERS 10996
+/* A till: a block of 11,596 numbers of 32 bits (46,384 bytes), aligned as uint32_t. It holds no pointer. */
+#define TILL_NUMBERS 11596
 
 /* No sheet has more bytes; a longer one is refused with TILL_TOO_LONG. */
 #define TILL_SHEET_BYTES 16384
@@ -77,6 +77,7 @@ size_t till_text_bytes(void);
 #define TILL_BAD_TEXT 50           /* not the form of a text */
 #define TILL_TEXT_BREAKS_RULE 51   /* a line of a text breaks a rule */
 #define TILL_BUFFER_TOO_SHORT 52   /* the text does not fit the buffer */
+#define TILL_HOLDER_MISPLACED 53   /* q within q, or holder 0 outside q */
 /* end of refusals */
 
 /* The text beside a refusal's name above; "not a refusal" for every other number. The text is not to be changed or
@@ -103,7 +104,7 @@ void till_start(uint32_t till[TILL_NUMBERS]);
  * A tally counts its session's seats and places in the live single-use coupons. Open are the house's seats in their
  * minutes: the nearest <K> above the seat, in the coupon's own wording, is principal 1, and the coupon's window has the
  * minute. Shut are all other seats: the house's at other minutes, those of other principals, and bare ones. Placed are
- * the places, whatever stands above them and whatever the minute.
+ * the places, whatever stands above them and whatever the minute. Whose name a seat or a place is in makes no difference.
  *
  * A refusal leaves the block as it was, every number of it. No call changes the sheet. */
 void till_call(uint32_t till[TILL_NUMBERS], const uint8_t *sheet, size_t length, uint32_t scratch[TILL_SCRATCH],
@@ -146,17 +147,17 @@ void till_open(uint32_t till[TILL_NUMBERS], uint32_t spare[TILL_NUMBERS], const 
 
 /* A block that is too small for the library would be overrun by till_start and till_open. So both ask for a name that
  * only a library of this header's edition has, and a program that was compiled with another edition's header is not
- * linked: "undefined reference to `till_edition_1'". It answers the edition. */
-uint32_t till_edition_1(void);
+ * linked: "undefined reference to `till_edition_2'". It answers the edition. */
+uint32_t till_edition_2(void);
 
 static inline void till_start_inline(uint32_t till[TILL_NUMBERS]) {
-    (void)till_edition_1();
+    (void)till_edition_2();
     till_start(till);
 }
 
 static inline void till_open_inline(uint32_t till[TILL_NUMBERS], uint32_t spare[TILL_NUMBERS], const uint8_t *text,
                                     size_t length, uint32_t answer[4]) {
-    (void)till_edition_1();
+    (void)till_edition_2();
     till_open(till, spare, text, length, answer);
 }
 

@@ -55,6 +55,12 @@ static int set_atom(struct History *history, struct Wording *to, const struct Fi
     return 1;
 }
 
+/* An atom in a holder's name counts as one without. */
+static int set_named(struct History *history, struct Wording *to, const struct Field *fields) {
+    uint32_t holder;
+    return number(fields[4], LAST_HOLDER, &holder) && set_atom(history, to, fields);
+}
+
 /* Under <1> every seat that has no nearer <K> is the house's; under another <K> none of these. */
 static int set_says(struct History *history, struct Wording *to, const struct Field *fields) {
     uint32_t principal;
@@ -82,12 +88,13 @@ static int note_word(struct History *history, const struct Field *fields, size_t
     *to = (struct Wording){.size = 1};
     switch (fields[1].at[0]) {
     case 'a': good = count == 4 && set_atom(history, to, fields); break;
+    case 'n': good = count == 5 && set_named(history, to, fields); break;
     case 'o': good = count == 2; break;
     case 'g': good = count == 10; break;
     case 't': case 'w': case 'p': case 'l': case 'u':
         good = count == 4 && add_part(history, to, fields[2]) && add_part(history, to, fields[3]);
         break;
-    case 'b': good = count == 3 && add_part(history, to, fields[2]); break;
+    case 'b': case 'q': good = count == 3 && add_part(history, to, fields[2]); break;
     case 'h': good = count == 7 && add_part(history, to, fields[2]); break;
     case 's': good = count == 4 && set_says(history, to, fields); break;
     default: good = 0;

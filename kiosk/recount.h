@@ -1,5 +1,5 @@
 /* What was issued and withdrawn, what is open, shut and placed, and the till's text, all counted from the accepted
- * sheets and their answers alone (document 01, "Booking, tally"; document 02, asks 3 and 5). It looks into no till:
+ * sheets and their answers alone (document 01, "Booking, tally"; document 02, asks 3, 5 and 7). It looks into no till:
  * wording n is the line that was answered n, and a serial's coupon is the one issued, or the goal booked, by the sheet
  * that was answered that serial. After an opening (document 02, ask 5) it begins at the text. */
 #ifndef RECOUNT_H
@@ -9,7 +9,7 @@
 #include <stdint.h>
 
 enum { WORDINGS = 200, MOST_SIZE = 64, MOST_LIVE = 512, LAST_PREDICATE = 255, LAST_PRINCIPAL = 255, HOUSE = 1,
-       SEAT = 1, PLACE = 2, LAST_SESSION = 65535, LAST_SERIAL = 999999, LAST_MINUTE = 9999999 };
+       SEAT = 1, PLACE = 2, LAST_SESSION = 65535, LAST_HOLDER = 65535, LAST_SERIAL = 999999, LAST_MINUTE = 9999999 };
 
 /* The longest lines of a text, its first one last; and the longest text. */
 enum { WORDING_BYTES = 66, COUPON_BYTES = 45, TITLE_BYTES = 23,

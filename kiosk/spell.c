@@ -18,10 +18,14 @@ static void add_window(struct Line *line, const struct Field *fields) {
 }
 
 /* A part stands before the wording, so this comes to an end. */
-static void add_part(struct Line *line, const struct History *history, uint32_t n, struct Field field) {
+static void add_whole(struct Line *line, const struct History *history, uint32_t n, struct Field field, int inner) {
     uint32_t part;
     if (!number(field, WORDINGS - 1, &part) || part >= n) line_add(line, "?");
-    else if (line->length < LINE_MOST) add(line, history, part, 1);
+    else if (line->length < LINE_MOST) add(line, history, part, inner);
+}
+
+static void add_part(struct Line *line, const struct History *history, uint32_t n, struct Field field) {
+    add_whole(line, history, n, field, 1);
 }
 
 static void add_atom(struct Line *line, const struct Field *fields) {
@@ -33,6 +37,21 @@ static void add_atom(struct Line *line, const struct Field *fields) {
         line_add(line, " ");
     }
     add_field(line, fields[2]);
+}
+
+/* `place 7 holder 12`; holder 0 is the one that `q` binds. */
+static void add_named(struct Line *line, const struct Field *fields) {
+    add_atom(line, fields);
+    line_add(line, " holder ");
+    add_field(line, fields[3]);
+}
+
+/* `every holder: <1>seat 7 -o place 7 holder 0` */
+static void add_every(struct Line *line, const struct History *history, uint32_t n, struct Field field, int inner) {
+    if (inner) line_add(line, "(");
+    line_add(line, "every holder: ");
+    add_whole(line, history, n, field, 0);
+    if (inner) line_add(line, ")");
 }
 
 static void add_pair(struct Line *line, const struct History *history, uint32_t n, const struct Field *fields,
@@ -49,6 +68,8 @@ static void add(struct Line *line, const struct History *history, uint32_t n, in
     const struct Wording *w = &history->wording[n];
     switch (split(w->line, w->length, fields) > 0 ? fields[0].at[0] : 0) {
     case 'a': add_atom(line, fields); break;
+    case 'n': add_named(line, fields); break;
+    case 'q': add_every(line, history, n, fields[1], inner); break;
     case 'o': line_add(line, "1"); break;
     case 't': add_pair(line, history, n, fields, "*", inner); break;
     case 'w': add_pair(line, history, n, fields, "&", inner); break;

@@ -10,6 +10,10 @@ SAID = TOKEN + b"word,s,1,0\n\n"
 PAIR = TOKEN + b"word,t,0,0\n\nissue,s,1,0,9,0,0\n\n"
 OFFER = TOKEN + b"word,l,0,0\n\nissue,r,1,0,9,0,0\n\nissue,s,0,0,9,0,0\n\n"
 WORDING_1 = b"book,0,1,0,9,0,0"
+HOLDER_0 = b"word,n,9,7,0\n\n"
+HOLDER_5 = HOLDER_0 + b"word,n,9,7,5\n\n"
+EVERYONE = HOLDER_5 + b"word,q,0\n\nissue,r,2,0,9,0,0\n\n"  # wording 1 has holder 5, serial 1 is for every holder
+WORDING_2 = b"book,0,2,0,9,0,0"
 
 
 def booked(holds, steps, head=b"book,0,0,0,9,0,0"):
@@ -48,6 +52,13 @@ FORMS = [
     (b"word,o,1\n", ["too many fields", "2 fields: `word,o`"]),
     (b"word\n", ["too few fields", "a wording line"]),
     (b"word,x,1\n", ["`x` is no wording", "one of a, o, t"]),
+    (b"word,n,2,7\n", ["too few fields", "5 fields: `word,n,predicate,session,holder`"]),
+    (b"word,n,2,7,65536\n", ["over its range, which ends with 65,535", "field 5, holder"]),
+    (b"word,n,2,7,x\n", ["`x` is no digit", "a holder (0 is the one that `q` binds): 0 to 65,535"]),
+    (b"word,n,2,7,-5\n", ["a minus sign", "field 5, holder"]),
+    (booked([1], ["al,0"]), ["too few fields", "`al,L,holder`"]),
+    (booked([1], ["al,0,0"]), ["below its range, which begins with 1", "the holder to be put in: 1 to 65,535"]),
+    (booked([1], ["al,0,65536"]), ["over its range, which ends with 65,535", "field 3, holder"]),
     (b"wrd,a,1,7\n", ["`wrd` is no sheet", "word, issue, withdraw, book, tally"]),
     (b"a,1,7\n", ["`a` is no sheet", "word,a,1,7"]),
     (b"till,1,1,0,0\n", ["a till's text", "--till"]),
@@ -97,6 +108,20 @@ STEPS = [
     (40, OFFER + booked([1, 2], ["cp,0", "ll,2,0000000000000002,0,10,0,0", "ax,1", "ax,3"]),
      ["label 2's window does not contain the step's", "lacks minute 10"]),
     (40, TOKEN + b"word,o\n\nissue,r,1,0,9,0,0\n\n" + booked([1], ["cp,0", "ol,1", "ol,1"]), ["step 2 used it up"]),
+    (40, EVERYONE + booked([1], ["cp,0", "al,1,6", "ax,2"], WORDING_1),
+     ["label 2 is not the goal: it is pred9(7, holder 6), the goal is pred9(7, holder 5)", "step 2",
+      "0: for every holder: pred9(7, holder 0) at 0..9", "name 5 there, or book for holder 6"]),
+    (40, EVERYONE + b"word,a,9,7\n\n" + booked([1], ["cp,0", "al,1,6", "ax,2"], b"book,0,3,0,9,0,0"),
+     ["it is pred9(7, holder 6), the goal is pred9(7)", "(`n`) is never equal to one without (`a`)"]),
+    (40, EVERYONE + booked([1], ["al,0,5", "ax,1"], WORDING_1),
+     ["Step 1, `al,0,5`, (uses a ∀ for holder 5) breaks its rule", "it is in R, standing", "`cp,0`"]),
+    (40, EVERYONE + booked([1], ["cp,0", "ax,1"], WORDING_1),
+     ["label 1 is not the goal: it is for every holder: pred9(7, holder 0), the goal is pred9(7, holder 5)"]),
+    (40, EVERYONE + booked([1], ["cp,0", "tl,1"], WORDING_1), ["label 1 is not a ⊗ but a ∀", "used by `al`"]),
+    (40, HOLDER_5 + b"issue,s,1,0,9,0,0\n\n" + booked([1], ["al,0,5"], WORDING_1),
+     ["label 0 is not a ∀ but an atom: pred9(7, holder 5)"]),
+    (41, EVERYONE + booked([1], ["cp,0"] * 63 + ["al,1,5"], WORDING_1),
+     ["Step 64, `al,1,5`, is right", "needs label 64", "new in D: pred9(7, holder 5) at 0..9"]),
     (41, STANDING + booked([1], ["cp,0"] * 64),
      ["Step 64, `cp,0`, is right", "needs label 64", "1 label by holds and 63 by steps"]),
     (42, STANDING + booked([1], ["cp,0"]),
@@ -119,6 +144,15 @@ CHECKS = [
     (10, SEAT + b"issue,s,1,0,600,0,0\n", ["field 3, wording", "one wording is there, number 0"]),
     (10, SEAT + SEAT + b"issue,s,1,0,600,0,0\n", ["Sheet 2 is a `word` that was refused"]),
     (10, b"word,s,1,0\n", ["no wording is there yet", "field 4, wording i"]),
+    (53, EVERYONE + b"word,q,2\n", ["wording 2: for every holder: pred9(7, holder 0), which is a `q` itself"]),
+    (53, EVERYONE + b"word,s,1,2\n\nword,t,3,1\n\nword,q,4\n",
+     ["field 3, wording i", "in it stands a `q`, wording 2: for every holder: pred9(7, holder 0)",
+      "wording 4: ⟨1⟩ (for every holder: pred9(7, holder 0)) ⊗ pred9(7, holder 5)", "side by side"]),
+    (53, HOLDER_0 + b"issue,s,0,0,9,0,0\n", ["wording 0: pred9(7, holder 0), in no `q`", "Word `q,0` and issue that"]),
+    (53, EVERYONE + b"word,t,2,0\n\nissue,r,3,0,9,0,0\n",
+     ["wording 3: (for every holder: pred9(7, holder 0)) ⊗ pred9(7, holder 0); in it, in no `q`, wording 0"]),
+    (53, HOLDER_0 + b"word,s,1,0\n\n" + booked([], ["or"], WORDING_1),
+     ["field 3, wording", "wording 1: ⟨1⟩ pred9(7, holder 0); in it, in no `q`, wording 0", "Book for one holder"]),
     (12, TOKEN + b"".join(b"word,t,%d,%d\n\n" % (i, i) for i in range(5)) + b"word,s,1,5\n\nword,s,1,6\n",
      ["size 65: 1 for this line, and 64", "at most 64"]),
     (13, SEAT + SEAT, ["this line is wording 0 already", "seat(7)", "Use number 0"]),
@@ -128,6 +162,9 @@ CHECKS = [
      ["the goal of a booking is plain", "Book what the offer gives, wording 0"]),
     (21, SEAT + b"word,a,2,7\n\nword,t,1,1\n\nword,l,0,2\n\nissue,r,3,0,9999,0,0\n",
      ["seat(7) ⊸ (place(7) ⊗ place(7))", "weighs 1, not 0: 2 on the right of ⊸, less 1 on the left"]),
+    (20, EVERYONE + booked([1], ["ax,0"], WORDING_2), ["which is a ∀ (`q`)", "only atoms (`a`, `n`)"]),
+    (21, b"word,n,1,7,0\n\nword,q,0\n\nissue,r,1,0,9,0,0\n",
+     ["for session 7 it weighs 1, not 0: as its part, wording 0: seat(7, holder 0)"]),
     (21, SEAT + b"issue,r,0,0,9,0,0\n", ["for session 7 it weighs 1", "kind `s`"]),
     (21, SEAT + b"word,o\n\nword,w,1,0\n\nissue,r,2,0,9,0,0\n",
      ["the arms of 1 & seat(7) do not weigh alike: 0 and 1 for session 7"]),
@@ -165,6 +202,8 @@ TEXTS = [
     (51, b"till,1,1,2,0\no\no\n", ["`word` would refuse with 13", "this line is wording 0 already"]),
     (51, b"till,1,1,2,0\nb,1\no\n", ["`word` would refuse with 10", "Line 2"]),
     (51, b"till,1,2,1,1\na,1,7\n1,r,0,0,9,0,0\n", ["`issue` would refuse with 21", "for session 7 it weighs 1"]),
+    (51, b"till,1,1,3,0\nn,9,7,0\nq,0\nq,1\n", ["`word` would refuse with 53", "which is a `q` itself", "Line 4"]),
+    (51, b"till,1,2,1,1\nn,9,7,0\n1,s,0,0,9,0,0\n", ["`issue` would refuse with 53", "in no `q`", "Line 3"]),
     (51, b"till,1,2,1,1\na,1,7\n1,s,0,9,0,0,0\n", ["`issue` would refuse with 3", "from 9, to 0"]),
 ]
 

@@ -11,7 +11,7 @@
 #include <sys/mman.h>
 #include <time.h>
 
-enum { TILLS = 6, PAGE = 4096, LONG = 10, NUMBERS = 44, SHOWN = 10, SUMS = 32 };
+enum { TILLS = 6, PAGE = 4096, LONG = 10, NUMBERS = 54, SHOWN = 10, SUMS = 32 };
 
 struct Session {
     struct Sheet *sheets;
@@ -93,9 +93,10 @@ static int kind_of(const uint8_t *sheet, size_t length) {
 
 /* The refusals that the paper has for a sheet of a kind. */
 static int may_refuse(int kind, uint32_t refusal) {
-    static const uint8_t MAY[6][14] = {{1, 2, 3, 43, 10, 12, 13, 14}, {1, 2, 3, 43, 10, 20, 21, 22, 23}, {1, 2, 24},
-                                       {1, 2, 3, 43, 10, 20, 30, 24, 31, 40, 41, 42, 22, 23}, {1, 2}, {1, 2}};
-    for (int i = 0; i < 14; i++)
+    static const uint8_t MAY[6][15] = {
+        {1, 2, 3, 43, 10, 53, 12, 13, 14}, {1, 2, 3, 43, 10, 53, 20, 21, 22, 23}, {1, 2, 24},
+        {1, 2, 3, 43, 10, 53, 20, 30, 24, 31, 40, 41, 42, 22, 23}, {1, 2}, {1, 2}};
+    for (int i = 0; i < 15; i++)
         if (MAY[kind][i] == refusal && refusal > 0) return 1;
     return 0;
 }
@@ -287,7 +288,7 @@ static void open_pages(struct Fuzz *fuzz) {
 
 static void report(struct Fuzz *fuzz, int all) {
     static const char *const KINDS[] = {"word", "issue", "withdraw", "book", "tally"};
-    static const uint8_t REFUSALS[] = {1, 2, 3, 10, 12, 13, 14, 20, 21, 22, 23, 24, 30, 31, 40, 41, 42, 43};
+    static const uint8_t REFUSALS[] = {1, 2, 3, 10, 12, 13, 14, 20, 21, 22, 23, 24, 30, 31, 40, 41, 42, 43, 53};
     printf("%llu calls, %llu tallies for sums, %zu tills begun\naccepted:", (unsigned long long)fuzz->calls,
            (unsigned long long)fuzz->tallies, fuzz->begun);
     for (int i = 0; i < 5; i++) printf(" %s %llu", KINDS[i], (unsigned long long)fuzz->accepted[i]);

@@ -35,7 +35,7 @@ static struct Sheet line_in(uint8_t *bytes, size_t length, uint64_t *seed) {
 }
 
 static void change_bytes(struct Draft *draft, uint64_t *seed) {
-    static const char USUAL[] = "0123456789abcdef,,\n\nsrtlhopwxu:";
+    static const char USUAL[] = "0123456789abcdef,,\n\nsrtlhopwxunq:";
     uint8_t some[8];
     uint32_t count = below(seed, 2) ? 1 : below(seed, sizeof some + 1);
     for (uint32_t i = 0; i < count; i++)
@@ -86,7 +86,7 @@ static void change_line(struct Draft *draft, const struct Sheet *other, uint64_t
 static void change_step(struct Draft *draft, uint64_t *seed) {
     static const char *const STEPS[] = {"ax,",  "cp,",  "tr,0000000000000000\n", "tl,",  "or\n", "ol,",  "wr\n", "w1,",
                                         "w2,",  "p1\n", "p2\n", "pl,",  "ll,",  "ul,",  "br\n", "bl,",  "hr\n", "hl,",
-                                        "sr\n", "af\n", "sl,",  "gr\n"};
+                                        "sr\n", "af\n", "sl,",  "gr\n", "al,",  "al,1,5\n"};
     struct Sheet line = line_in(draft->bytes, draft->length, seed);
     const char *step = STEPS[below(seed, sizeof STEPS / sizeof *STEPS)];
     size_t length = strlen(step), gone = step[length - 1] == '\n' ? line.length : length;
@@ -139,7 +139,7 @@ static const char *window(char text[48], uint32_t from, uint32_t to, uint64_t *s
 static int make_word(char *text, size_t room, uint32_t wordings, uint64_t *seed) {
     uint32_t i = below(seed, wordings + 1), j = below(seed, wordings + 1), n = below(seed, 8);
     char v[48], w[48];
-    switch (below(seed, 8)) {
+    switch (below(seed, 10)) {
     case 0: case 1: return snprintf(text, room, "word,a,%u,%u\n", below(seed, 4), n);
     case 2: return snprintf(text, room, "word,%c,%u,%u\n", "twplu"[below(seed, 5)], i, j);
     case 3: return snprintf(text, room, "word,t,%u,%u\n", i, j);
@@ -147,6 +147,8 @@ static int make_word(char *text, size_t room, uint32_t wordings, uint64_t *seed)
     case 5: return below(seed, 4) ? snprintf(text, room, "word,b,%u\n", i) : snprintf(text, room, "word,o\n");
     case 6:
         return snprintf(text, room, "word,g,%s,%s\n", window(v, n, n + i, seed), window(w, n, n + j, seed));
+    case 7: return snprintf(text, room, "word,n,%u,%u,%u\n", below(seed, 4), n, below(seed, 3));
+    case 8: return snprintf(text, room, "word,q,%u\n", i);
     default: return snprintf(text, room, "word,s,%u,%u\n", n, i);
     }
 }

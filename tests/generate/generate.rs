@@ -1,5 +1,5 @@
 //! Seeded sessions of sheets for the booking till, with the answers that document 01 demands, and document 02 so far as
-//! it has landed (asks 1 to 4, and 5 in sessions of its own).
+//! it has landed (asks 1 to 4 and 7, and 5 in sessions of its own).
 
 pub mod arrivals;
 pub mod balance;
@@ -10,11 +10,14 @@ pub mod coverage;
 pub mod damage;
 pub mod derivation;
 pub mod drills;
+pub mod follow;
 pub mod form;
 pub mod full;
 pub mod grid;
 pub mod grow;
+pub mod holders;
 pub mod house;
+pub mod instances;
 pub mod late;
 pub mod life;
 pub mod long;
@@ -77,6 +80,7 @@ fn fixed(seed: u64, seen: &mut Seen) -> Vec<Session> {
     all.extend(midday::sessions());
     all.extend(grid::sessions());
     all.extend(house::sessions(seed));
+    all.extend(holders::sessions(seed));
     all.push(full::session(seed));
     all.extend([life::fixed(), life::many(seed), life::session(seed, 120), balance::random(seed)]);
     all.extend(spans::sessions(seed));
@@ -95,6 +99,7 @@ fn to_pack(seed: u64, seen: &mut Seen) -> Vec<(Session, u32)> {
     all.extend(capacity::sessions(seed));
     all.extend(tour::sessions().into_iter().filter(|session| !session.name.contains("straight through")));
     all.extend(house::sessions(seed));
+    all.extend(holders::sessions(seed));
     all.extend([full::session(seed), life::fixed(), life::session(seed, 120), balance::random(seed)]);
     all.extend(spans::sessions(seed));
     all.extend(drills::DRILLS.iter().map(|letters| drills::session(letters, true, seed, seen)));
@@ -147,7 +152,7 @@ fn random(wish: &Wish, seen: &mut Seen) -> Vec<Session> {
             _ => life::bookings(seed, seen, 4, 12),
         });
         if n % 8 == 5 {
-            all.push(house::random(seed));
+            all.extend([house::random(seed), holders::random(seed)]);
         }
     }
     all

@@ -173,19 +173,19 @@ impl Recount {
         Some(window)
     }
 
-    /// The seats and places of a wording, every part as often as it stands there. A ⟨K⟩ is the nearest for those that
-    /// have none within it.
+    /// The seats and places of a wording, every part as often as it stands there, whoever holds them. A ⟨K⟩ is the
+    /// nearest for those that have none within it.
     fn leaves(&mut self, fields: &[&str]) -> Option<Vec<Leaf>> {
         let part = |place: usize| self.wordings.get(&number(fields, place)?).cloned();
         Some(match fields[0] {
-            "a" => {
+            "a" | "n" => {
                 let (predicate, session) = (number(fields, 1)?, number(fields, 2)?);
                 self.sessions.insert(session);
                 let leaf = Leaf { seat: predicate == 1, session, nearest: None };
                 if predicate == 1 || predicate == 2 { vec![leaf] } else { vec![] }
             }
             "t" | "w" | "p" | "l" | "u" => [part(1)?, part(2)?].concat(),
-            "b" | "h" => part(1)?,
+            "b" | "h" | "q" => part(1)?,
             "s" => {
                 let principal = number(fields, 1);
                 let near = |leaf: &Leaf| Leaf { nearest: leaf.nearest.or(principal), ..*leaf };

@@ -34,9 +34,9 @@ def tillrun(data):
 
 def atoms(f, words):
     """The seats and places of a wording line, as (predicate, session, nearest principal); words has its parts."""
-    if f[0] == "a":
+    if f[0] in ("a", "n"):
         return [(int(f[1]), int(f[2]), None)] if f[1] in ("1", "2") else []
-    parts = {"s": f[2:3], "b": f[1:2], "h": f[1:2], "o": [], "g": []}.get(f[0], f[1:3])
+    parts = {"s": f[2:3], "b": f[1:2], "h": f[1:2], "q": f[1:2], "o": [], "g": []}.get(f[0], f[1:3])
     held = [atom for part in parts for atom in words[int(part)]]
     return [(p, s, int(f[1]) if k is None else k) for p, s, k in held] if f[0] == "s" else held
 
@@ -126,7 +126,7 @@ def shown(sheet):
 
 def places(data):
     """Some sessions and minutes: those that occur, small and large, those that a byte would take for them, others."""
-    found = sorted({int(s) for s in re.findall(rb"(?m)^word,a,[12],(\d{1,5})$", data) if int(s) <= 65535})
+    found = sorted({int(s) for s in re.findall(rb"(?m)^word,[an],[12],(\d{1,5})(?:,\d+)?$", data) if int(s) <= 65535})
     sessions = {s for at in found[:3] + found[-2:] for s in (at, at % 256)} | {0, 255, 65535}
     minutes = {int(m) for m in re.findall(rb"(?m)^issue,.,\d+,(\d{1,6}),\d+,\d+,\d+$", data)}
     return sorted(sessions), sorted({*sorted(minutes)[:3], 540, 9999999})
@@ -230,21 +230,25 @@ def generated(folder, work):
 # ---- Lists of commands ----
 
 def spelled():
-    """Every letter of a wording, and the two kinds of coupons."""
+    """Every letter of a wording, and the two kinds of coupons, one in a holder's name."""
     words = [b"a,1,7", b"a,2,65535", b"a,9,0", b"o", b"t,0,1", b"w,0,1", b"p,0,1", b"l,4,0", b"u,4,7", b"b,3",
-             b"h,0,540,1080,720,779", b"s,2,4", b"g,0,9,0,0,1,5,2,3", b"s,1,12"]
+             b"h,0,540,1080,720,779", b"s,2,4", b"g,0,9,0,0,1,5,2,3", b"s,1,12", b"n,2,7,65535", b"n,9,7,0",
+             b"l,0,15", b"q,16", b"t,17,14"]
     due = ["0 a,1,7: seat 7", "1 a,2,65535: place 65535", "2 a,9,0: p9 0", "3 o: 1", "4 t,0,1: seat 7 * place 65535",
            "5 w,0,1: seat 7 & place 65535", "6 p,0,1: seat 7 + place 65535",
            "7 l,4,0: (seat 7 * place 65535) -o seat 7",
            "8 u,4,7: (seat 7 * place 65535) => ((seat 7 * place 65535) -o seat 7)", "9 b,3: !1",
            "10 h,0,540,1080,720,779: seat 7@[540..1080 without 720..779]", "11 s,2,4: <2>(seat 7 * place 65535)",
-           "12 g,0,9,0,0,1,5,2,3: [0..9] has [1..5 without 2..3]", "13 s,1,12: <1>[0..9] has [1..5 without 2..3]"]
+           "12 g,0,9,0,0,1,5,2,3: [0..9] has [1..5 without 2..3]", "13 s,1,12: <1>[0..9] has [1..5 without 2..3]",
+           "14 n,2,7,65535: place 7 holder 65535", "15 n,9,7,0: p9 7 holder 0", "16 l,0,15: seat 7 -o p9 7 holder 0",
+           "17 q,16: every holder: seat 7 -o p9 7 holder 0",
+           "18 t,17,14: (every holder: seat 7 -o p9 7 holder 0) * place 7 holder 65535"]
     data = b"".join(b"word," + word + b"\n\n" for word in words)
     status, lines = script(data + b":wordings\n")
     check(status == 0 and lines[len(words):] == due, f"wordings spelled out: {lines[len(words):]}")
-    coupons = data + b"issue,s,11,0,600,10,20\n\nissue,r,3,0,9,0,0\n\nissue,s,0,1,1,0,0\n\nwithdraw,1\n\n:coupons\n"
+    coupons = data + b"issue,s,11,0,600,10,20\n\nissue,r,3,0,9,0,0\n\nissue,s,14,1,1,0,0\n\nwithdraw,1\n\n:coupons\n"
     status, lines = script(coupons)
-    due = ["2 standing 0..9, wording 3: 1", "3 single 1..1, wording 0: seat 7"]
+    due = ["2 standing 0..9, wording 3: 1", "3 single 1..1, wording 14: place 7 holder 65535"]
     check(status == 0 and lines[-2:] == due, f"coupons: {lines[-3:]}")
     lines = script(coupons.replace(b"withdraw,1\n\n", b""))[1]
     due = "1 single 0..600 without 10..20, wording 11: <2>(seat 7 * place 65535)"

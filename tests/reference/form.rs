@@ -1,6 +1,6 @@
 //! Reading a request ("sheet"): one pass over the bytes settles refusals 1, 2, 3 and 43.
 
-use super::logic::{Formula, FormulaId, Interval, Label, Step};
+use super::logic::{Formula, FormulaId, Holder, Interval, Label, Step};
 use super::refusal;
 
 pub const MAX_BYTES: usize = 16_384;
@@ -9,6 +9,7 @@ pub const MAX_STEPS: usize = 256;
 
 pub const MAX_BYTE_FIELD: u32 = 255;
 pub const MAX_SESSION: u32 = 65_535;
+pub const MAX_HOLDER: u32 = 65_535;
 pub const MAX_MINUTE: u32 = 9_999_999;
 pub const MAX_FORMULA: u32 = 999;
 pub const MAX_LABEL: u32 = 63;
@@ -153,6 +154,11 @@ impl<'a> Reader<'a> {
             b"h," => Formula::At(self.formula_id(COMMA)?, self.interval(LINE_END)?),
             b"s," => Formula::Says(self.byte_field(COMMA)?, self.formula_id(LINE_END)?),
             b"g," => Formula::Covers(self.interval(COMMA)?, self.interval(LINE_END)?),
+            b"n," => {
+                let (predicate, session) = (self.byte_field(COMMA)?, self.session(COMMA)?);
+                Formula::Named { predicate, session, holder: self.holder(0, LINE_END)? }
+            }
+            b"q," => Formula::Forall(self.formula_id(LINE_END)?),
             _ => return None,
         })
     }
@@ -184,6 +190,7 @@ impl<'a> Reader<'a> {
             b"af\n" => Step::Affirms,
             b"sl," => Step::SaysL(self.label(LINE_END)?),
             b"gr\n" => Step::CoversR,
+            b"al," => Step::ForallL(self.label(COMMA)?, self.holder(1, LINE_END)?),
             _ => return None,
         })
     }
@@ -245,6 +252,11 @@ impl<'a> Reader<'a> {
 
     fn session(&mut self, end: u8) -> Option<u16> {
         Some(self.number(0, MAX_SESSION, end)? as u16)
+    }
+
+    /// A holder's number from `low` on: 0, for the holder bound, stands in formulas alone.
+    fn holder(&mut self, low: u32, end: u8) -> Option<Holder> {
+        Some(self.number(low, MAX_HOLDER, end)? as Holder)
     }
 
     fn minute(&mut self, end: u8) -> Option<u32> {

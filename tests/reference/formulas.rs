@@ -17,14 +17,22 @@ const GROUPS: usize = 64;
 #[derive(Clone, Copy)]
 struct Facts {
     size: u8,
-    /// Made of `a`, `t` and `s` alone.
+    /// Made of `a`, `n`, `t` and `s` alone.
     plain: bool,
     /// In every part, itself included, arms of & and ⊕ weigh alike, and what stands under ! or
     /// left of ⊃ weighs 0, for every session.
     even: bool,
     /// `even`, and of weight 0 for every session.
     balanced: bool,
+    /// It is a `q`, or has one inside.
+    quantified: bool,
+    /// Holder 0 stands in it outside `q`.
+    loose: bool,
 }
+
+/// What is known of nothing yet.
+const NO_FACTS: Facts =
+    Facts { size: 0, plain: false, even: false, balanced: false, quantified: false, loose: false };
 
 /// The till's "wordings".
 pub struct Formulas {
@@ -42,7 +50,7 @@ impl Formulas {
         Formulas {
             count: 0,
             lines: [Formula::One; MAX_FORMULAS],
-            facts: [Facts { size: 0, plain: false, even: false, balanced: false }; MAX_FORMULAS],
+            facts: [NO_FACTS; MAX_FORMULAS],
             contents: [Content::EMPTY; MAX_FORMULAS],
             groups: [[0; SET_WORDS]; GROUPS],
         }
@@ -70,6 +78,10 @@ impl Formulas {
         self.facts[id as usize].balanced
     }
 
+    pub fn loose(&self, id: FormulaId) -> bool {
+        self.facts[id as usize].loose
+    }
+
     /// Seats and places of a session, by formula number.
     pub fn atoms(&self, session: u16) -> [Atoms; MAX_FORMULAS] {
         let mut atoms = [NO_ATOMS; MAX_FORMULAS];
@@ -84,11 +96,16 @@ impl Formulas {
         atoms
     }
 
-    /// Adds a formula and gives its number, or the refusal: 10, 12, 13, 14 in this order.
+    /// Adds a formula and gives its number, or the refusal: 10, 53, 12, 13, 14 in this order.
     pub fn add(&mut self, line: Formula) -> Result<FormulaId, u32> {
         let parts = line.parts();
         if !parts.iter().flatten().all(|&part| self.is_there(part)) {
             return Err(refusal::NO_FORMULA);
+        }
+        let around = matches!(line, Formula::Forall(_));
+        let inside = parts.iter().flatten().any(|&part| self.facts[part as usize].quantified);
+        if around && inside {
+            return Err(refusal::HOLDER);
         }
         let part_size = |&part: &FormulaId| u32::from(self.facts[part as usize].size);
         let size = 1 + parts.iter().flatten().map(part_size).sum::<u32>();
@@ -105,7 +122,8 @@ impl Formulas {
         let even = self.is_even(line);
         let balanced = even && content.is_weightless();
         let plain = self.is_plain(line);
-        self.facts[self.count] = Facts { size: size as u8, plain, even, balanced };
+        let (quantified, loose) = (around || inside, self.is_loose(line));
+        self.facts[self.count] = Facts { size: size as u8, plain, even, balanced, quantified, loose };
         self.contents[self.count] = content;
         for session in content.sessions() {
             self.groups[group(session)][self.count / 64] |= 1 << (self.count % 64);
@@ -123,12 +141,13 @@ impl Formulas {
     fn content_of(&self, line: Formula) -> Content {
         match line {
             Formula::Atom { predicate, session } => Content::atom(predicate, session),
+            Formula::Named { predicate, session, .. } => Content::atom(predicate, session),
             Formula::One | Formula::Covers(..) => Content::EMPTY,
             Formula::Tensor(i, j) => self.join(i, j, |left, right| left + right),
             Formula::Lolli(i, j) => self.join(i, j, |left, right| right - left),
             Formula::With(i, j) | Formula::Plus(i, j) => self.join(i, j, |left, _| left),
             Formula::Implies(i, j) => self.join(i, j, |_, right| right),
-            Formula::Bang(i) | Formula::At(i, _) => *self.content(i),
+            Formula::Bang(i) | Formula::At(i, _) | Formula::Forall(i) => *self.content(i),
             Formula::Says(principal, i) => self.content(i).said_by(principal),
         }
     }
@@ -153,8 +172,18 @@ impl Formulas {
     }
 
     fn is_plain(&self, line: Formula) -> bool {
-        let itself = matches!(line, Formula::Atom { .. } | Formula::Tensor(..) | Formula::Says(..));
+        let atom = matches!(line, Formula::Atom { .. } | Formula::Named { .. });
+        let itself = atom || matches!(line, Formula::Tensor(..) | Formula::Says(..));
         itself && line.parts().iter().flatten().all(|&part| self.plain(part))
+    }
+
+    /// The `loose` fact of a new formula: `q` binds every holder 0 of its part.
+    fn is_loose(&self, line: Formula) -> bool {
+        match line {
+            Formula::Named { holder, .. } => holder == 0,
+            Formula::Forall(_) => false,
+            _ => line.parts().iter().flatten().any(|&part| self.loose(part)),
+        }
     }
 }
 

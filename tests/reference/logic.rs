@@ -47,6 +47,10 @@ impl Interval {
 /// The number of a formula; the paper's "wording" where it names one by number.
 pub type FormulaId = u32;
 
+/// The number of a holder, 1 to 65,535. In a formula, 0 stands for the holder that the `q` around it
+/// binds.
+pub type Holder = u16;
+
 /// A formula over earlier formulas; the paper's "wording line". Fields have one spelling only, so
 /// two lines are equal exactly if these values are.
 #[derive(Clone, Copy, PartialEq, Eq, Debug)]
@@ -73,16 +77,32 @@ pub enum Formula {
     Says(u8, FormulaId),
     /// `g,from,to,first,last,from,to,first,last`: first interval ⊇ second
     Covers(Interval, Interval),
+    /// `n,predicate,session,holder`: an atom in a holder's name
+    Named { predicate: u8, session: u16, holder: Holder },
+    /// `q,i`: i for every holder
+    Forall(FormulaId),
 }
 
 impl Formula {
+    /// The line with a holder put in for holder 0.
+    pub fn put(self, bound: Holder) -> Formula {
+        match self {
+            Formula::Named { predicate, session, holder: 0 } => {
+                Formula::Named { predicate, session, holder: bound }
+            }
+            _ => self,
+        }
+    }
+
     /// The formulas this one refers to, left before right.
     pub fn parts(self) -> [Option<FormulaId>; 2] {
         match self {
             Formula::Atom { .. } | Formula::One | Formula::Covers(..) => [None, None],
+            Formula::Named { .. } => [None, None],
             Formula::Tensor(i, j) | Formula::With(i, j) | Formula::Plus(i, j) => [Some(i), Some(j)],
             Formula::Lolli(i, j) | Formula::Implies(i, j) => [Some(i), Some(j)],
             Formula::Bang(i) | Formula::At(i, _) | Formula::Says(_, i) => [Some(i), None],
+            Formula::Forall(i) => [Some(i), None],
         }
     }
 }
@@ -137,4 +157,6 @@ pub enum Step {
     SaysL(Label),
     /// `gr`
     CoversR,
+    /// `al,L,holder`
+    ForallL(Label, Holder),
 }

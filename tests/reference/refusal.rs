@@ -10,6 +10,8 @@ pub const INTERVAL: u32 = 3;
 pub const BREAK: u32 = 43;
 /// A named formula is not there.
 pub const NO_FORMULA: u32 = 10;
+/// `q` within `q`; or holder 0 outside `q` in a credential's formula or the goal of a booking.
+pub const HOLDER: u32 = 53;
 /// Formula size over 64.
 pub const SIZE: u32 = 12;
 /// The formula's line is already there.

@@ -68,7 +68,7 @@ impl Till {
         let credentials = reader.number(0, MAX_LIVE as u32, LINE_END)?;
         let mut rules_kept = true;
         for _ in 0..formulas {
-            // 10, 12, 13; there is room for all that are counted, so not 14
+            // 10, 53, 12, 13; there is room for all that are counted, so not 14
             rules_kept &= self.formulas.add(reader.formula()?).is_ok();
         }
         let mut before = 0;
@@ -78,7 +78,7 @@ impl Till {
                 return None;
             }
             before = credential.serial;
-            // 10, 20, 21
+            // 10, 53, 20, 21
             rules_kept &= self.check_kind(credential.linear, credential.formula).is_ok();
             self.credentials.put(credential);
         }
@@ -135,10 +135,7 @@ impl Writer {
             Formula::Plus(i, j) => self.pair(b"p,", i, j),
             Formula::Lolli(i, j) => self.pair(b"l,", i, j),
             Formula::Implies(i, j) => self.pair(b"u,", i, j),
-            Formula::Bang(i) => {
-                self.bytes(b"b,");
-                self.number(i, LINE_END);
-            }
+            Formula::Bang(i) => self.single(b"b,", i),
             Formula::At(i, interval) => {
                 self.bytes(b"h,");
                 self.number(i, COMMA);
@@ -150,7 +147,20 @@ impl Writer {
                 self.interval(one, COMMA);
                 self.interval(other, LINE_END);
             }
+            Formula::Named { predicate, session, holder } => {
+                self.bytes(b"n,");
+                self.number(predicate.into(), COMMA);
+                self.number(session.into(), COMMA);
+                self.number(holder.into(), LINE_END);
+            }
+            Formula::Forall(i) => self.single(b"q,", i),
         }
+    }
+
+    /// A line of a letter and one number.
+    fn single(&mut self, letter: &[u8; 2], number: u32) {
+        self.bytes(letter);
+        self.number(number, LINE_END);
     }
 
     /// A line of a letter and two numbers.

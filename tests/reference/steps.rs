@@ -1,7 +1,7 @@
 //! The step checker: does the list of steps derive the goal from the held credentials?
 
 use super::formulas::Formulas;
-use super::logic::{Formula, FormulaId, Interval, Label, Step};
+use super::logic::{Formula, FormulaId, Holder, Interval, Label, Step};
 use super::refusal;
 
 pub const MAX_LABELS: usize = 64;
@@ -13,18 +13,52 @@ pub fn just(label: Label) -> Labels {
     1 << label
 }
 
+/// A formula with a holder put in for holder 0 wherever that stands in it. Both are in one word, the
+/// formula's number in its lower half, so that the holder goes along at no cost. Equal words are equal
+/// formulas, but not the other way round.
+#[derive(Clone, Copy, PartialEq, Eq)]
+pub struct Instance(u32);
+
+impl Instance {
+    const FORMULA: u32 = 0xffff;
+
+    /// The formula as it stands: outside `q` it has no holder 0.
+    pub fn of(formula: FormulaId) -> Instance {
+        Instance(formula)
+    }
+
+    /// The formula, the part of a `q`, for a holder.
+    pub fn at(formula: FormulaId, holder: Holder) -> Instance {
+        Instance(u32::from(holder) << 16 | formula)
+    }
+
+    /// A part of this formula: the same holder is put into it.
+    pub fn part(self, formula: FormulaId) -> Instance {
+        Instance(self.0 & !Instance::FORMULA | formula)
+    }
+
+    pub fn formula(self) -> FormulaId {
+        self.0 & Instance::FORMULA
+    }
+
+    /// The holder put in; 0 if there is none.
+    pub fn holder(self) -> Holder {
+        (self.0 >> 16) as Holder
+    }
+}
+
 /// What a label stands for: a formula true on an interval.
 #[derive(Clone, Copy)]
 pub struct Hypothesis {
-    pub formula: FormulaId,
+    pub formula: Instance,
     pub interval: Interval,
 }
 
 /// "A", or "K affirms A"; the sequent holds the interval.
 #[derive(Clone, Copy)]
 pub enum Goal {
-    True(FormulaId),
-    Affirms(u8, FormulaId),
+    True(Instance),
+    Affirms(u8, Instance),
 }
 
 /// The paper's "judged line".
@@ -45,7 +79,7 @@ impl Sequent {
     }
 
     /// The same hypotheses and interval, to prove "A".
-    fn proving(self, formula: FormulaId) -> Sequent {
+    fn proving(self, formula: Instance) -> Sequent {
         Sequent { goal: Goal::True(formula), ..self }
     }
 
@@ -90,7 +124,7 @@ pub struct Checker<'a> {
 
 impl<'a> Checker<'a> {
     pub fn new(formulas: &'a Formulas, steps: &'a [Step]) -> Checker<'a> {
-        let nothing = Hypothesis { formula: 0, interval: Interval::ZERO };
+        let nothing = Hypothesis { formula: Instance::of(0), interval: Interval::ZERO };
         Checker { formulas, steps, read: 0, hypotheses: [nothing; MAX_LABELS], taken: 0 }
     }
 
@@ -155,7 +189,9 @@ impl<'a> Checker<'a> {
             Step::TensorL(l) | Step::OneL(l) | Step::WithL1(l) | Step::WithL2(l) | Step::PlusL(l) => {
                 self.left(l, step, sequent)
             }
-            Step::BangL(l) | Step::AtL(l) | Step::SaysL(l) => self.left(l, step, sequent),
+            Step::BangL(l) | Step::AtL(l) | Step::SaysL(l) | Step::ForallL(l, _) => {
+                self.left(l, step, sequent)
+            }
             Step::LolliL(label, share, interval) => self.lolli(label, share, interval, sequent),
             Step::ImpliesL(label, interval) => self.implies(label, interval, sequent),
             _ => self.right(step, sequent),
@@ -166,30 +202,36 @@ impl<'a> Checker<'a> {
     fn right(&self, step: Step, sequent: Sequent) -> Option<Outcome> {
         let Goal::True(goal) = sequent.goal else { return None };
         let linear = sequent.linear;
-        match (step, self.formulas.line(goal)) {
-            (Step::Init(label), Formula::Atom { .. }) if linear == just(label) => {
+        match (step, self.formulas.line(goal.formula())) {
+            (Step::Init(label), Formula::Atom { .. } | Formula::Named { .. }) if linear == just(label) => {
                 let hypothesis = self.hypotheses[usize::from(label)];
-                let same = hypothesis.formula == goal;
+                let same = hypothesis.formula == goal || self.alike(hypothesis.formula, goal);
                 (same && hypothesis.interval.covers(sequent.interval)).then_some(Closed)
             }
             (Step::TensorR(share), Formula::Tensor(left, right)) if share & !linear == 0 => {
-                let second = sequent.proving(right).with_linear(linear & !share);
-                Some(Two((sequent.proving(left).with_linear(share), Nothing), (second, Nothing)))
+                let first = sequent.proving(goal.part(left)).with_linear(share);
+                let second = sequent.proving(goal.part(right)).with_linear(linear & !share);
+                Some(Two((first, Nothing), (second, Nothing)))
             }
             (Step::OneR, Formula::One) if linear == 0 => Some(Closed),
             (Step::WithR, Formula::With(left, right)) => {
-                Some(Two((sequent.proving(left), Nothing), (sequent.proving(right), Nothing)))
+                let second = sequent.proving(goal.part(right));
+                Some(Two((sequent.proving(goal.part(left)), Nothing), (second, Nothing)))
             }
-            (Step::PlusR1, Formula::Plus(left, _)) => Some(One((sequent.proving(left), Nothing))),
-            (Step::PlusR2, Formula::Plus(_, right)) => Some(One((sequent.proving(right), Nothing))),
+            (Step::PlusR1, Formula::Plus(left, _)) => {
+                Some(One((sequent.proving(goal.part(left)), Nothing)))
+            }
+            (Step::PlusR2, Formula::Plus(_, right)) => {
+                Some(One((sequent.proving(goal.part(right)), Nothing)))
+            }
             (Step::BangR, Formula::Bang(part)) if linear == 0 => {
-                Some(One((sequent.proving(part), Nothing)))
+                Some(One((sequent.proving(goal.part(part)), Nothing)))
             }
             (Step::AtR, Formula::At(part, interval)) => {
-                Some(One((sequent.proving(part).on(interval), Nothing)))
+                Some(One((sequent.proving(goal.part(part)).on(interval), Nothing)))
             }
             (Step::SaysR, Formula::Says(principal, part)) => {
-                let goal = Goal::Affirms(principal, part);
+                let goal = Goal::Affirms(principal, goal.part(part));
                 Some(One((Sequent { goal, ..sequent }, Nothing)))
             }
             (Step::CoversR, Formula::Covers(first, second)) if linear == 0 => {
@@ -199,13 +241,22 @@ impl<'a> Checker<'a> {
         }
     }
 
+    /// Two lines, at least one of them an atom, are equal once their holders are put in. Apart, since an
+    /// atom is mostly the goal's own line.
+    #[inline(never)]
+    fn alike(&self, one: Instance, other: Instance) -> bool {
+        let put = |instance: Instance| self.formulas.line(instance.formula()).put(instance.holder());
+        put(one) == put(other)
+    }
+
     /// The left steps without an interval of their own: L leaves the linear context, its parts
-    /// enter with its interval. Inlined, it need not copy what it gives.
+    /// enter with its interval and its holder. Inlined, it need not copy what it gives.
     #[inline(always)]
     fn left(&self, label: Label, step: Step, sequent: Sequent) -> Option<Outcome> {
         let (hypothesis, sequent) = self.use_up(label, sequent)?;
-        let part = |formula| Hypothesis { formula, ..hypothesis };
-        let premise = match (step, self.formulas.line(hypothesis.formula)) {
+        let whole = hypothesis.formula;
+        let part = |id| Hypothesis { formula: whole.part(id), ..hypothesis };
+        let premise = match (step, self.formulas.line(whole.formula())) {
             (Step::TensorL(_), Formula::Tensor(i, j)) => (sequent, Linear2(part(i), part(j))),
             (Step::OneL(_), Formula::One) => (sequent, Nothing),
             (Step::WithL1(_), Formula::With(i, _)) => (sequent, Linear(part(i))),
@@ -214,8 +265,11 @@ impl<'a> Checker<'a> {
                 return Some(Two((sequent, Linear(part(i))), (sequent, Linear(part(j)))));
             }
             (Step::BangL(_), Formula::Bang(i)) => (sequent, Unrestricted(part(i))),
-            (Step::AtL(_), Formula::At(formula, interval)) => {
-                (sequent, Linear(Hypothesis { formula, interval }))
+            (Step::AtL(_), Formula::At(i, interval)) => {
+                (sequent, Linear(Hypothesis { interval, ..part(i) }))
+            }
+            (Step::ForallL(_, holder), Formula::Forall(i)) => {
+                (sequent, Linear(Hypothesis { formula: Instance::at(i, holder), ..hypothesis }))
             }
             (Step::SaysL(_), Formula::Says(principal, i)) => {
                 let Goal::Affirms(goal_principal, _) = sequent.goal else { return None };
@@ -232,25 +286,29 @@ impl<'a> Checker<'a> {
     /// `ll`: A on J from the share, then the goal from the rest with B on J.
     fn lolli(&self, label: Label, share: Labels, on: Interval, sequent: Sequent) -> Option<Outcome> {
         let (hypothesis, sequent) = self.use_up(label, sequent)?;
-        let Formula::Lolli(a, b) = self.formulas.line(hypothesis.formula) else { return None };
+        let whole = hypothesis.formula;
+        let Formula::Lolli(a, b) = self.formulas.line(whole.formula()) else { return None };
         // the label is gone from the context here, so a share that has it fails too
         if !hypothesis.interval.covers(on) || share & !sequent.linear != 0 {
             return None;
         }
-        let first = sequent.proving(a).on(on).with_linear(share);
+        let first = sequent.proving(whole.part(a)).on(on).with_linear(share);
         let second = sequent.with_linear(sequent.linear & !share);
-        Some(Two((first, Nothing), (second, Linear(Hypothesis { formula: b, interval: on }))))
+        let result = Hypothesis { formula: whole.part(b), interval: on };
+        Some(Two((first, Nothing), (second, Linear(result))))
     }
 
     /// `ul`: A on J from an empty linear context, then the goal from the rest with B on J.
     fn implies(&self, label: Label, on: Interval, sequent: Sequent) -> Option<Outcome> {
         let (hypothesis, sequent) = self.use_up(label, sequent)?;
-        let Formula::Implies(a, b) = self.formulas.line(hypothesis.formula) else { return None };
+        let whole = hypothesis.formula;
+        let Formula::Implies(a, b) = self.formulas.line(whole.formula()) else { return None };
         if !hypothesis.interval.covers(on) {
             return None;
         }
-        let first = sequent.proving(a).on(on).with_linear(0);
-        Some(Two((first, Nothing), (sequent, Linear(Hypothesis { formula: b, interval: on }))))
+        let first = sequent.proving(whole.part(a)).on(on).with_linear(0);
+        let result = Hypothesis { formula: whole.part(b), interval: on };
+        Some(Two((first, Nothing), (sequent, Linear(result))))
     }
 
     /// `cp`: a linear copy of an unrestricted hypothesis.

@@ -24,7 +24,7 @@ use credentials::{Credentials, Slot, MAX_LIVE};
 use form::{Booking, Page, Request, MAX_HOLDS};
 use formulas::Formulas;
 use logic::{Formula, FormulaId, Interval};
-use steps::{Checker, Goal, Hypothesis, Sequent, Stop};
+use steps::{Checker, Goal, Hypothesis, Instance, Sequent, Stop};
 
 /// The state: what calls give, beginning from the empty till.
 pub struct Till {
@@ -79,10 +79,13 @@ impl Till {
         Ok(self.credentials.add(linear, formula, interval))
     }
 
-    /// Refusals 10, 20 and 21 of an issue.
+    /// Refusals 10, 53, 20 and 21 of an issue.
     fn check_kind(&self, linear: bool, formula: FormulaId) -> Result<(), u32> {
         if !self.formulas.is_there(formula) {
             return Err(refusal::NO_FORMULA);
+        }
+        if self.formulas.loose(formula) {
+            return Err(refusal::HOLDER);
         }
         if linear && !self.formulas.plain(formula) {
             return Err(refusal::NOT_PLAIN);
@@ -117,10 +120,13 @@ impl Till {
         Ok(self.credentials.add(true, booking.formula, booking.interval))
     }
 
-    /// Refusals 10, 20 and 30 of a booking.
+    /// Refusals 10, 53, 20 and 30 of a booking.
     fn check_head(&self, booking: Booking) -> Result<(), u32> {
         if !self.formulas.is_there(booking.formula) {
             return Err(refusal::NO_FORMULA);
+        }
+        if self.formulas.loose(booking.formula) {
+            return Err(refusal::HOLDER);
         }
         if !self.formulas.plain(booking.formula) {
             return Err(refusal::NOT_PLAIN);
@@ -151,11 +157,11 @@ impl Till {
     /// Refusals 40 to 42: the goal from the holds, which take labels 0, 1, .. in order.
     fn check_steps(&self, booking: Booking, slots: &[Slot]) -> Result<(), Stop> {
         let mut checker = Checker::new(&self.formulas, &self.page.steps[..booking.steps]);
-        let goal = Goal::True(booking.formula);
+        let goal = Goal::True(Instance::of(booking.formula));
         let mut sequent = Sequent { unrestricted: 0, linear: 0, goal, interval: booking.interval };
         for &slot in slots {
             let held = self.credentials.at(slot);
-            let hypothesis = Hypothesis { formula: held.formula, interval: held.interval };
+            let hypothesis = Hypothesis { formula: Instance::of(held.formula), interval: held.interval };
             // 32 holds at most, so there is a label for each
             let label = checker.take(hypothesis).unwrap_or(0);
             if held.linear {

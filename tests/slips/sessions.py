@@ -235,7 +235,7 @@ KNOWN = {
     "empty": Ledger(()),
     "reopen": reopened,
     "text": lambda ledger: Asked(ledger, "text", None),
-    "close": lambda ledger: lambda buffer: Asked(ledger, "closed", buffer),
+    "close": lambda ledger: lambda buffer: dict.fromkeys(("answer", "buffer"), Asked(ledger, "closed", buffer)),
     "Line.atom": lambda predicate: lambda session: ("a", predicate, session),
     "Unit": [],
 }
@@ -388,6 +388,8 @@ class Sessions:
         """The sessions of one equality."""
         if isinstance(asked, Ledger):
             lines = self.done(wanted) + ["K"] + self.done(asked) + ["Q"]
+        elif isinstance(asked, dict):  # of a closing: what is told and the buffer after
+            return self.session(name, asked["0"], wanted)
         elif isinstance(asked, list):
             if len(asked) != len(wanted):
                 raise Bad(f"{name}: {len(asked)} asked, {len(wanted)} answers")
@@ -420,7 +422,7 @@ class Sessions:
 
     @staticmethod
     def closed(name, buffer, wanted):
-        return [f"W {bytes(buffer).hex()}\t{answer(wanted['answer'])}\t{bytes(wanted['buffer']).hex()}"]
+        return [f"W {bytes(buffer).hex()}\t{answer(wanted['0'])}\t{bytes(wanted['1']).hex()}"]
 
     def all(self):
         ensured = set()

@@ -41,6 +41,10 @@ fn book_read(store: &mut Store, head: Head, serials: &Serials, rows: &StepRows) 
     let Verdict::Passed = present else {
         return Answer::Refused(10, 0);
     };
+    let bound = call_checks::check_bound(store, head.formula);
+    let Verdict::Passed = bound else {
+        return Answer::Refused(53, 0);
+    };
     let plain = call_checks::check_plain(store, head.formula);
     let Verdict::Passed = plain else {
         return Answer::Refused(20, 0);

@@ -19,6 +19,7 @@ use Rattle.ledger.specs.declared.Credential.{Credential}
 use Rattle.ledger.specs.Ledger.{row, held}
 use Rattle.ledger.specs.Checks.{LabelTable, noLabels, readLabel, writeLabel, hypothesis, bookingSequent}
 use Rattle.ledger.specs.Checks.{verdict, steps}
+use Rattle.steps.specs.Instance.{instanceRow}
 use Rattle.store_cells.specs.Layout.{rowAt}
 use Rattle.store.specs.Store.{ledgerOf, Good}
 use Rattle.store.proofs.Views.{rows-are}
@@ -85,25 +86,26 @@ module _ (l : List ℕ) (cs : List Credential) (n : ℕ) (i : Interval) (ss : Li
   pub steps-judged : {total next : ℕ} {table table′ : List ℕ} {q : Sequent} {r : Checked} → Good l
       → length ss ≡ total → length cs ≡ next → length cs ≤ maxLabels
       → puts putLabel zeros 0 (map hypothesis cs) ≡ table → bookingSequent cs n i ≡ q
-      → Answers (checkOf (rowAt l) labelAt putLabel total ss table next q) r table′
+      → Answers (checkOf (instanceRow (rowAt l)) labelAt putLabel total ss table next q) r table′
       → steps (ledgerOf l) cs n i ss ≡ refusalOf r
   unfolding steps shown
   steps-judged {total} {next} {table} {table′} {q} {r} g t m few e s a =
-      ap (λ (u : LabelTable). verdict (checkOf (row (ledgerOf l)) readLabel writeLabel (length ss) ss
+      ap (λ (u : LabelTable). verdict (checkOf (instanceRow (row (ledgerOf l))) readLabel writeLabel (length ss) ss
       u (length cs) (bookingSequent cs n i)))
       (ap (λ (u : LabelTable). puts writeLabel u 0 (map hypothesis cs)) (sym no-labels)
       ∙ puts-shown shown zeros 0 (map hypothesis cs) zeros-good
       (omega (arith, length-map cs hypothesis)))
-      ∙ rw (rows-are l g, t, m, s, e) (ap verdict (check-shown shown (rowAt l) total ss table next q
+      ∙ rw (rows-are l g, t, m, s, e) (ap verdict (check-shown shown (instanceRow (rowAt l)) total ss table next q
       (subst (heldTable .Good) e (puts-stay shown zeros 0 (map hypothesis cs) zeros-good))))
-      ∙ verdict-told (checkOf (rowAt l) labelAt putLabel total ss table next q)
+      ∙ verdict-told (checkOf (instanceRow (rowAt l)) labelAt putLabel total ss table next q)
       ∙ sym (a .same)
 
 -- the same for a booking on its way, with what the code has at hand
 pub steps-told : {l : List ℕ} {h : Head} {serials rows table table′ : List ℕ} {s : Sides} {q : Sequent} {r x : Checked}
     → Steppable l h serials rows table s
     → q ≡ sequent (s .unrestricted) (s .linear) (Holds (h .formula) (h .interval))
-    → Answers (checkOf (rowAt l) labelAt putLabel (h .steps) (stepsFrom rows 0 (h .steps)) table (h .holds) q) r table′
+    → Answers (checkOf (instanceRow (rowAt l)) labelAt putLabel (h .steps) (stepsFrom rows 0 (h .steps)) table
+    (h .holds) q) r table′
     → r ≡ x
     → steps (ledgerOf l) (held (ledgerOf l .live) (take (h .holds) serials)) (h .formula) (h .interval)
     (stepsFrom rows 0 (h .steps)) ≡ refusalOf x

@@ -9,7 +9,7 @@ ghost use mathlib.Core.Bool.{not, _||_};
 ghost use Prim.Native.Nat.{ℕ, _<_};
 ghost use lib.ListN.{length};
 ghost use Rattle.logic.specs.Interval.{has, reversed, broken};
-ghost use Rattle.logic.specs.Formula.{plain};
+ghost use Rattle.logic.specs.Formula.{plain, unbound};
 ghost use Rattle.logic.specs.Counts.{balanced};
 ghost use Rattle.ledger.specs.Table.{names};
 ghost use Rattle.ledger.specs.Ledger.{formula};
@@ -91,6 +91,14 @@ pub fn check_names_present(store: &Store, row: Row) -> Verdict
     ensures { λ r. ⌜ Tells 10 r (anyOf (missing (ledgerOf (now (store .entry)))) (names (lineOf row))) ⌝ }
 {
     tested(!formula_facts::names_there(store, row))
+}
+
+// 53: the formula has holder 0 outside `q`.
+pub fn check_bound(store: &Store, n: u32) -> Verdict
+    requires { ⌜ Good (now store) × (n < length (ledgerOf (now store) .lines)) ⌝ }
+    ensures { λ r. ⌜ Tells 53 r (unbound (formula (ledgerOf (now (store .entry))) n)) ⌝ }
+{
+    tested(store::unbound_at(store, n))
 }
 
 // 20: the formula is not plain.

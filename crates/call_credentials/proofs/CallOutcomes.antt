@@ -8,6 +8,7 @@ use borrow.Author.Tests.{leb-false, ltb-false}
 use native.Mathlib.Omega.{arith}
 use Rattle.logic.specs.declared.Interval.{Interval}
 use Rattle.logic.specs.Interval.{reversed, broken}
+use Rattle.logic.specs.Formula.{unbound}
 use Rattle.request.specs.declared.Kind.{Kind}
 use Rattle.request.specs.Range.{serial}
 use Rattle.request.specs.Request.{issue, withdraw, tally, intervals}
@@ -83,8 +84,8 @@ module _ (l : List ℕ) (k : Kind) (n : ℕ) (i : Interval) where
 
   -- the checks after the intervals'
   pub past-43 : {v : Verdict} → Past l k n i (after-3 l k n i) → Tells 43 v (broken i) → v ≡ Passed
-      → Past l k n i ((10 if missing (ledgerOf l) n) ∷ (unissuableNumber k if unissuable k (formula (ledgerOf l) n))
-      ∷ lastChecks (ledgerOf l))
+      → Past l k n i ((10 if missing (ledgerOf l) n) ∷ (53 if unbound (formula (ledgerOf l) n))
+      ∷ (unissuableNumber k if unissuable k (formula (ledgerOf l) n)) ∷ lastChecks (ledgerOf l))
   unfolding checks
   past-43 s h e = s ▸ shown (intervals-told broken k n i h) e
 

@@ -29,7 +29,7 @@ fn issue_checked(store: &mut Store, kind: Kind, formula: u32, interval: Interval
     Answer::Accepted(serial)
 }
 
-// Issue: 3, 43, 10, 20 or 21 by the kind, then as above.
+// Issue: 3, 43, 10, 53, 20 or 21 by the kind, then as above.
 pub fn issue(store: &mut Store, kind: Kind, formula: u32, interval: Interval) -> Answer
     requires { ⌜ Good (now store) ⌝ }
     ensures { λ r. ⌜ Handled (now (store .entry)) (issueRequest kind formula interval) r (now (store .exit)) ⌝ }
@@ -45,6 +45,10 @@ pub fn issue(store: &mut Store, kind: Kind, formula: u32, interval: Interval) ->
     let present = call_checks::check_present(store, formula);
     let Verdict::Passed = present else {
         return Answer::Refused(10, 0);
+    };
+    let bound = call_checks::check_bound(store, formula);
+    let Verdict::Passed = bound else {
+        return Answer::Refused(53, 0);
     };
     let issuable = call_checks::check_issuable(store, kind, formula);
     let Verdict::Passed = issuable else {

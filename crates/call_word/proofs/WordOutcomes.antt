@@ -20,7 +20,7 @@ use Rattle.ledger.specs.Checks.{checks}
 use Rattle.ledger.specs.Calls.{withLine, accept}
 use Rattle.ledger.specs.Statements.{from-start, _▸_}
 use Rattle.store.specs.Store.{lineOf, ledgerOf, Good, Canonical, StandsFor, Wordable}
-use Rattle.formula_facts.specs.Facts.{Formable}
+use Rattle.formula_facts.specs.Facts.{Formable, HoldersOf}
 use Rattle.formula_facts.proofs.Named.{none-missing}
 use Rattle.call_checks.specs.declared.Verdict.{Verdict}
 use Rattle.call_checks.specs.declared.Verdict.the-variants.{Passed, Failed}
@@ -83,9 +83,9 @@ pub counted : (l : List ℕ) {n : ℕ} {v : Verdict} → n ≡ length (ledgerOf 
 counted l e h = reworded h (ap (leb maxFormulas) e)
 
 module _ {l : List ℕ} {x : Row} {z : ℕ} (f : Fitting l x z) where
-  pub word-added : {p b : Bool} → p ≡ plain (form (formula (ledgerOf l)) (lineOf x))
-      → b ≡ balanced (form (formula (ledgerOf l)) (lineOf x)) → Wordable l x z p b
-  word-added q y = record {
+  pub word-added : {p b u w : Bool} → p ≡ plain (form (formula (ledgerOf l)) (lineOf x))
+      → b ≡ balanced (form (formula (ledgerOf l)) (lineOf x)) → HoldersOf l x u w → Wordable l x z p b u w
+  word-added q y h = record {
     good = f .named .good;
     room = leb-false maxFormulas (length (ledgerOf l .lines)) (f .room);
     canonical = f .named .canonical;
@@ -93,6 +93,8 @@ module _ {l : List ℕ} {x : Row} {z : ℕ} (f : Fitting l x z) where
     sized = f .sized;
     plain-kept = q;
     balancedly = y;
+    unbound-kept = h .unbound;
+    quantified-kept = h .quantified;
     small = ltb-false maxSize z (f .small);
   }
 

@@ -11,20 +11,24 @@ use Rattle.request.specs.Request.{Line, word}
 use Rattle.steps.specs.declared.Row.{Row}
 use Rattle.ledger.specs.Table.{form, names}
 use Rattle.ledger.specs.Ledger.{Ledger, formula}
-use Rattle.ledger.specs.Checks.{Check, _if_, anyOf, maxSize, maxFormulas, missing, oversize, sameLine, readChecks}
+use Rattle.ledger.specs.Checks.{Check, _if_, anyOf, maxSize, maxFormulas, missing, nests, oversize, sameLine}
+use Rattle.ledger.specs.Checks.{readChecks}
 use Rattle.ledger.specs.Statements.{SoFar}
 use Rattle.store.specs.Store.{lineOf, ledgerOf, Good, Canonical}
 
 -- the checks of a line whose names are there
 abbrev pub fitChecks : Ledger → Line → List Check
 fitChecks t l =
-    (12 if oversize t l) ∷ (13 if anyOf (sameLine l) (t .lines)) ∷ (14 if leb maxFormulas (length (t .lines))) ∷ []
+    (53 if nests t l) ∷
+    (12 if oversize t l) ∷
+    (13 if anyOf (sameLine l) (t .lines)) ∷
+    (14 if leb maxFormulas (length (t .lines))) ∷ []
 
 -- those before `rest` have passed
 abbrev pub Past : List ℕ → Row → List Check → Type 0
 Past l r rest = SoFar (readChecks (ledgerOf l) (some (word (lineOf r)))) rest
 
--- those before 12 have passed
+-- those before 53 have passed
 pub record Named (l : List ℕ) (r : Row) : Type 0 where
   pub good : Good l
   pub canonical : Canonical r

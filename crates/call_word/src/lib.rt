@@ -7,25 +7,17 @@ use store::Store;
 ghost use Rattle.request.specs.Request.{word as wordRequest};
 ghost use Rattle.store.specs.Store.{lineOf, Canonical, Good};
 ghost use Rattle.call_contracts.specs.Called.{Handled};
-ghost use Rattle.call_word.specs.Wording.{Named, Fitting};
+ghost use Rattle.call_word.specs.Wording.{Named};
 
-// A line that has passed all checks is added.
-fn add(store: &mut Store, row: Row, size: u32) -> Answer
-    requires { ⌜ Fitting (now store) row size ⌝ }
-    ensures { λ r. ⌜ Handled (now (store .entry)) (wordRequest (lineOf row)) r (now (store .exit)) ⌝ }
-{
-    let plain = formula_facts::row_plain(store, row);
-    let balanced = formula_weights::row_balanced(store, row);
-    let number = store::formula_count(store);
-    store_formulas::add_row(store, row, size, plain, balanced);
-    Answer::Accepted(number)
-}
-
-// 12, 13, 14 of a line that names what is there.
+// 53, 12, 13, 14 of a line that names what is there; one that passes them is added.
 fn word_named(store: &mut Store, row: Row) -> Answer
     requires { ⌜ Named (now store) row ⌝ }
     ensures { λ r. ⌜ Handled (now (store .entry)) (wordRequest (lineOf row)) r (now (store .exit)) ⌝ }
 {
+    let apart = call_checks::tested(formula_facts::row_nested(store, row));
+    let Verdict::Passed = apart else {
+        return Answer::Refused(53, 0);
+    };
     let size = formula_facts::row_size(store, row);
     let small = call_checks::tested(ledger::MAX_SIZE < size);
     let Verdict::Passed = small else {
@@ -35,11 +27,24 @@ fn word_named(store: &mut Store, row: Row) -> Answer
     let Verdict::Passed = new else {
         return Answer::Refused(13, 0);
     };
-    let free = call_checks::tested(ledger::MAX_FORMULAS <= store::formula_count(store));
+    let number = store::formula_count(store);
+    let free = call_checks::tested(ledger::MAX_FORMULAS <= number);
     let Verdict::Passed = free else {
         return Answer::Refused(14, 0);
     };
-    add(store, row, size)
+    let plain = formula_facts::row_plain(store, row);
+    let balanced = formula_weights::row_balanced(store, row);
+    let holders = formula_facts::row_holders(store, row);
+    store_formulas::add_row(
+        store,
+        row,
+        size,
+        plain,
+        balanced,
+        holders.unbound,
+        holders.quantified,
+    );
+    Answer::Accepted(number)
 }
 
 // Word: 3, 43, 10, then as above.

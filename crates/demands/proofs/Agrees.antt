@@ -3,7 +3,7 @@ use mathlib.Core.Path.{_≡_, refl, sym, ap, subst, _∙_, fun-ext}
 use mathlib.Core.List.{List, [], _∷_, _++_}
 use mathlib.Core.Option.{Option, none, some}
 use mathlib.Core.Bool.{true, false}
-use Prim.Native.Nat.{ℕ, _+_, _<_}
+use Prim.Native.Nat.{ℕ, _+_, _<_, _≤_}
 use native.Mathlib.Omega.{arith}
 use lib.Dec.{eqb}
 use lib.ListN.{length, length-append}
@@ -18,6 +18,7 @@ use Rattle.ledger.specs.declared.Credential.{Credential}
 use Rattle.ledger.specs.declared.Answer.the-variants.{Accepted, Counted, Refused}
 use Rattle.ledger.specs.Table.{form, names}
 use Rattle.ledger.specs.Ledger.{Ledger, formula, byKind, find, withoutSerial}
+use Rattle.ledger.specs.Checks.{maxFormulas}
 use Rattle.ledger.specs.Calls.{withLine, withLive, withCredential}
 use Rattle.demands.specs.History.{Event, History, _upon_, note, learn, formulaIn, Given, givenIn}
 use Rattle.demands.specs.History.{seatsAndPlaces, issued}
@@ -45,6 +46,7 @@ seatsAndPlacesIn t s c = seatsAndPlaces s (formula t (c .formula))
 
 pub record Agrees (t : Ledger) (h : History) : Type 0 where
   pub tabled : Tabled t
+  pub lines : length (t .lines) ≤ maxFormulas
   pub formulas : formulaIn h ≡ formula t
   pub credentials : Every (Right t h) (t .live)
   pub totals : (s : ℕ) → sum (linearly (seatsAndPlacesIn t s)) (t .live) + withdrawn s h ≡ issued s h
@@ -55,10 +57,12 @@ event r n = record { request = r; answer = Accepted n }
 -- A new formula
 
 pub word-keeps : (t : Ledger) (h : History) (l : Line) → Agrees t h → There t (names l)
+    → length (t .lines) < maxFormulas
     → Agrees (withLine t l) (event (word l) (length (t .lines)) upon h)
 unfolding formulaIn givenIn issued withdrawn
-word-keeps t h l a r = record {
+word-keeps t h l a r room = record {
   tabled = line-tabled t l (a .tabled) r;
+  lines = omega (arith, length-append (t .lines) (l ∷ []));
   formulas = fun-ext (λ n.
       ap (λ (T : ℕ → Formula). elim (eqb n (length (t .lines))) as (λ z. Formula) [ true ↦ form T l | false ↦ T n ])
       (a .formulas)
@@ -115,6 +119,7 @@ pub issue-keeps : (t : Ledger) (h : History) (k : Kind) (n : ℕ) (i : Interval)
 unfolding formulaIn givenIn issued withdrawn
 issue-keeps t h k n i a lt f = record {
   tabled = same-table t _ _ (a .tabled);
+  lines = a .lines;
   formulas = a .formulas;
   credentials = given-right t h _ (t .live) k n i refl (a .credentials) lt f;
   totals = λ s. omega (
@@ -153,6 +158,7 @@ withdraw-keeps t h n c e a =
     let r = every-out (Right t h) (out .1) (a .credentials) in
     record {
       tabled = same-table t _ _ (a .tabled);
+      lines = a .lines;
       formulas = a .formulas;
       credentials = known t _ h _ (withoutSerial (t .live) n) refl refl refl (r .1);
       totals = λ s. omega (
@@ -171,6 +177,7 @@ pub tally-keeps : (t : Ledger) (h : History) (s m x y z : ℕ) → Agrees t h
 unfolding formulaIn givenIn issued withdrawn
 tally-keeps t h s m x y z a = record {
   tabled = a .tabled;
+  lines = a .lines;
   formulas = a .formulas;
   credentials = known t t h _ (t .live) refl refl refl (a .credentials);
   totals = λ s. omega (arith, a .totals s);

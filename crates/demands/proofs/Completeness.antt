@@ -1,7 +1,7 @@
 -- Demand 2: completeness, down to bytes.
-use mathlib.Core.Path.{_≡_, refl, sym, ap, _∙_}
+use mathlib.Core.Path.{_≡_, refl, sym, ap, subst, _∙_}
 use mathlib.Core.Logic.{inl, inr}
-use mathlib.Core.List.{List, [], _∷_, _++_}
+use mathlib.Core.List.{List, [], _∷_, _++_, map}
 use mathlib.Core.Option.{Option, none, some}
 use mathlib.Core.Bool.{Bool, true, false, _||_}
 use Prim.Native.Nat.{ℕ, _+_, _<_, _≤_}
@@ -11,10 +11,12 @@ use borrow.Author.Tests.{leb-false}
 use Rattle.logic.specs.declared.Interval.{Interval}
 use Rattle.logic.specs.Interval.{WellFormed}
 use Rattle.logic.specs.Multiset.{Every}
-use Rattle.logic.specs.Derives.{uses, taken}
+use Rattle.logic.specs.Formula.{Formula}
+use Rattle.logic.specs.Derives.{Derives, holds, letters, uses, taken}
 use Rattle.logic.proofs.Tests.{no-truth}
 use Rattle.logic.proofs.Intervals.{has-decides}
 use Rattle.logic.proofs.Multisets.{every-out, every-map}
+use Rattle.request.specs.declared.Kind.the-variants.{Linear, Unrestricted}
 use Rattle.request.specs.Range.{serial, steps as stepCount}
 use Rattle.request.specs.Request.{Step, Booking, book, stepIntervals, stepsIntervals, intervals}
 use Rattle.request.specs.Write.{write}
@@ -23,18 +25,20 @@ use Rattle.request.proofs.Digits.{every-append}
 use Rattle.request.proofs.Requests.{write-read, write-short}
 use Rattle.steps.specs.declared.Sequent.{Sequent}
 use Rattle.steps.specs.declared.Goal.the-variants.{Holds}
-use Rattle.steps.specs.Check.{maxLabels, done, premiseOf, finished, checkOf}
-use Rattle.steps.specs.StepLetters.{letterOf}
-use Rattle.steps.specs.Limits.{Writable}
+use Rattle.steps.specs.Check.{maxLabels, done, puts, premiseOf, finished, checkOf}
+use Rattle.steps.specs.StepLetters.{letterOf, lettersOf}
+use Rattle.steps.specs.Limits.{Minutes, Writable}
+use Rattle.steps.specs.Statements.{Passes}
+use Rattle.steps.proofs.Instances.{instance-own}
 use Rattle.steps.proofs.Complete.{interval-in}
 use Rattle.steps.proofs.LabelTables.{label-table}
 use Rattle.steps.proofs.Steps.{passing}
 use Rattle.ledger.specs.declared.Credential.{Credential}
-use Rattle.ledger.specs.Ledger.{Ledger, row, find, isNone, held, linearCount}
+use Rattle.ledger.specs.Ledger.{Ledger, formula, rowFor, find, isNone, held, linearCount}
 use Rattle.ledger.specs.Checks.{LabelTable, _if_, first, anyOf, dead, noRoom, usedUp}
 use Rattle.ledger.specs.Checks.{readLabel}
 use Rattle.ledger.specs.Checks.{writeLabel}
-use Rattle.ledger.specs.Checks.{verdict, steps, checks, checksOf}
+use Rattle.ledger.specs.Checks.{verdict, steps, checks, checksOf, noLabels, hypothesis, bookingSequent}
 use Rattle.ledger.specs.Calls.{Told, ok, accept, toldOf}
 use Rattle.ledger.specs.Statements.{SoFar, _▸_}
 use Rattle.ledger.proofs.Answers.{some-inj, first-passes, heard}
@@ -42,28 +46,37 @@ use Rattle.ledger.proofs.Credentials.{take-out, any-none, Alive, held-length}
 use Rattle.ledger.specs.Bounds.{Rises, Bounded}
 use Rattle.ledger.proofs.Firsts.{first-fails, if-false, if-true, stopped-at, none-stops, not-true, past-form}
 use Rattle.ledger.proofs.Firsts.{past-intervals}
-use Rattle.demands.specs.Demands.{hyp, startLabels, booking, StepsComplete, May, PastSteps, Completeness}
+use Rattle.demands.specs.Demands.{hyp, hypsOf, startLabels, booking, StepsComplete, May, PastSteps, Completeness}
 use Rattle.demands.proofs.Demand1.{demand-1, call-accepts}
 use Rattle.demands.proofs.Start.{unrolls, start}
-use Rattle.demands.proofs.Exactness.{reached-bounded}
+use Rattle.demands.proofs.Exactness.{reached-bounded, reached-ready}
 
 -- Every derivation within the limits has step lines that pass.
 
 -- no line, no pass
 some-steps : (t : Ledger) (ss : List Step) (f g : LabelTable) (next m : ℕ) (q : Sequent)
-    → checkOf (row t) readLabel writeLabel (length ss) ss f next q ≡ done [] g m → 1 ≤ length ss
+    → checkOf (rowFor t) readLabel writeLabel (length ss) ss f next q ≡ done [] g m → 1 ≤ length ss
 unfolding checkOf premiseOf finished
 some-steps t [] f g next m q e = let z : _≡_ {A = ℕ} 0 1 = cc e in absurd (omega arith)
 some-steps t (s ∷ ss) f g next m q e = omega arith
 
 pub steps-complete : StepsComplete
 unfolding steps verdict
-steps-complete t reached n i hs x lim =
-    let bd = reached-bounded t reached in
+steps-complete t reached n i hs there x lim =
+    let ready = reached-ready t reached hs in
     let cs = held (t .live) hs in
     let room : length cs + taken x ≤ maxLabels = omega (arith, lim .labels, held-length (t .live) hs) in
-    let p = passing label-table _ _ (unrolls t (bd .tabled)) _ (length cs) _ _ (startLabels t cs) _ _
-    (start t (bd .tabled) cs (omega arith)) (Holds n i) x (lim .minutes) (omega (arith, length-map cs (hyp t))) in
+    let u = unrolls t (ready .tabled) (ready .lines) in
+    let own = instance-own (formula t) n (omega (arith, leb-false (length (t .lines)) n there, ready .lines)) in
+    let p = subst (λ (a : Formula).
+    (x : Derives (hypsOf t Unrestricted cs) (hypsOf t Linear cs) (holds a i)) → Minutes x
+    → length (startLabels t cs) + taken x ≤ maxLabels
+    → (ss : List Step) × (lettersOf ss ≡ letters x) × Every Writable ss
+    × Passes readLabel writeLabel (rowFor t) (puts writeLabel noLabels 0 (map hypothesis cs)) (length cs)
+    (bookingSequent cs n i) ss) own
+    (passing label-table _ _ u _ (length cs) _ _ (startLabels t cs) _ _
+    (start t (ready .tabled) (ready .lines) cs (ready .named) (omega arith)) (Holds n i))
+    x (lim .minutes) (omega (arith, length-map cs (hyp t))) in
     let many : length (p .0) ≡ uses x = sym (length-map (p .0) letterOf) ∙ ap length (p .1) in
     record {
       lines = p .0;
@@ -111,6 +124,7 @@ module _ (t : Ledger) (b : Booking) (r : BookingInRange b) (p : Passing t b) whe
       let m = p .may in
       past-intervals t (book b) (p .formed) (past-form t bytes (write-short (book b) r) (write-read (book b) r))
       ▸ if-false 10 _ (m .there)
+      ▸ if-false 53 _ (m .bound)
       ▸ if-false 20 _ (not-true _ (m .plain))
       ▸ if-false 30 _ (not-true _ (m .inside))
       ▸ if-false 24 _ (m .live)
@@ -171,7 +185,7 @@ in-range t bd b m count w = record {
 pub completeness : Completeness
 unfolding bytes
 completeness t reached now n i hs m x lim =
-    let s = steps-complete t reached n i hs x lim in
+    let s = steps-complete t reached n i hs (m .there) x lim in
     let b = booking now n i hs (s .lines) in (
       s .lines,
       s .letters,

@@ -13,17 +13,17 @@ use Rattle.logic.specs.Interval.{has}
 use Rattle.logic.specs.Formula.{Formula, seats, places, houseSeats, plain}
 use Rattle.logic.specs.Multiset.{Every, sum}
 use Rattle.logic.specs.Derives.{Hyp, holds, Derives}
-use Rattle.logic.proofs.Multisets.{snoc-sum}
+use Rattle.logic.proofs.Multisets.{snoc-sum, every-map}
 use Rattle.logic.proofs.Weights.{ups, downs, balanced-is}
 use Rattle.logic.proofs.Balance.{plain-decides, plain-counts}
 use Rattle.logic.proofs.Conservation.{conserved, EvenHyp, BalancedHyp}
 use Rattle.request.specs.declared.Kind.{Kind}
 use Rattle.request.specs.declared.Kind.the-variants.{Linear, Unrestricted}
-use Rattle.request.specs.Range.{maxBytes, holds as heldRange}
+use Rattle.request.specs.Range.{maxBytes, session, minute, holds as heldRange}
 use Rattle.request.specs.Request.{Booking, word, issue, withdraw, book, tally, intervals}
 use Rattle.request.specs.Read.{requestOf}
 use Rattle.request.specs.Write.{write}
-use Rattle.request.specs.InRange.{InRange}
+use Rattle.request.specs.InRange.{_inRange_, InRange}
 use Rattle.request.proofs.Requests.{write-read, read-in-range, write-short}
 use Rattle.ledger.specs.declared.Credential.{Credential}
 use Rattle.ledger.specs.Ledger.{Ledger, formula, byKind, find, held, spend}
@@ -46,8 +46,9 @@ use Rattle.ledger.proofs.Passed.{PassedBook, passed-book}
 use Rattle.snapshot.specs.Snapshot.{credentialRules}
 use Rattle.snapshot.specs.InForm.{Lawful}
 use Rattle.snapshot.proofs.Lawful.{begins-lawful}
-use Rattle.demands.specs.Demands.{Begins, hyp, hypsOf, Demand3}
+use Rattle.demands.specs.Demands.{Begins, hyp, hypsOf, AddsUp, Demand3}
 use Rattle.steps.specs.Limits.{Writable}
+use Rattle.demands.proofs.Start.{Ready}
 use Rattle.demands.proofs.Demand2.{few-held, writable-steps, steps-derive}
 use Rattle.demands.proofs.Agrees.{note-silent}
 use Rattle.demands.proofs.Agrees.{Right, seatsAndPlacesIn, Agrees, event, new, given-right}
@@ -107,10 +108,16 @@ unfolding formulaIn givenIn issued withdrawn
 book-keeps t h b a p le w =
     let hs = held (t .live) (b .holds) in
     let v = splits (Right t h) t (b .holds) (p .alive) (p .apart) (a .credentials) in
-    let d = steps-derive t (a .tabled) hs (few-held t (b .holds) le) (b .formula) (b .interval) (b .steps) w
-    (p .closes) .0 in
+    let ready : Ready t hs = record {
+      tabled = a .tabled;
+      lines = a .lines;
+      named = every-map (λ c r. omega (arith, r .there, a .lines)) hs (v .went);
+    } in
+    let d = steps-derive t hs ready (few-held t (b .holds) le) (b .formula) (omega (arith, p .there, a .lines))
+    (b .interval) (b .steps) w (p .closes) .0 in
     record {
       tabled = same-table t _ _ (a .tabled);
+      lines = a .lines;
       formulas = a .formulas;
       credentials = given-right t h _ (spend (t .live) hs) Linear (b .formula) (b .interval) refl (v .stay)
           (p .there) (p .plain);
@@ -126,7 +133,8 @@ book-keeps t h b a p le w =
 -- Every accepted request keeps ledger and history agreed, so every list of calls does.
 accept-keeps : Keeps note Agrees
 unfolding accept
-accept-keeps t h b (word l) e p a = word-keeps t h l a (passed-word t l (p .rest) .there)
+accept-keeps t h b (word l) e p a =
+    let q = passed-word t l (p .rest) in word-keeps t h l a (q .there) (q .room)
 accept-keeps t h b (issue k n i) e p a =
     let q = passed-issue t k n i (p .rest) in issue-keeps t h k n i a (q .there) (q .fits)
 accept-keeps t h b (withdraw n) e p a =
@@ -149,19 +157,32 @@ begun-right t lo (c ∷ cs) f r b o =
         given = ap givenOf (f (c .serial) above) ∙ rw (eq-eqb (c .serial) (c .serial) refl, find);
         below = b .0;
         there = leb-false _ _ (if-none 10 _ (present .0));
-        fits = fits-kind (c .kind) (formula t (c .formula)) (present .1 .0);
+        fits = fits-kind (c .kind) (formula t (c .formula)) (present .1 .1 .0);
       },
       begun-right t (c .serial) cs
           (λ m h. f m (omega arith) ∙ rw (ne-eqb (c .serial) m (λ e. omega arith), find)) (r .1) (b .1) (o .1),
     )
 
+-- its formulas are the ledger's; issued is what the linear credentials hold, and nothing is withdrawn
+begun-formulas : (t : Ledger) → formulaIn (begun t) ≡ formula t
+unfolding formulaIn
+begun-formulas t = refl
+
+begun-issued : (t : Ledger) (s : ℕ) → issued s (begun t) ≡ sum (linearly (seatsAndPlacesIn t s)) (t .live)
+unfolding issued
+begun-issued t s = refl
+
+begun-withdrawn : (t : Ledger) (s : ℕ) → withdrawn s (begun t) ≡ 0
+unfolding withdrawn
+begun-withdrawn t s = refl
+
 begun-agrees : (t : Ledger) → Lawful t → Agrees t (begun t)
-unfolding formulaIn withdrawn issued
 begun-agrees t w = record {
   tabled = w .bounded .tabled;
-  formulas = refl;
+  lines = w .bounded .lines;
+  formulas = begun-formulas t;
   credentials = begun-right t 0 (t .live) (λ m h. refl) (w .bounded .rises) (w .bounded .below) (w .obeys);
-  totals = λ s. omega arith;
+  totals = λ s. omega (arith, begun-issued t s, begun-withdrawn t s);
 }
 
 pub agrees : (start : Ledger) → Begins start → (bs : List (List ℕ)) → Agrees (after start bs) (historyOf start bs)
@@ -196,9 +217,10 @@ unfolding checks intervals
 tally-accepted t s m b le e =
     call-read t b (tally s m) le e ∙ handle-passes t (tally s m) (none-stops (no-intervals t (tally s m) refl))
 
-pub demand-3 : Demand3
+adds-up : (start : Ledger) (calls : List (List ℕ)) (s m : ℕ) → s inRange session → m inRange minute
+    → Agrees (after start calls) (historyOf start calls) → AddsUp start calls s m
 unfolding accept openSeats shutSeats placed
-demand-3 start g calls s m hs hm =
+adds-up start calls s m hs hm a =
     let t = after start calls in
     let r : InRange (tally s m) = record { session = hs; minute = hm } in
     let e = tally-accepted t s m (write (tally s m)) (write-short (tally s m) r) (write-read (tally s m) r) in
@@ -207,5 +229,8 @@ demand-3 start g calls s m hs hm =
       shutSeats = shutSeats t s m;
       placed = placed t s;
       answer = ap heard e;
-      sum = omega (arith, agrees start g calls .totals s, tally-sum t s m (t .live));
+      sum = omega (arith, a .totals s, tally-sum t s m (t .live));
     }
+
+pub demand-3 : Demand3
+demand-3 start g calls s m hs hm = adds-up start calls s m hs hm (agrees start g calls)

@@ -3,27 +3,45 @@ use mathlib.Core.Path.{_≡_, refl, ap, subst, _∙_}
 use mathlib.Core.Logic.{inl, inr}
 use mathlib.Core.List.{List, [], _∷_}
 use mathlib.Core.Option.{Option, none, some}
-use Prim.Native.Nat.{ℕ}
+use Prim.Native.Nat.{ℕ, _<_}
 use native.Mathlib.Omega.{arith}
 use Rattle.logic.specs.Multiset.{Every}
+use Rattle.logic.proofs.Multisets.{every-map}
+use Rattle.request.specs.Range.{formulaNumber}
+use Rattle.request.specs.InRange.{_inRange_}
 use Rattle.request.specs.Request.{Booking, Request, book}
 use Rattle.request.specs.Read.{requestOf}
 use Rattle.request.proofs.Requests.{read-in-range}
+use Rattle.steps.specs.Instance.{radix}
 use Rattle.ledger.specs.Ledger.{Ledger, held}
 use Rattle.ledger.specs.Checks.{Check, dead, readChecks, checksOf}
 use Rattle.ledger.specs.Statements.{Pass}
 use Rattle.ledger.proofs.Answers.{some-none, passed-bytes, stepsIn, TableRow, table-rows}
-use Rattle.ledger.proofs.Credentials.{any-none, held-all}
+use Rattle.ledger.proofs.Credentials.{any-none, held-all, every-held}
 use Rattle.ledger.proofs.Passed.{PassedRead, passed-read, passed-book}
 use Rattle.ledger.specs.Bounds.{Bounded}
 use Rattle.snapshot.proofs.Lawful.{lawful}
 use Rattle.demands.specs.Demands.{Reached, Soundness, OnlySteps}
 use Rattle.demands.specs.Demands.{Exactness}
+use Rattle.demands.proofs.Start.{Ready}
 use Rattle.demands.proofs.Demand1.{demand-1}
 use Rattle.demands.proofs.Demand2.{few-held, writable-steps, steps-exactly, steps-refused, steps-derive}
 
 pub reached-bounded : (t : Ledger) → Reached t → Bounded t
 reached-bounded t r = lawful t r .bounded
+
+-- a reached ledger is ready for a booking of any holds; a request names a formula by its own number
+pub reached-ready : (t : Ledger) → Reached t → (hs : List ℕ) → Ready t (held (t .live) hs)
+reached-ready t r hs =
+    let w = lawful t r in
+    record {
+      tabled = w .bounded .tabled;
+      lines = w .bounded .lines;
+      named = every-held _ (t .live) hs (every-map (λ c i. omega (arith, i .formula .most)) (t .live) (w .live));
+    }
+
+pub own-number : {n : ℕ} → n inRange formulaNumber → n < radix
+own-number r = omega (arith, r .most)
 
 -- an accepted booking has passed its checks
 pub passed : (t : Ledger) (bytes : List ℕ) (b : Booking) → requestOf bytes ≡ some (book b) → Pass (checksOf t bytes)
@@ -36,8 +54,8 @@ soundness t reached bytes b e a =
     let p = passed t bytes b e (demand-1 t bytes .accepted .0 a) in
     let q = passed-book t b (p .rest) in
     let r = read-in-range bytes (book b) e in
-    let s = steps-derive t (reached-bounded t reached .tabled) (held (t .live) (b .holds))
-    (few-held t (b .holds) (r .holdCount .most)) (b .formula) (b .interval) (b .steps)
+    let s = steps-derive t (held (t .live) (b .holds)) (reached-ready t reached (b .holds))
+    (few-held t (b .holds) (r .holdCount .most)) (b .formula) (own-number (r .formula)) (b .interval) (b .steps)
     (writable-steps b r (p .formed)) (q .closes) in
     record {
       derivation = s .0;
@@ -64,10 +82,11 @@ others-pass p (c ∷ cs) r o = (other-passes p c (r .0) (o .0), others-pass p cs
 
 pub exactness : Exactness
 exactness t reached bytes b e =
-    let few = few-held t (b .holds) (read-in-range bytes (book b) e .holdCount .most) in
-    let tabled = reached-bounded t reached .tabled in
+    let r = read-in-range bytes (book b) e in
+    let few = few-held t (b .holds) (r .holdCount .most) in
+    let ready = reached-ready t reached (b .holds) in
     let cs = held (t .live) (b .holds) in
-    let x = steps-exactly t tabled cs few (b .formula) (b .interval) (b .steps) in
+    let x = steps-exactly t cs ready few (b .formula) (own-number (r .formula)) (b .interval) (b .steps) in
     let d = demand-1 t bytes .accepted in
     record {
       accepted = (
@@ -75,5 +94,5 @@ exactness t reached bytes b e =
             (pass-only (checksOf t bytes) p, x .0 (passed-book t b (passed t bytes b e p .rest) .closes)),
         λ h. d .1 (others-pass (ap (stepsIn t) e ∙ x .1 (h .1)) (checksOf t bytes) (table-rows t bytes) (h .0)),
       );
-      stopped = steps-refused t tabled cs few (b .formula) (b .interval) (b .steps);
+      stopped = steps-refused t cs ready few (b .formula) (own-number (r .formula)) (b .interval) (b .steps);
     }

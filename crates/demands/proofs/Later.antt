@@ -28,7 +28,7 @@ use Rattle.demands.specs.Demands.{Reached}
 use Rattle.demands.specs.Later.{arriving, Arrives, LaterArrival}
 use Rattle.demands.proofs.Demand1.{demand-1, call-accepts}
 use Rattle.demands.proofs.Demand2.{few-held, steps-exactly}
-use Rattle.demands.proofs.Exactness.{reached-bounded, passed}
+use Rattle.demands.proofs.Exactness.{reached-ready, own-number, passed}
 
 module _ (t : Ledger) (reached : Reached t) (bytes : List ℕ) (b : Booking) (e : requestOf bytes ≡ some (book b))
     (a : IsAccepted (toldOf t bytes)) (now : ℕ) (i : Interval) (formed : WellFormed i) (c : b .interval ⊇ i)
@@ -61,8 +61,8 @@ module _ (t : Ledger) (reached : Reached t) (bytes : List ℕ) (b : Booking) (e 
   closes : steps t (held (t .live) (b .holds)) (b .formula) i (b .steps) ≡ none
   closes =
       let cs = held (t .live) (b .holds) in
-      let exactly = steps-exactly t (reached-bounded t reached .tabled) cs
-      (few-held t (b .holds) (range .holdCount .most)) (b .formula) in
+      let exactly = steps-exactly t cs (reached-ready t reached (b .holds))
+      (few-held t (b .holds) (range .holdCount .most)) (b .formula) (own-number (range .formula)) in
       let s = exactly (b .interval) (b .steps) .0 (passed-book t b (passes .rest) .closes) in
       exactly i (b .steps) .1 (s .0, narrowed (s .1) (holds (formula t (b .formula)) i) (at-holds c))
 

@@ -10,7 +10,7 @@ use Prim.Native.Nat.{ℕ, _+_, _≤_}
 use lib.ListN.{length}
 use Rattle.logic.specs.declared.Interval.{Interval}
 use Rattle.logic.specs.Interval.{WellFormed, has}
-use Rattle.logic.specs.Formula.{plain}
+use Rattle.logic.specs.Formula.{plain, unbound}
 use Rattle.logic.specs.Multiset.{Every}
 use Rattle.logic.specs.Derives.{Hyp, _⟦_⟧, Judgment, holds, Derives, Letter, letters, uses, taken}
 use Rattle.request.specs.declared.Kind.{Kind}
@@ -69,7 +69,7 @@ abbrev pub Derivation : Ledger → List Credential → ℕ → Interval → Type
 Derivation t cs n i = Derives (hypsOf t Unrestricted cs) (hypsOf t Linear cs) (holds (formula t n) i)
 
 -- Soundness: an accepted booking's steps are a derivation of its goal from the credentials that it names: its rules,
--- in their order and with the intervals that they choose, are those that the step lines name.
+-- in their order and with the intervals and holders that they choose, are those that the step lines name.
 pub record SoundFor (t : Ledger) (b : Booking) : Type 0 where
   pub derivation : Derivation t (held (t .live) (b .holds)) (b .formula) (b .interval)
   pub lines : lettersOf (b .steps) ≡ letters derivation
@@ -103,19 +103,21 @@ pub record StepsFor (t : Ledger) (n : ℕ) (i : Interval) (hs : List ℕ) (rules
   pub writable : Every Writable lines
   pub pass : (now : ℕ) → stepsOf t (booking now n i hs lines) ≡ none
 
--- every derivation within the limits has step lines that pass, whatever its goal and the booking's minute; the limit
--- of 32 credentials is not needed here
+-- every derivation within the limits has step lines that pass, whatever its goal among the ledger's formulas and the
+-- booking's minute; the limit of 32 credentials is not needed here
 abbrev pub StepsComplete : Type 0
-StepsComplete = (t : Ledger) → Reached t → (n : ℕ) (i : Interval) (hs : List ℕ)
+StepsComplete = (t : Ledger) → Reached t → (n : ℕ) (i : Interval) (hs : List ℕ) → missing t n ≡ false
     → (x : Derivation t (held (t .live) hs) n i) → WithinLimits (length hs) x → StepsFor t n i hs (letters x)
 
 -- Down to bytes, for what a booking may name by the checks before its steps: its credentials live and no two alike,
--- its goal a plain formula of the ledger, its interval in range and well formed, with the minute in it.
+-- its goal a plain formula of the ledger without an unbound holder, its interval in range and well formed, with the
+-- minute in it.
 pub record May (t : Ledger) (now n : ℕ) (i : Interval) (hs : List ℕ) : Type 0 where
   pub few : length hs ≤ holdCount .last
   pub live : anyOf (dead t) hs ≡ false
   pub apart : twice hs ≡ false
   pub there : missing t n ≡ false
+  pub bound : unbound (formula t n) ≡ false
   pub plain : plain (formula t n) ≡ true
   pub formed : WellFormed i
   pub ranged : i .to ≤ minute .last

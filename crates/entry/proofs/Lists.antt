@@ -62,7 +62,7 @@ module _ (start : Ledger) (l l₁ b n l₂ : List ℕ) (bs ns : List (List ℕ))
   t = after start bs
 
   at : ledgerOf l₁ ≡ t
-  at = played-is start l l₁ bs ns g p .0
+  at = played start (g .stands .ledger) p .0
 
   says-it : n ≡ numbers (toldOf t b)
   says-it = h .answer ∙ ap (λ (u : Ledger). numbers (toldOf u b)) at

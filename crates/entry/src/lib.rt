@@ -1,4 +1,4 @@
-// The entry for C (include/oysterbrim.h): the till is a block of 10,996 numbers that the caller keeps, a sheet is bytes
+// The entry for C (include/oysterbrim.h): the till is a block of 11,596 numbers that the caller keeps, a sheet is bytes
 // with a length, and the caller lends 2,048 numbers to work on and four for the answer. Closing and opening are in
 // crate entry_text.
 use ledger::Answer;
@@ -18,11 +18,11 @@ ghost use Rattle.entry.specs.Entered.{numbers, Entered};
 ghost use Rattle.entry.specs.Played.{StartMade, CallsMeet, PlayedIs, CallsAnswered, BookingsExact};
 ghost use Rattle.entry.specs.Played.{CallsAddUp, CallsArrive};
 
-const EDITION: u32 = 1;
+const EDITION: u32 = 2;
 
 // The edition, under a name that only a library of this edition has: the header's till_start and till_open refer to it.
 #[no_mangle]
-pub extern "C" fn till_edition_1() -> u32
+pub extern "C" fn till_edition_2() -> u32
     ensures { λ r. ⌜ r ≡ edition ⌝ }
 {
     EDITION
@@ -33,7 +33,7 @@ pub extern "C" fn till_edition_1() -> u32
 pub extern "C" fn till_edition() -> u32
     ensures { λ r. ⌜ r ≡ edition ⌝ }
 {
-    till_edition_1()
+    till_edition_2()
 }
 
 #[no_mangle]

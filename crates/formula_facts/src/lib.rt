@@ -1,15 +1,16 @@
-// What is known of a formula from its row and the store: whether its parts are there, size, plain.
+// What is known of a formula from its row and the store: whether its parts are there, size, plain, holders.
 use formula_parts::Parts;
 use steps::Row;
+use steps::letters;
 use store::Store;
 ghost use mathlib.Core.Path.{_≡_};
 ghost use mathlib.Core.Bool.{not};
 ghost use Rattle.logic.specs.Formula.{size, plain};
 ghost use Rattle.ledger.specs.Table.{form, names};
 ghost use Rattle.ledger.specs.Ledger.{formula};
-ghost use Rattle.ledger.specs.Checks.{anyOf, missing};
+ghost use Rattle.ledger.specs.Checks.{anyOf, missing, nests};
 ghost use Rattle.store.specs.Store.{lineOf, ledgerOf, Canonical};
-ghost use Rattle.formula_facts.specs.Facts.{Formable};
+ghost use Rattle.formula_facts.specs.Facts.{Formable, PartsHoldersOf, HoldersOf};
 
 // Whether the ledger has every formula that the row names.
 pub fn names_there(store: &Store, row: Row) -> bool
@@ -49,4 +50,56 @@ pub fn row_plain(store: &Store, row: Row) -> bool
         Parts::One(i) => store::plain_at(store, i),
         Parts::Two(i, j) => store::plain_at(store, i) && store::plain_at(store, j),
     }
+}
+
+// Holders (document 02, ask 7): whether there is an unbound one, holder 0 outside `q`, and whether a `q` stands there.
+pub struct Holders {
+    pub unbound: bool,
+    pub quantified: bool,
+}
+
+// In the parts of the row's formula.
+fn parts_holders(store: &Store, row: Row) -> Holders
+    requires { ⌜ Formable (now store) row ⌝ }
+    ensures { λ r. ⌜ PartsHoldersOf (now (store .entry)) row (r .unbound) (r .quantified) ⌝ }
+{
+    match formula_parts::parts_of(row) {
+        Parts::Nothing => Holders {
+            unbound: false,
+            quantified: false,
+        },
+        Parts::One(i) => Holders {
+            unbound: store::unbound_at(store, i),
+            quantified: store::quantified_at(store, i),
+        },
+        Parts::Two(i, j) => Holders {
+            unbound: store::unbound_at(store, i) | store::unbound_at(store, j),
+            quantified: store::quantified_at(store, i) | store::quantified_at(store, j),
+        },
+    }
+}
+
+// In the formula.
+pub fn row_holders(store: &Store, row: Row) -> Holders
+    requires { ⌜ Formable (now store) row ⌝ }
+    ensures { λ r. ⌜ HoldersOf (now (store .entry)) row (r .unbound) (r .quantified) ⌝ }
+{
+    let parts = parts_holders(store, row);
+    let every = row.letter == letters::FOR_EVERY;
+    let bare = (row.letter == letters::NAMED) & (row.holder == 0);
+    Holders {
+        unbound: bare | (!every & parts.unbound),
+        quantified: every | parts.quantified,
+    }
+}
+
+// Whether the row's line puts `q` within `q`.
+pub fn row_nested(store: &Store, row: Row) -> bool
+    requires { ⌜ Formable (now store) row ⌝ }
+    ensures { λ r. ⌜ r ≡ nests (ledgerOf (now (store .entry))) (lineOf row) ⌝ }
+{
+    if row.letter != letters::FOR_EVERY {
+        return false;
+    }
+    store::quantified_at(store, row.a)
 }

@@ -19,10 +19,14 @@ abbrev pub pairs : List ℕ
 pairs = code "t" ∷ code "w" ∷ code "p" ∷ code "l" ∷ code "u" ∷ []
 
 abbrev pub wraps : List ℕ
-wraps = code "b" ∷ code "h" ∷ []
+wraps = code "b" ∷ code "h" ∷ code "q" ∷ []
 
 abbrev pub plains : List ℕ
-plains = code "a" ∷ code "t" ∷ code "s" ∷ []
+plains = code "a" ∷ code "t" ∷ code "s" ∷ code "n" ∷ []
+
+-- the letter is that of an atom
+abbrev pub atomic : ℕ → Bool
+atomic c = eqb c (code "a") || eqb c (code "n")
 
 -- the numbers that a row names
 unfoldable pub partsOf : Row → List ℕ

@@ -37,11 +37,12 @@ pub fn parts_of(row: Row) -> Parts
         letters::BANG => Parts::One(row.a),
         letters::AT => Parts::One(row.a),
         letters::SAYS => Parts::One(row.b),
+        letters::FOR_EVERY => Parts::One(row.a),
         _ => Parts::Nothing,
     }
 }
 
-// "Plain: only `a`, `t`, `s`."
+// "Plain: only `a`, `t`, `s`", and `n` (document 02, ask 7).
 pub fn plain_letter(letter: u32) -> bool
     ensures { λ r. ⌜ r ≡ among letter plains ⌝ }
 {
@@ -49,6 +50,7 @@ pub fn plain_letter(letter: u32) -> bool
         letters::ATOM => true,
         letters::TENSOR => true,
         letters::SAYS => true,
+        letters::NAMED => true,
         _ => false,
     }
 }

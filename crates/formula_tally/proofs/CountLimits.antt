@@ -5,7 +5,7 @@ use Prim.Native.Nat.{ℕ, _+_, _*_, _%_, _≤_}
 use native.Mathlib.Omega.{arith}
 use lib.Dec.{eqb}
 use Rattle.logic.specs.Formula.{Formula, atom, one, tensor, with, plus, lolli, implies, bang, at, says, superset}
-use Rattle.logic.specs.Formula.{size, count, seat, place, seats, places, houseUnder}
+use Rattle.logic.specs.Formula.{forEvery, size, count, seat, place, seats, places, houseUnder}
 use Rattle.logic.proofs.Tests.{bit-le}
 use Rattle.logic.proofs.Houses.{house-seats}
 use Rattle.ledger.specs.Checks.{maxSize}
@@ -14,7 +14,7 @@ use Rattle.formula_tally.specs.Tally.{counts, seatsIn, placesIn, houseIn
 
 pub count-le : (q s : ℕ) (a : Formula) → count q s a ≤ size a
 unfolding count size
-count-le q s (atom p t) = bit-le (eqb p q && eqb t s)
+count-le q s (atom p t o) = bit-le (eqb p q && eqb t s)
 count-le q s one = omega arith
 count-le q s (tensor a b) = omega (arith, count-le q s a, count-le q s b)
 count-le q s (with a b) = omega (arith, count-le q s a, count-le q s b)
@@ -25,6 +25,7 @@ count-le q s (bang a) = omega (arith, count-le q s a)
 count-le q s (at a i) = omega (arith, count-le q s a)
 count-le q s (says k a) = omega (arith, count-le q s a)
 count-le q s (superset i j) = omega arith
+count-le q s (forEvery a) = omega (arith, count-le q s a)
 
 house-le : (under : Bool) (s : ℕ) (a : Formula) → houseUnder under s a ≤ size a
 house-le under s a = omega (arith, house-seats under s a, count-le seat s a)

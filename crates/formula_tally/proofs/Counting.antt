@@ -23,7 +23,7 @@ use Rattle.ledger.specs.Bounds.{lineAt}
 use Rattle.store_cells.specs.Layout.{rowAt}
 use Rattle.store.specs.Store.{ledgerOf, Good}
 use Rattle.store.proofs.Views.{row-is}
-use Rattle.formula_parts.specs.Parts.{partsOf}
+use Rattle.formula_parts.specs.Parts.{partsOf, atomic}
 use Rattle.formula_parts.proofs.PartsOfRows.{parts-row}
 use Rattle.formula_tally.specs.Column.{entry, early, placeUnit, houseUnit, underUnit, entryMost}
 use Rattle.formula_tally.specs.Column.{Countable}
@@ -79,6 +79,8 @@ module _ (T : ℕ → Formula) (small : (k : ℕ) → size (T k) ≤ maxSize) wh
   row-counts s (Line.says k i) =
       said-counts s k (T i) (small i) ∙ ap (saidCounts k) (sym (add-zero (counts s (T i))))
   row-counts s (Line.superset v w) = refl
+  row-counts s (Line.named p t k) = atom-counts s p t
+  row-counts s (Line.forEvery i) = omega arith
 
 sum-zero : (f : ℕ → ℕ) → ((k : ℕ) → f k ≡ 0) → (ns : List ℕ) → sum f ns ≡ 0
 unfolding sum
@@ -132,7 +134,7 @@ module _ (l : List ℕ) (s : ℕ) where
     nothing : (xs : List ℕ) → ((k : ℕ) → entry xs k ≡ 0) → (i : ℕ) → atomOf s (rowAt l i) ≡ false
         → rowCounts s (entry xs) (rowAt l i) ≡ 0
     unfolding rowCounts
-    nothing xs z i e = go (eqb (r .letter) (code "a")) (eqb (r .letter) (code "s")) refl
+    nothing xs z i e = go (atomic (r .letter)) (eqb (r .letter) (code "s")) refl
       where
         r : Row
         r = rowAt l i
@@ -142,7 +144,7 @@ module _ (l : List ℕ) (s : ℕ) where
         said true n h = omega arith
         said false n h = omega arith
 
-        go : (b c : Bool) → eqb (r .letter) (code "a") ≡ b
+        go : (b c : Bool) → atomic (r .letter) ≡ b
             → pick b (atomCounts s (r .a) (r .b))
             (pick c (saidCounts (r .a) (sum (entry xs) (partsOf r))) (sum (entry xs) (partsOf r))) ≡ 0
         go true c q = rw (rw q at e)

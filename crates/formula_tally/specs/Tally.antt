@@ -18,7 +18,7 @@ use Rattle.ledger.specs.Checks.{maxFormulas}
 use Rattle.ledger.specs.Calls.{only, openSeats, shutSeats, placed}
 use Rattle.store_cells.specs.Layout.{rowAt}
 use Rattle.store.specs.Store.{ledgerOf}
-use Rattle.formula_parts.specs.Parts.{partsOf}
+use Rattle.formula_parts.specs.Parts.{partsOf, atomic}
 use Rattle.formula_tally.specs.declared.Figures.{Figures}
 use Rattle.formula_tally.specs.declared.Addend.{Addend}
 use Rattle.formula_tally.specs.Column.{Column, byte, placeUnit, houseUnit, underUnit}
@@ -56,12 +56,12 @@ saidCounts k n = n % houseUnit + (houseUnit + underUnit) * nearest k n
 unfoldable pub rowCounts : ℕ → (ℕ → ℕ) → Row → ℕ
 rowCounts s f r =
     let n = sum f (partsOf r) in
-    pick (eqb (r .letter) (code "a")) (atomCounts s (r .a) (r .b))
+    pick (atomic (r .letter)) (atomCounts s (r .a) (r .b))
     (pick (eqb (r .letter) (code "s")) (saidCounts (r .a) n) n)
 
 -- the row is an atom of session s
 abbrev pub atomOf : ℕ → Row → Bool
-atomOf s r = eqb (r .letter) (code "a") && eqb (r .b) s
+atomOf s r = atomic (r .letter) && eqb (r .b) s
 
 -- nothing written yet
 abbrev pub Blank : List ℕ → Type 0

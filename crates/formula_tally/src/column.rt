@@ -89,7 +89,7 @@ pub fn count_row(row: Row, session: u32, column: &Column) -> u32
     requires { ⌜ Countable (now column) row ⌝ }
     ensures { λ r. ⌜ r ≡ rowCounts session (entry (now (column .entry))) row ⌝ }
 {
-    if row.letter == letters::ATOM {
+    if (row.letter == letters::ATOM) | (row.letter == letters::NAMED) {
         return atom(row.a, row.b, session);
     }
     let parts = added(formula_parts::parts_of(row), column);

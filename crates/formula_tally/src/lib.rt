@@ -41,7 +41,7 @@ fn first_atom(store: &Store, session: u32) -> u32
     let mut i = 0;
     while i < n {
         let row = store::line_at(store, i);
-        if (row.letter == letters::ATOM) & (row.b == session) {
+        if ((row.letter == letters::ATOM) | (row.letter == letters::NAMED)) & (row.b == session) {
             return i;
         }
         i += 1;

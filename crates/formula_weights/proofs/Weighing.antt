@@ -10,7 +10,7 @@ use lib.ListN.{length}
 use borrow.Author.Tests.{eqb-true, eq-eqb, ne-eqb}
 use Rattle.logic.specs.Choice.{pick}
 use Rattle.logic.specs.Formula.{Formula, atom, one, tensor, with, plus, lolli, implies, bang, at, says, superset}
-use Rattle.logic.specs.Formula.{size}
+use Rattle.logic.specs.Formula.{forEvery, size}
 use Rattle.logic.specs.Counts.{up, down, even, level, sessionsOf, allOf, balanced}
 use Rattle.logic.specs.Multiset.{sum, Every}
 use Rattle.logic.proofs.Tests.{bit-le, left-true, right-true}
@@ -24,7 +24,7 @@ use Rattle.store.specs.Store.{lineOf, ledgerOf, Good}
 use Rattle.store.proofs.Views.{row-is}
 use Rattle.store.proofs.LinesOfRows.{line-of-row}
 use Rattle.formula_parts.specs.declared.Parts.{Parts}
-use Rattle.formula_parts.specs.Parts.{partsOf, numbers}
+use Rattle.formula_parts.specs.Parts.{partsOf, numbers, atomic}
 use Rattle.formula_facts.specs.Facts.{Formable}
 use Rattle.formula_facts.proofs.Named.{parts-are, parts-there, parts-size}
 use Rattle.formula_weights.specs.declared.Weight.{Weight}
@@ -39,7 +39,7 @@ weighed s r (x ∷ []) = underWeight (r .letter) x
 weighed s r (x ∷ y ∷ zs) = joinedWeight (r .letter) x y
 
 abbrev pub gathered : Row → List (List ℕ) → List ℕ
-gathered r [] = pick (eqb (r .letter) (code "a")) (r .b ∷ []) []
+gathered r [] = pick (atomic (r .letter)) (r .b ∷ []) []
 gathered r (x ∷ []) = x
 gathered r (x ∷ y ∷ zs) = x ++ y
 
@@ -49,7 +49,7 @@ Alike f [] b = Unit {0}
 Alike f (k ∷ []) b = f k ≡ b
 Alike f (k ∷ j ∷ ns) b = Unit {0}
 
--- !, @ and ⟨K⟩ are balanced if their part is
+-- !, @, ⟨K⟩ and ∀ are balanced if their part is
 bang-balanced : (a : Formula) → balanced a ≡ balanced (bang a)
 unfolding balanced sessionsOf up even
 bang-balanced a = ap (λ (f : ℕ → Bool). allOf f (sessionsOf a)) (fun-ext (λ s. twice (level s a) (even s a)))
@@ -72,6 +72,8 @@ module _ (T : ℕ → Formula) where
   balance-row (Line.at i w) = refl
   balance-row (Line.says k i) = refl
   balance-row (Line.superset v w) = tt
+  balance-row (Line.named p t k) = tt
+  balance-row (Line.forEvery i) = refl
 
   weight-row : (s : ℕ) (l : Line)
       → weighed s (rowOf l) (map (λ k. weightOf s (T k)) (partsOf (rowOf l))) ≡ weightOf s (form T l)
@@ -87,6 +89,8 @@ module _ (T : ℕ → Formula) where
   weight-row s (Line.at i w) = refl
   weight-row s (Line.says k i) = refl
   weight-row s (Line.superset v w) = refl
+  weight-row s (Line.named p t k) = refl
+  weight-row s (Line.forEvery i) = refl
 
   sessions-row : (l : Line)
       → gathered (rowOf l) (map (λ k. sessionsOf (T k)) (partsOf (rowOf l))) ≡ sessionsOf (form T l)
@@ -102,6 +106,8 @@ module _ (T : ℕ → Formula) where
   sessions-row (Line.at i w) = refl
   sessions-row (Line.says k i) = refl
   sessions-row (Line.superset v w) = refl
+  sessions-row (Line.named p t k) = refl
+  sessions-row (Line.forEvery i) = refl
 
 -- the number of a part of a formula of size t: what is asked before its row is read, and that it is smaller
 pub record Part (l : List ℕ) (t k : ℕ) : Type 0 where
@@ -148,7 +154,7 @@ module _ (r : Row) (p : Parts) (e : numbers p ≡ partsOf r) (l : List ℕ) (f :
 -- no formula weighs more than its size
 weight-le : (s : ℕ) (a : Formula) → up s a + down s a ≤ size a
 unfolding up size
-weight-le s (atom p t) = omega (arith, bit-le ((eqb p 1 || eqb p 2) && eqb t s))
+weight-le s (atom p t o) = omega (arith, bit-le ((eqb p 1 || eqb p 2) && eqb t s))
 weight-le s one = omega arith
 weight-le s (tensor a b) = omega (arith, weight-le s a, weight-le s b)
 weight-le s (with a b) = omega (arith, weight-le s a, weight-le s b)
@@ -159,6 +165,7 @@ weight-le s (bang a) = omega (arith, weight-le s a)
 weight-le s (at a i) = omega (arith, weight-le s a)
 weight-le s (says k a) = omega (arith, weight-le s a)
 weight-le s (superset i j) = omega arith
+weight-le s (forEvery a) = omega (arith, weight-le s a)
 
 -- of the row of a part
 module _ {l : List ℕ} {t n : ℕ} (p : Part l t n) {r : Row} (e : r ≡ rowAt l n) where
@@ -223,13 +230,13 @@ module _ (f : ℕ → Bool) where
   tries-new s h = record { all = h ∙ sym (and-true (f s)); sure = λ q. sym h ∙ q }
 
   -- of a row without parts
-  pub tries-atom : (r : Row) {x : Tried} → r .letter ≡ code "a" → Tries f (r .b ∷ []) x → Tries f (gathered r []) x
-  tries-atom r e h = rw (eq-eqb _ _ e) h
+  pub tries-atom : (r : Row) {x : Tried} → atomic (r .letter) ≡ true → Tries f (r .b ∷ []) x → Tries f (gathered r []) x
+  tries-atom r e h = rw e h
 
-  pub tries-other : (r : Row) (x : Tried) → (r .letter ≡ code "a" → ⊥) → Sure f x
+  pub tries-other : (r : Row) (x : Tried) → atomic (r .letter) ≡ false → Sure f x
       → Tries f (gathered r []) (record { all = true; sure = x .sure; session = x .session })
   unfolding allOf
-  tries-other r x n h = rw (ne-eqb _ _ n) (record { all = refl; sure = h })
+  tries-other r x n h = rw n (record { all = refl; sure = h })
 
   -- of two parts: what the left one is not, both are not; if it is, the right one decides
   module _ (xs ys : List ℕ) {x : Tried} (h : Tries f xs x) where

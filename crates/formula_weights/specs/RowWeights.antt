@@ -11,6 +11,7 @@ use Rattle.logic.specs.Weight.{counted}
 use Rattle.logic.specs.Counts.{up, down, even, level, allOf}
 use Rattle.steps.specs.declared.Row.{Row}
 use Rattle.ledger.specs.Checks.{maxSize}
+use Rattle.formula_parts.specs.Parts.{atomic}
 use Rattle.formula_weights.specs.declared.Weight.{Weight}
 use Rattle.formula_weights.specs.declared.Tried.{Tried}
 
@@ -23,7 +24,7 @@ neutralFor a s = level s a && even s a
 
 -- a row of no part
 unfoldable pub aloneWeight : ℕ → Row → Weight
-aloneWeight s r = pick (eqb (r .letter) (code "a"))
+aloneWeight s r = pick (atomic (r .letter))
     (record { up = counted s (r .a) (r .b); down = 0; even = true })
     (record { up = 0; down = 0; even = true })
 

@@ -41,7 +41,7 @@ fn atom_weight(predicate: u32, of: u32, session: u32) -> u32
 fn alone(row: Row, session: u32) -> Weight
     ensures { λ r. ⌜ r ≡ aloneWeight session row ⌝ }
 {
-    if row.letter == letters::ATOM {
+    if (row.letter == letters::ATOM) | (row.letter == letters::NAMED) {
         return Weight {
             up: atom_weight(row.a, row.b, session),
             down: 0,
@@ -169,7 +169,7 @@ fn neutral_within(store: &Store, row: Row, part: Row, last: Tried) -> Tried
 {
     match formula_parts::parts_of(part) {
         Parts::Nothing => {
-            if part.letter == letters::ATOM {
+            if (part.letter == letters::ATOM) | (part.letter == letters::NAMED) {
                 return neutral_for(store, row, part.b, last);
             }
             Tried {

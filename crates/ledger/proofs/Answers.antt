@@ -20,7 +20,7 @@ use Rattle.steps.specs.Check.{Outcome, done, stopped, checkOf}
 use Rattle.steps.proofs.Outcomes.{Sane, check-sane}
 use Rattle.ledger.specs.declared.Credential.{Credential}
 use Rattle.ledger.specs.declared.Answer.the-variants.{Refused}
-use Rattle.ledger.specs.Ledger.{Ledger, row, isNone, held}
+use Rattle.ledger.specs.Ledger.{Ledger, rowFor, isNone, held}
 use Rattle.ledger.specs.Checks.{Refusal, Check, _if_, first, readLabel, writeLabel, verdict, steps, checks}
 use Rattle.ledger.specs.Checks.{readChecks, checksOf}
 use Rattle.ledger.specs.Calls.{Reply, Told, ok, told, accept, decide, call}
@@ -107,8 +107,8 @@ verdict-proper total left (stopped c n) s = record {
 steps-proper : (t : Ledger) (cs : List Credential) (n : ℕ) (i : Interval) (ss : List Step) → Proper (steps t cs n i ss)
 unfolding steps
 steps-proper t cs n i ss =
-    verdict-proper (length ss) (length ss) (checkOf (row t) readLabel writeLabel (length ss) ss _ _ _)
-    (check-sane (row t) readLabel writeLabel (length ss) ss _ _ _ (omega arith))
+    verdict-proper (length ss) (length ss) (checkOf (rowFor t) readLabel writeLabel (length ss) ss _ _ _)
+    (check-sane (rowFor t) readLabel writeLabel (length ss) ss _ _ _ (omega arith))
 
 -- the check of a booking's steps; no other request has one
 abbrev pub stepsIn : Ledger → Option Request → Check

@@ -8,6 +8,7 @@ use Rattle.ledger.specs.StepCases.{StepCasesPlay}
 use Rattle.ledger.specs.PauseCases.{PauseCasesPlay}
 use Rattle.ledger.specs.ConnectiveCases.{ConnectiveCasesPlay, refusedLeft, refusedLeftAffirmed, refusedRight}
 use Rattle.ledger.specs.ConnectiveCases.{refusedAxiom, refusedStanding, refusedAffirmed}
+use Rattle.ledger.specs.HolderCases.{HolderCasesPlay, provesEvery, usesEvery}
 use Rattle.ledger.proofs.Compute.{played}
 
 pub cases-play : CasesPlay
@@ -31,3 +32,7 @@ pub connective-cases-play : ConnectiveCasesPlay
 unfolding played AnsweredFrom AllAnswered refusedLeft refusedLeftAffirmed refusedRight refusedAxiom refusedStanding
     refusedAffirmed
 connective-cases-play = (refl, (refl, (refl, (refl, (refl, (refl, tt))))))
+
+pub holder-cases-play : HolderCasesPlay
+unfolding played AnsweredFrom AllAnswered times refusedLeft refusedLeftAffirmed provesEvery usesEvery
+holder-cases-play = (refl, (refl, (refl, (refl, (refl, (refl, (refl, (refl, (refl, (refl, (refl, tt)))))))))))

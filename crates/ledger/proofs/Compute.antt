@@ -2,7 +2,7 @@
 use mathlib.Core.List.{List, map}
 use Prim.Native.String.{String}
 use Rattle.logic.specs.Interval.{inBreak, has, covers, contains, sameInterval, reversed, broken}
-use Rattle.logic.specs.Formula.{size, count, houseUnder, plain}
+use Rattle.logic.specs.Formula.{size, count, houseUnder, plain, unbound, quantified}
 use Rattle.logic.specs.Multiset.{sum}
 use Rattle.logic.specs.Counts.{up, even, sessionsOf, allOf, balanced}
 use Rattle.request.specs.Text.{bytes, sameBytes, andThen, push, fields, pushLine, lines, reads, decimalDigit}
@@ -13,7 +13,8 @@ use Rattle.request.specs.Request.{stepsIntervals, intervals}
 use Rattle.request.specs.Read.{number, labelSet, interval, kind, part, parts, formulaLineWith, labelled, stepLine}
 use Rattle.request.specs.Read.{holdLine}
 use Rattle.request.specs.Read.{bookLine, firstLineWith, rest, requestLines, requestWith}
-use Rattle.steps.specs.Plans.{when, right, affirmed, left, planOf}
+use Rattle.steps.specs.Instance.{instanceRow}
+use Rattle.steps.specs.Plans.{when, right, affirmed, left, atomic, planOf}
 use Rattle.steps.specs.Check.{maxLabels, begin, judged, onward, follow, premiseOf, finished, checkOf}
 use Rattle.ledger.specs.Table.{build, formulas}
 use Rattle.ledger.specs.Ledger.{empty, find, withoutSerial, held, linearCount, spend}
@@ -24,11 +25,11 @@ use Rattle.ledger.specs.Sessions.{ofLines}
 
 -- what a list of requests, each given by its lines, is answered from the empty ledger on
 unfoldable pub played : List (List String) → List Told
-unfolding inBreak has covers contains sameInterval reversed broken size count houseUnder plain sum up even sessionsOf
-    allOf balanced bytes sameBytes andThen push fields pushLine lines reads decimalDigit hexDigit decimal numberIn
-    labelSetIn return _>>=_ next many named choose ended whole line stepsIntervals intervals number labelSet interval
-    kind part parts formulaLineWith labelled stepLine holdLine bookLine firstLineWith rest requestLines requestWith
-    when right affirmed left planOf maxLabels begin judged onward follow premiseOf finished checkOf build formulas find
-    withoutSerial held linearCount spend _if_ first anyOf sameRow twice labelsOf verdict steps checks checksOf
-    openSeats shutSeats placed accept decide call answers ofLines
+unfolding inBreak has covers contains sameInterval reversed broken size count houseUnder plain unbound quantified sum
+    up even sessionsOf allOf balanced bytes sameBytes andThen push fields pushLine lines reads decimalDigit hexDigit
+    decimal numberIn labelSetIn return _>>=_ next many named choose ended whole line stepsIntervals intervals number
+    labelSet interval kind part parts formulaLineWith labelled stepLine holdLine bookLine firstLineWith rest
+    requestLines requestWith when right affirmed left atomic instanceRow planOf maxLabels begin judged onward follow
+    premiseOf finished checkOf build formulas find withoutSerial held linearCount spend _if_ first anyOf sameRow twice
+    labelsOf verdict steps checks checksOf openSeats shutSeats placed accept decide call answers ofLines
 played rs = map told (answers empty (map ofLines rs))

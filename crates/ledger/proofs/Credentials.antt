@@ -108,6 +108,16 @@ held-length cs (n ∷ ns) = go (find cs n) (held-length cs ns)
     go none le = omega arith
     go (some c) le = omega arith
 
+-- what every credential has, those held have
+pub every-held : (P : Credential → Type 0) (cs : List Credential) (ns : List ℕ) → Every P cs → Every P (held cs ns)
+unfolding held
+every-held P cs [] e = tt
+every-held P cs (n ∷ ns) e = go (find cs n) refl (every-held P cs ns e)
+  where
+    go : (o : Option Credential) → find cs n ≡ o → Every P (held cs ns) → Every P (consSome o (held cs ns))
+    go none q h = h
+    go (some c) q h = (every-out P (take-out cs n q .1) e .0, h)
+
 -- all that are live are found
 pub held-all : (cs : List Credential) (ns : List ℕ) → Every (Alive cs) ns → length (held cs ns) ≡ length ns
 unfolding held

@@ -7,7 +7,7 @@ use native.Mathlib.Omega.{arith}
 use lib.Dec.{eqb, eqb·zero-suc, eqb·suc-zero, eqb·suc-suc}
 use lib.ListN.{length, getD, length-append}
 use borrow.Author.Tests.{ne-eqb}
-use Rattle.logic.specs.Formula.{Formula, one, tensor, with, plus, lolli, implies, bang, at, says}
+use Rattle.logic.specs.Formula.{Formula, one, tensor, with, plus, lolli, implies, bang, at, says, forEvery}
 use Rattle.logic.specs.Multiset.{Every}
 use Rattle.logic.proofs.Multisets.{every-map}
 use Rattle.request.specs.Request.{Line}
@@ -69,6 +69,8 @@ form-agree f g (Line.bang i) h = ap bang (h .0)
 form-agree f g (Line.at i w) h = ap (λ (a : Formula). at a w) (h .0)
 form-agree f g (Line.says k i) h = ap (says k) (h .0)
 form-agree f g (Line.superset v w) h = refl
+form-agree f g (Line.named p s k) h = refl
+form-agree f g (Line.forEvery i) h = ap forEvery (h .0)
 
 pub line-tabled : (t : Ledger) (l : Line) → Tabled t → There t (names l) → Tabled (withLine t l)
 line-tabled t l h r = record {

@@ -8,7 +8,7 @@ use Prim.Native.Nat.{ℕ, zero, suc, _+_, _≤_}
 use native.Mathlib.Omega.{arith}
 use borrow.Author.Tests.{le-ltb, eq-eqb}
 use Rattle.logic.specs.Interval.{noInterval, reversed, broken}
-use Rattle.logic.specs.Formula.{plain}
+use Rattle.logic.specs.Formula.{plain, unbound}
 use Rattle.request.specs.declared.Kind.the-variants.{Linear}
 use Rattle.request.specs.Range.{serial}
 use Rattle.request.specs.Request.{Request, issue, withdraw, intervals}
@@ -54,7 +54,7 @@ only-gone c = rw (eq-eqb (c .serial) (c .serial) refl, withoutSerial)
 
 round : (n : ℕ) → 1 ≤ n → n ≤ serial .last
     → call (call (idle n) (write issued) .ledger) (write (withdraw n)) .ledger ≡ idle (n + 1)
-unfolding accept checks first anyOf _if_ plain intervals reversed broken build formulas
+unfolding accept checks first anyOf _if_ plain unbound intervals reversed broken build formulas
 round n h l =
     let t = accept (idle n) issued .ledger in
     ap (λ (d : Reply). call (d .ledger) (write (withdraw n)) .ledger)

@@ -9,7 +9,9 @@ use lib.ListN.{length, getD, length-append}
 use borrow.Author.Tests.{eqb-true, eqb-false}
 use Rattle.logic.specs.declared.Interval.{Interval}
 use Rattle.logic.specs.Interval.{noInterval}
-use Rattle.logic.specs.Formula.{Formula, atom, one, tensor, with, plus, lolli, implies, bang, at, says, superset, size}
+use mathlib.Core.Option.{none, some}
+use Rattle.logic.specs.Formula.{Formula, atom, one, tensor, with, plus, lolli, implies, bang, at, says, superset}
+use Rattle.logic.specs.Formula.{forEvery, size}
 use Rattle.logic.specs.Multiset.{Every}
 use Rattle.logic.proofs.Tests.{no-truth}
 use Rattle.logic.proofs.Multisets.{every-map}
@@ -59,7 +61,7 @@ apart-snoc ls l a h m n lm ln e =
 -- A formula gives its line again, but for the numbers of its parts
 
 abbrev numbers : Formula → List ℕ
-numbers (atom p s) = p ∷ s ∷ []
+numbers (atom p s o) = p ∷ s ∷ []
 numbers one = []
 numbers (tensor a b) = []
 numbers (with a b) = []
@@ -70,9 +72,10 @@ numbers (bang a) = []
 numbers (at a i) = []
 numbers (says k a) = k ∷ []
 numbers (superset i j) = []
+numbers (forEvery a) = []
 
 abbrev windows : Formula → List Interval
-windows (atom p s) = []
+windows (atom p s o) = []
 windows one = []
 windows (tensor a b) = []
 windows (with a b) = []
@@ -83,9 +86,10 @@ windows (bang a) = []
 windows (at a i) = i ∷ []
 windows (says k a) = []
 windows (superset i j) = i ∷ j ∷ []
+windows (forEvery a) = []
 
 abbrev parts : Formula → List Formula
-parts (atom p s) = []
+parts (atom p s o) = []
 parts one = []
 parts (tensor a b) = a ∷ b ∷ []
 parts (with a b) = a ∷ b ∷ []
@@ -96,6 +100,22 @@ parts (bang a) = a ∷ []
 parts (at a i) = a ∷ []
 parts (says k a) = a ∷ []
 parts (superset i j) = []
+parts (forEvery a) = a ∷ []
+
+abbrev holderIn : Formula → ℕ
+holderIn (atom p s none) = 0
+holderIn (atom p s (some h)) = h
+holderIn one = 0
+holderIn (tensor a b) = 0
+holderIn (with a b) = 0
+holderIn (plus a b) = 0
+holderIn (lolli a b) = 0
+holderIn (implies a b) = 0
+holderIn (bang a) = 0
+holderIn (at a i) = 0
+holderIn (says k a) = 0
+holderIn (superset i j) = 0
+holderIn (forEvery a) = 0
 
 -- the row, where its parts have these numbers
 abbrev rowFrom : Formula → List ℕ → Row
@@ -103,6 +123,7 @@ rowFrom a ns = record {
   letter = letter a;
   a = getD (numbers a ++ ns) 0 0;
   b = getD (numbers a ++ ns) 1 0;
+  holder = holderIn a;
   first = getD (windows a) 0 noInterval;
   second = getD (windows a) 1 noInterval;
 }
@@ -126,6 +147,8 @@ read-off T (Line.bang i) = record { row = refl; named = refl; less = (omega arit
 read-off T (Line.at i w) = record { row = refl; named = refl; less = (omega arith, tt) }
 read-off T (Line.says k i) = record { row = refl; named = refl; less = (omega arith, tt) }
 read-off T (Line.superset v w) = record { row = refl; named = refl; less = tt }
+read-off T (Line.named p s k) = record { row = refl; named = refl; less = tt }
+read-off T (Line.forEvery i) = record { row = refl; named = refl; less = (omega arith, tt) }
 
 module _ (t : Ledger) (b : Tabled t) (a : Apart (t .lines)) where
   abbrev T : ℕ → Formula

@@ -8,7 +8,7 @@ use lib.ListN.{length}
 use borrow.Author.Tests.{leb-false, ltb-false, not-false}
 use Rattle.logic.specs.declared.Interval.{Interval}
 use Rattle.logic.specs.Interval.{has, reversed, broken, WellFormed}
-use Rattle.logic.specs.Formula.{Formula, size, plain}
+use Rattle.logic.specs.Formula.{Formula, size, plain, unbound}
 use Rattle.logic.specs.Weight.{Balanced}
 use Rattle.logic.proofs.Tests.{no-truth}
 use Rattle.logic.specs.Multiset.{Every}
@@ -23,7 +23,8 @@ use Rattle.ledger.specs.declared.Credential.{Credential}
 use Rattle.ledger.specs.Table.{form, names}
 use Rattle.ledger.specs.Ledger.{Ledger, formula, find, isNone, held, linearCount}
 use Rattle.ledger.specs.Checks.{anyOf, maxSize, maxFormulas, maxLive, missing, sameLine, dead, twice, steps}
-use Rattle.ledger.specs.Checks.{_if_, unissuable, unissuableNumber, wordRules, issueRules, checks, readChecks}
+use Rattle.ledger.specs.Checks.{_if_, nests, unissuable, unissuableNumber, wordRules, issueRules, checks}
+use Rattle.ledger.specs.Checks.{readChecks}
 use Rattle.ledger.specs.Statements.{Pass}
 use Rattle.ledger.proofs.Answers.{if-none}
 use Rattle.ledger.proofs.Firsts.{if-false, not-true}
@@ -58,6 +59,7 @@ fits-kind Unrestricted a e = balanced-test a .0 (not-false _ (if-none 21 _ e))
 
 pub record PassedWord (t : Ledger) (l : Line) : Type 0 where
   pub there : There t (names l)
+  pub apart : nests t l ≡ false
   pub small : size (form (formula t) l) ≤ maxSize
   pub new : anyOf (sameLine l) (t .lines) ≡ false
   pub room : length (t .lines) < maxFormulas
@@ -65,16 +67,18 @@ pub record PassedWord (t : Ledger) (l : Line) : Type 0 where
 
 pub passed-word : (t : Ledger) (l : Line) → Pass (checks t (word l)) → PassedWord t l
 unfolding checks
-passed-word t l (there, (small, (new, (room, end)))) = record {
+passed-word t l (there, (apart, (small, (new, (room, end))))) = record {
   there = every-map (λ k e. leb-false _ _ e) (names l) (any-none (missing t) (names l) (if-none 10 _ there));
+  apart = if-none 53 _ apart;
   small = ltb-false _ _ (if-none 12 _ small);
   new = if-none 13 _ new;
   room = leb-false _ _ (if-none 14 _ room);
-  rules = (there, (small, (new, tt)));
+  rules = (there, (apart, (small, (new, tt))));
 }
 
 pub record PassedIssue (t : Ledger) (k : Kind) (n : ℕ) : Type 0 where
   pub there : n < length (t .lines)
+  pub bound : unbound (formula t n) ≡ false
   pub fits : FitsKind k (formula t n)
   pub room : length (t .live) - 0 < maxLive
   pub unused : t .next ≤ serial .last
@@ -82,12 +86,13 @@ pub record PassedIssue (t : Ledger) (k : Kind) (n : ℕ) : Type 0 where
 
 pub passed-issue : (t : Ledger) (k : Kind) (n : ℕ) (i : Interval) → Pass (checks t (issue k n i)) → PassedIssue t k n
 unfolding checks
-passed-issue t k n i (there, (fits, (room, (unused, end)))) = record {
+passed-issue t k n i (there, (bound, (fits, (room, (unused, end))))) = record {
   there = leb-false _ _ (if-none 10 _ there);
+  bound = if-none 53 _ bound;
   fits = fits-kind k (formula t n) fits;
   room = leb-false _ _ (if-none 22 _ room);
   unused = ltb-false _ _ (if-none 23 _ unused);
-  rules = (there, (fits, tt));
+  rules = (there, (bound, (fits, tt)));
 }
 
 pub record PassedWithdraw (t : Ledger) (n : ℕ) : Type 0 where
@@ -104,6 +109,7 @@ passed-withdraw t n (alive, end) = go (find (t .live) n) refl (if-none 24 _ aliv
 
 pub record PassedBook (t : Ledger) (b : Booking) : Type 0 where
   pub there : b .formula < length (t .lines)
+  pub bound : unbound (formula t (b .formula)) ≡ false
   pub plain : plain (formula t (b .formula)) ≡ true
   pub inside : has (b .interval) (b .now) ≡ true
   pub alive : anyOf (dead t) (b .holds) ≡ false
@@ -115,8 +121,9 @@ pub record PassedBook (t : Ledger) (b : Booking) : Type 0 where
 
 pub passed-book : (t : Ledger) (b : Booking) → Pass (checks t (book b)) → PassedBook t b
 unfolding checks
-passed-book t b (there, (plain, (inside, (alive, (apart, (closes, (room, (unused, end)))))))) = record {
+passed-book t b (there, (bound, (plain, (inside, (alive, (apart, (closes, (room, (unused, end))))))))) = record {
   there = leb-false _ _ (if-none 10 _ there);
+  bound = if-none 53 _ bound;
   plain = not-false _ (if-none 20 _ plain);
   inside = not-false _ (if-none 30 _ inside);
   alive = if-none 24 _ alive;
@@ -124,7 +131,7 @@ passed-book t b (there, (plain, (inside, (alive, (apart, (closes, (room, (unused
   closes = closes;
   room = leb-false _ _ (if-none 22 _ room);
   unused = ltb-false _ _ (if-none 23 _ unused);
-  rules = (there, (plain, tt));
+  rules = (there, (bound, (plain, tt)));
 }
 
 -- with another minute and another interval, a booking passes where now lies in that and the steps close at it
@@ -138,5 +145,5 @@ pub pass-at : (t : Ledger) (b : Booking) (now : ℕ) (i : Interval) → Pass (ch
       steps = b .steps;
     })))
 unfolding checks
-pass-at t b now i (there, (plain, (inside, (alive, (apart, (closed, more)))))) h closes =
-    (there, (plain, (if-false 30 _ (not-true _ h), (alive, (apart, (closes, more))))))
+pass-at t b now i (there, (bound, (plain, (inside, (alive, (apart, (closed, more))))))) h closes =
+    (there, (bound, (plain, (if-false 30 _ (not-true _ h), (alive, (apart, (closes, more)))))))

@@ -23,21 +23,23 @@ line-of-row (Line.bang i) = refl
 line-of-row (Line.at i w) = refl
 line-of-row (Line.says k i) = refl
 line-of-row (Line.superset v w) = refl
+line-of-row (Line.named p s k) = refl
+line-of-row (Line.forEvery i) = refl
 
 row-decides : (x y : Row) → Decides (sameRow x y) (x ≡ y)
 unfolding sameRow
 row-decides x y =
     let d = and-decides (eq-decides (x .letter) (y .letter)) (and-decides (eq-decides (x .a) (y .a))
-    (and-decides (eq-decides (x .b) (y .b))
-    (and-decides (same-decides (x .first) (y .first)) (same-decides (x .second) (y .second))))) in (
-      λ e. let h = d .0 e in rw (h .0, h .1 .0, h .1 .1 .0, h .1 .1 .1 .0, h .1 .1 .1 .1),
+    (and-decides (eq-decides (x .b) (y .b)) (and-decides (eq-decides (x .holder) (y .holder))
+    (and-decides (same-decides (x .first) (y .first)) (same-decides (x .second) (y .second)))))) in (
+      λ e. let h = d .0 e in rw (h .0, h .1 .0, h .1 .1 .0, h .1 .1 .1 .0, h .1 .1 .1 .1 .0, h .1 .1 .1 .1 .1),
       λ e. d .1 (
         ap (λ (r : Row). r .letter) e,
         (
           ap (λ (r : Row). r .a) e,
           (
             ap (λ (r : Row). r .b) e,
-            (ap (λ (r : Row). r .first) e, ap (λ (r : Row). r .second) e),
+            (ap (λ (r : Row). r .holder) e, (ap (λ (r : Row). r .first) e, ap (λ (r : Row). r .second) e)),
           ),
         ),
       ),

@@ -4,11 +4,12 @@ use mathlib.Core.List.{List, [], _∷_, _++_, map}
 use mathlib.Core.Option.{Option, none, some}
 use mathlib.Core.Bool.{Bool, true, false, _&&_, _||_, not}
 use Prim.Native.Nat.{ℕ, suc, _-_}
+use Prim.Native.Char.{code}
 use lib.Dec.{eqb, leb, ltb}
 use lib.ListN.{length}
 use Rattle.logic.specs.declared.Interval.{Interval}
 use Rattle.logic.specs.Interval.{noInterval, has, sameInterval, reversed, broken}
-use Rattle.logic.specs.Formula.{Formula, size, plain}
+use Rattle.logic.specs.Formula.{Formula, size, plain, unbound, quantified}
 use Rattle.logic.specs.Counts.{balanced}
 use Rattle.request.specs.declared.Kind.{Kind}
 use Rattle.request.specs.declared.Kind.the-variants.{Linear, Unrestricted}
@@ -24,7 +25,7 @@ use Rattle.steps.specs.Check.{Outcome, done, stopped, puts, checkOf}
 pub use Rattle.steps.specs.Labelling.{LabelTable, readLabel, writeLabel}
 use Rattle.ledger.specs.declared.Credential.{Credential}
 use Rattle.ledger.specs.Table.{form, names, rowOf}
-use Rattle.ledger.specs.Ledger.{Ledger, formula, row, isKind, find, isNone, held, linearCount}
+use Rattle.ledger.specs.Ledger.{Ledger, formula, rowFor, isKind, find, isNone, held, linearCount}
 
 -- A check passes (none) or answers its refusal: "with its step (from 1) for 40 to 42, else 0".
 pub record Refusal : Type 0 where
@@ -65,6 +66,10 @@ maxLive = 512
 abbrev pub missing : Ledger → ℕ → Bool
 missing t n = leb (length (t .lines)) n
 
+-- "a word that puts `q` within `q`": the line is a `q`, and one stands in what it names
+abbrev pub nests : Ledger → Line → Bool
+nests t l = eqb (rowOf l .letter) (code "q") && anyOf (λ i. quantified (formula t i)) (names l)
+
 abbrev pub oversize : Ledger → Line → Bool
 oversize t l = ltb maxSize (size (form (formula t) l))
 
@@ -73,7 +78,8 @@ unfoldable pub sameRow : Row → Row → Bool
 sameRow x y =
     eqb (x .letter) (y .letter)
     && (eqb (x .a) (y .a)
-    && (eqb (x .b) (y .b) && (sameInterval (x .first) (y .first) && sameInterval (x .second) (y .second))))
+    && (eqb (x .b) (y .b)
+    && (eqb (x .holder) (y .holder) && (sameInterval (x .first) (y .first) && sameInterval (x .second) (y .second)))))
 
 abbrev pub sameLine : Line → Line → Bool
 sameLine l m = sameRow (rowOf l) (rowOf m)
@@ -133,21 +139,25 @@ verdict (stopped c n) = some (record { number = c; step = n })
 -- "40 to 42 are found step by step": the goal is formula n at i, from the credentials held.
 unfoldable pub steps : Ledger → List Credential → ℕ → Interval → List Step → Check
 steps t cs n i ss =
-    verdict (checkOf (row t) readLabel writeLabel (length ss) ss
+    verdict (checkOf (rowFor t) readLabel writeLabel (length ss) ss
     (puts writeLabel noLabels 0 (map hypothesis cs)) (length cs) (bookingSequent cs n i))
 
 -- The table, for each kind of request
 
--- of a formula line, and of a credential's kind and formula: what opening a text asks too (crate snapshot)
+-- of a formula line, and of a credential's kind and formula: what opening a text asks too (crate snapshot). Document
+-- 02: "53, checked after 10, is the answer to a word that puts `q` within `q`, and to an issue or booking whose wording
+-- has holder 0 outside `q`."
 abbrev pub wordRules : Ledger → Line → List Check
 wordRules t l =
     (10 if anyOf (missing t) (names l)) ∷
+    (53 if nests t l) ∷
     (12 if oversize t l) ∷
     (13 if anyOf (sameLine l) (t .lines)) ∷ []
 
 abbrev pub issueRules : Ledger → Kind → ℕ → List Check
 issueRules t k n =
     (10 if missing t n) ∷
+    (53 if unbound (formula t n)) ∷
     (unissuableNumber k if unissuable k (formula t n)) ∷ []
 
 unfoldable pub checks : Ledger → Request → List Check
@@ -163,6 +173,7 @@ checks t (withdraw n) =
 checks t (book b) =
     let cs = held (t .live) (b .holds) in
     (10 if missing t (b .formula)) ∷
+    (53 if unbound (formula t (b .formula))) ∷
     (20 if not (plain (formula t (b .formula)))) ∷
     (30 if not (has (b .interval) (b .now))) ∷
     (24 if anyOf (dead t) (b .holds)) ∷

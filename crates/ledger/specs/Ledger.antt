@@ -10,6 +10,7 @@ use Rattle.request.specs.declared.Kind.{Kind}
 use Rattle.request.specs.declared.Kind.the-variants.{Linear, Unrestricted}
 use Rattle.request.specs.Request.{Line}
 use Rattle.steps.specs.declared.Row.{Row}
+use Rattle.steps.specs.Instance.{instanceRow}
 use Rattle.ledger.specs.declared.Credential.{Credential}
 use Rattle.ledger.specs.Table.{nth, formulas, rowOf}
 
@@ -29,6 +30,10 @@ formula t n = nth (formulas (t .lines)) n
 
 abbrev pub row : Ledger → ℕ → Row
 row t n = rowOf (getD (t .lines) n Line.one)
+
+-- the row of a formula's number that may have a holder in it, as the steps know formulas
+abbrev pub rowFor : Ledger → ℕ → Row
+rowFor t m = instanceRow (row t) m
 
 -- by kind: the first for a linear credential, the second for an unrestricted one
 abbrev pub byKind : {A : Type 0} → Kind → A → A → A

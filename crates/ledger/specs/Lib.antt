@@ -11,4 +11,5 @@ pub mod FormulaCases
 pub mod StepCases
 pub mod PauseCases
 pub mod ConnectiveCases
+pub mod HolderCases
 pub mod LastSerials

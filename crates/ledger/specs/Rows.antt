@@ -18,4 +18,6 @@ lineOf r =
     (pick (eqb (r .letter) (code "h")) (Line.at (r .a) (r .first))
     (pick (eqb (r .letter) (code "s")) (Line.says (r .a) (r .b))
     (pick (eqb (r .letter) (code "g")) (Line.superset (r .first) (r .second))
-    Line.one)))))))))
+    (pick (eqb (r .letter) (code "n")) (Line.named (r .a) (r .b) (r .holder))
+    (pick (eqb (r .letter) (code "q")) (Line.forEvery (r .a))
+    Line.one)))))))))))

@@ -1,17 +1,19 @@
 -- Formula lines (document 01: wordings): the formula that each stands for. "A wording refers to earlier wordings i, j
 -- by number"; "The till numbers them from 0".
 use mathlib.Core.List.{List, [], _∷_, _++_}
+use mathlib.Core.Option.{none, some}
 use Prim.Native.Nat.{ℕ}
 use Prim.Native.Char.{code}
 use lib.ListN.{getD}
 use Rattle.logic.specs.Interval.{noInterval}
 use Rattle.logic.specs.Formula.{Formula, atom, one, tensor, with, plus, lolli, implies, bang, at, says, superset}
+use Rattle.logic.specs.Formula.{forEvery}
 use Rattle.request.specs.Request.{Line}
 use Rattle.steps.specs.declared.Row.{Row}
 
 -- the formula of a line, where T gives those of the numbers that it names
 abbrev pub form : (ℕ → Formula) → Line → Formula
-form T (Line.atom p s) = atom p s
+form T (Line.atom p s) = atom p s none
 form T Line.one = one
 form T (Line.tensor i j) = tensor (T i) (T j)
 form T (Line.with i j) = with (T i) (T j)
@@ -22,6 +24,8 @@ form T (Line.bang i) = bang (T i)
 form T (Line.at i w) = at (T i) w
 form T (Line.says k i) = says k (T i)
 form T (Line.superset v w) = superset v w
+form T (Line.named p s h) = atom p s (some h)
+form T (Line.forEvery i) = forEvery (T i)
 
 -- the numbers that a line names
 abbrev pub names : Line → List ℕ
@@ -36,6 +40,8 @@ names (Line.bang i) = i ∷ []
 names (Line.at i w) = i ∷ []
 names (Line.says k i) = i ∷ []
 names (Line.superset v w) = []
+names (Line.named p s h) = []
+names (Line.forEvery i) = i ∷ []
 
 -- a number that names no line reads as 1
 abbrev pub nth : List Formula → ℕ → Formula
@@ -50,9 +56,10 @@ build earlier (l ∷ more) = build (earlier ++ (form (nth earlier) l ∷ [])) mo
 unfoldable pub formulas : List Line → List Formula
 formulas ls = build [] ls
 
--- the row of a letter and two numbers, without intervals
+-- the row of a letter and two numbers, without holder and intervals
 abbrev pub lettered : ℕ → ℕ → ℕ → Row
-lettered letter a b = record { letter = letter; a = a; b = b; first = noInterval; second = noInterval }
+lettered letter a b =
+    record { letter = letter; a = a; b = b; holder = 0; first = noInterval; second = noInterval }
 
 -- a line as a row: the byte of its letter, and its fields
 abbrev pub rowOf : Line → Row
@@ -64,6 +71,9 @@ rowOf (Line.plus i j) = lettered (code "p") i j
 rowOf (Line.lolli i j) = lettered (code "l") i j
 rowOf (Line.implies i j) = lettered (code "u") i j
 rowOf (Line.bang i) = lettered (code "b") i 0
-rowOf (Line.at i w) = record { letter = code "h"; a = i; b = 0; first = w; second = noInterval }
+rowOf (Line.at i w) = record { letter = code "h"; a = i; b = 0; holder = 0; first = w; second = noInterval }
 rowOf (Line.says k i) = lettered (code "s") k i
-rowOf (Line.superset v w) = record { letter = code "g"; a = 0; b = 0; first = v; second = w }
+rowOf (Line.superset v w) = record { letter = code "g"; a = 0; b = 0; holder = 0; first = v; second = w }
+rowOf (Line.named p s h) =
+    record { letter = code "n"; a = p; b = s; holder = h; first = noInterval; second = noInterval }
+rowOf (Line.forEvery i) = lettered (code "q") i 0

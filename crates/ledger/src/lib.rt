@@ -10,6 +10,7 @@ ghost use Rattle.ledger.specs.FormulaCases.{FormulaCasesPlay};
 ghost use Rattle.ledger.specs.StepCases.{StepCasesPlay};
 ghost use Rattle.ledger.specs.PauseCases.{PauseCasesPlay};
 ghost use Rattle.ledger.specs.ConnectiveCases.{ConnectiveCasesPlay};
+ghost use Rattle.ledger.specs.HolderCases.{HolderCasesPlay};
 ghost use Rattle.ledger.specs.LastSerials.{IdleGiven, LastSerialsPlay};
 
 // "Size: .. at most 64"; "holds at most 200"; "At most 512 are live": as specs/Checks.antt has them.
@@ -68,9 +69,10 @@ pub fn cases_play()
 {}
 
 // Sessions for the steps: every step word; windows with a break in every step; what a step asks of its formula and of
-// the goal.
+// the goal; places in a holder's name.
 pub fn step_cases_play()
     ensures steps { λ _. ⌜ StepCasesPlay ⌝ }
     ensures pauses { λ _. ⌜ PauseCasesPlay ⌝ }
     ensures connectives { λ _. ⌜ ConnectiveCasesPlay ⌝ }
+    ensures holders { λ _. ⌜ HolderCasesPlay ⌝ }
 {}

@@ -8,7 +8,7 @@ use native.Mathlib.Omega.{arith}
 use lib.Dec.{eqb}
 use borrow.Author.Tests.{eqb-true}
 use Rattle.logic.specs.Formula.{Formula, atom, one, tensor, with, plus, lolli, implies, bang, at, says}
-use Rattle.logic.specs.Formula.{superset, bit, count, seats, places, plain}
+use Rattle.logic.specs.Formula.{superset, forEvery, bit, count, seats, places, plain}
 use Rattle.logic.specs.Counts.{up, down, level, even, sessionsOf, allOf, balanced}
 use Rattle.logic.specs.Statements.{PlainWeighed, BalancedTest}
 use Rattle.logic.proofs.Tests.{no-truth, Decides, and-decides, and₃-decides, yea, nay, eq-decides}
@@ -16,7 +16,7 @@ use Rattle.logic.proofs.Weights.{Level, Even, even-is, balanced-is}
 
 -- only a, t, s
 abbrev pub Plain : Formula → Type 0
-Plain (atom p t) = Unit {0}
+Plain (atom p t o) = Unit {0}
 Plain one = ⊥
 Plain (tensor a b) = Plain a × Plain b
 Plain (with a b) = ⊥
@@ -27,10 +27,11 @@ Plain (bang a) = ⊥
 Plain (at a i) = ⊥
 Plain (says k a) = Plain a
 Plain (superset i j) = ⊥
+Plain (forEvery a) = ⊥
 
 pub plain-decides : (a : Formula) → Decides (plain a) (Plain a)
 unfolding plain
-plain-decides (atom p t) = yea
+plain-decides (atom p t o) = yea
 plain-decides one = nay
 plain-decides (tensor a b) = and-decides (plain-decides a) (plain-decides b)
 plain-decides (with a b) = nay
@@ -41,10 +42,11 @@ plain-decides (bang a) = nay
 plain-decides (at a i) = nay
 plain-decides (says k a) = plain-decides a
 plain-decides (superset i j) = nay
+plain-decides (forEvery a) = nay
 
 even-decides : (s : ℕ) (a : Formula) → Decides (even s a) (Even s a)
 unfolding even
-even-decides s (atom p t) = yea
+even-decides s (atom p t o) = yea
 even-decides s one = yea
 even-decides s (tensor a b) = and-decides (even-decides s a) (even-decides s b)
 even-decides s (with a b) = and₃-decides (even-decides s a) (even-decides s b) (eq-decides _ _)
@@ -55,6 +57,7 @@ even-decides s (bang a) = and-decides (even-decides s a) (eq-decides _ _)
 even-decides s (at a i) = even-decides s a
 even-decides s (says k a) = even-decides s a
 even-decides s (superset i j) = yea
+even-decides s (forEvery a) = even-decides s a
 
 -- A session that does not stand in a formula weighs nothing there, and the formula is well weighed for it.
 elem : ℕ → List ℕ → Bool
@@ -79,7 +82,7 @@ record Absent (s : ℕ) (a : Formula) : Type 0 where
 
 absent : (s : ℕ) (a : Formula) → elem s (sessionsOf a) ≡ false → Absent s a
 unfolding sessionsOf up elem
-absent s (atom p t) e = record { ups = go (eqb p 1 || eqb p 2) (eqb t s) e; downs = refl; evens = tt }
+absent s (atom p t o) e = record { ups = go (eqb p 1 || eqb p 2) (eqb t s) e; downs = refl; evens = tt }
   where
     go : (x y : Bool) → (y || false) ≡ false → bit (x && y) ≡ 0
     go true true e = absurd (no-truth (sym e))
@@ -133,6 +136,7 @@ absent s (bang a) e =
 absent s (at a i) e = let x = absent s a e in record { ups = x .ups; downs = x .downs; evens = x .evens }
 absent s (says k a) e = let x = absent s a e in record { ups = x .ups; downs = x .downs; evens = x .evens }
 absent s (superset i j) e = record { ups = refl; downs = refl; evens = tt }
+absent s (forEvery a) e = let x = absent s a e in record { ups = x .ups; downs = x .downs; evens = x .evens }
 
 all-elem : (f : ℕ → Bool) (xs : List ℕ) → allOf f xs ≡ true → (s : ℕ) → elem s xs ≡ true → f s ≡ true
 unfolding allOf elem
@@ -174,7 +178,7 @@ pub record PlainCounts (s : ℕ) (a : Formula) : Type 0 where
 
 pub plain-counts : (s : ℕ) (a : Formula) → Plain a → PlainCounts s a
 unfolding up count
-plain-counts s (atom p t) h =
+plain-counts s (atom p t o) h =
     record { ups = go (eqb p 1) (eqb p 2) (eqb t s) (λ x y. apart x y); downs = refl; evens = tt }
   where
     apart : eqb p 1 ≡ true → eqb p 2 ≡ true → ⊥
@@ -205,6 +209,7 @@ plain-counts s (at a i) h = absurd h
 plain-counts s (says k a) h =
     let x = plain-counts s a h in record { ups = x .ups; downs = x .downs; evens = x .evens }
 plain-counts s (superset i j) h = absurd h
+plain-counts s (forEvery a) h = absurd h
 
 pub plain-weighed : PlainWeighed
 plain-weighed s a e = even-is s a .1 (plain-counts s a (plain-decides a .0 e) .evens)

@@ -5,13 +5,14 @@ use Prim.Native.Nat.{ℕ, _+_}
 use native.Mathlib.Omega.{arith}
 use Rattle.logic.specs.Multiset.{Every, sum}
 use Rattle.logic.specs.Derives.{Hyp, Judgment, Derives, same, ax, cp, tr, tl, or, ol, wr, w1, w2, p1, p2, pl}
-use Rattle.logic.specs.Derives.{ll, ul, br, bl, hr, hl, sr, af, sl, gr}
+use Rattle.logic.specs.Derives.{ll, ul, br, bl, hr, hl, sr, af, sl, gr, al}
 use Rattle.logic.specs.Counts.{up, down}
 use Rattle.logic.specs.Statements.{subject, Conservation}
 use Rattle.logic.proofs.Multisets.{perm-sym, perm-sum, append-sum, perm-every, every-left, every-right}
 use Rattle.logic.proofs.Multisets.{every-member, every-map}
 use Rattle.logic.proofs.Weights.{Level, Even, ups, downs, weight-parts, total-parts, less-eq, even-is}
 use Rattle.logic.proofs.Weights.{balanced-is}
+use Rattle.logic.proofs.Holders.{same-weight}
 
 module _ (s : ℕ) where
   abbrev pub EvenHyp : Hyp → Type 0
@@ -74,6 +75,8 @@ module _ (s : ℕ) where
   conserved (af d) r e g = conserved d r e g
   conserved (sl c d) r e g = conserved d r (e .0, e .1) g
   conserved (gr c) r e g = refl
+  conserved (al {a = a} {h = h} n d) r e g =
+      let w = same-weight s h a in omega (arith, w .ups, w .downs, conserved d r (w .evens (e .0), e .1) g)
 
 pub conservation : Conservation
 conservation s R D g x r d w =

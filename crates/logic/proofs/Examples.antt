@@ -1,14 +1,14 @@
 -- The examples, by computation.
 use mathlib.Core.Path.{refl}
 use Rattle.logic.specs.Interval.{inBreak, has, covers, contains, reversed, broken}
-use Rattle.logic.specs.Formula.{size, count, houseUnder, plain}
+use Rattle.logic.specs.Formula.{size, count, houseUnder, plain, putIn, withHolder, unbound, quantified}
 use Rattle.logic.specs.Weight.{weight}
 use Rattle.logic.specs.Counts.{up, even, sessionsOf, allOf, balanced}
 use Rattle.logic.specs.Examples.{twofold, Examples}
 
 pub examples : Examples
 unfolding size twofold weight count houseUnder balanced allOf sessionsOf even up plain inBreak has covers contains
-    reversed broken
+    reversed broken putIn withHolder unbound quantified
 examples = record {
   size-of-twofold = refl;
   size-of-offer = refl;
@@ -69,4 +69,21 @@ examples = record {
   last-before-first = refl;
   zero-first = refl;
   zero-last = refl;
+  holder-places = refl;
+  holder-seat = refl;
+  every-offer-places = refl;
+  every-offer-balanced = refl;
+  every-offer-size = refl;
+  two-for-every = refl;
+  holder-plain = refl;
+  every-not-plain = refl;
+  bound-inside = refl;
+  unbound-alone = refl;
+  unbound-beside = refl;
+  named-not-unbound = refl;
+  every-beside = refl;
+  holder-in = refl;
+  holder-other = refl;
+  holder-no-a = refl;
+  holder-not-inside = refl;
 }

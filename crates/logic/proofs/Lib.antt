@@ -4,6 +4,7 @@ pub mod Multisets
 pub mod Stores
 pub mod Weights
 pub mod Balance
+pub mod Holders
 pub mod Conservation
 pub mod Houses
 pub mod Subsumption

@@ -5,7 +5,7 @@ use mathlib.Core.List.{List, _∷_, _++_}
 use Prim.Native.Nat.{ℕ, _+_}
 use native.Mathlib.Omega.{arith}
 use Rattle.logic.specs.Derives.{Hyp, Judgment, Derives, same, ax, cp, tr, tl, or, ol, wr, w1, w2, p1, p2, pl}
-use Rattle.logic.specs.Derives.{ll, ul, br, bl, hr, hl, sr, af, sl, gr, Letter, letters, taken}
+use Rattle.logic.specs.Derives.{ll, ul, br, bl, hr, hl, sr, af, sl, gr, al, Letter, letters, taken}
 use Rattle.logic.specs.Statements.{Narrows, at-holds, at-affirms, ByRulesOf, Subsumption}
 use Rattle.logic.proofs.Intervals.{⊇-trans}
 
@@ -62,6 +62,7 @@ narrowed (at-affirms c) (af d) = let y = narrowed (at-holds c) d in (af (y .0), 
 narrowed (at-affirms c) (sl e d) =
     let y = narrowed (at-affirms c) d in (sl (⊇-trans e c) (y .0), rule-on (y .1), more 1 (y .2))
 narrowed (at-holds c) (gr e) = (gr e, refl, refl)
+narrowed n (al h d) = let y = narrowed n d in (al h (y .0), rule-on (y .1), more 1 (y .2))
 
 pub subsumption : Subsumption
 subsumption R D g h n x = narrowed n x

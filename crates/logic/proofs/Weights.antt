@@ -7,7 +7,7 @@ use native.Mathlib.Omega.{arith}
 use lib.IntN.{natAbs, ℤ, pos, negℤ, _+ℤ_, _-ℤ_, +ℤ-assoc, +ℤ-comm, +ℤ-invr, +ℤ-idr, pos-+ℤ-pos}
 use lib.IntN.{negℤ-+ℤ, negℤ-negℤ, -ℤ-+ℤ-cancel}
 use Rattle.logic.specs.Formula.{Formula, atom, one, tensor, with, plus, lolli, implies, bang, at, says}
-use Rattle.logic.specs.Formula.{superset}
+use Rattle.logic.specs.Formula.{superset, forEvery}
 use Rattle.logic.specs.Weight.{weight, counted, WellWeighed, BalancedFor}
 use Rattle.logic.specs.Multiset.{sum}
 use Rattle.logic.specs.Derives.{Hyp}
@@ -22,7 +22,7 @@ abbrev pub Alike : ℕ → Formula → Formula → Type 0
 Alike s a b = up s a + down s b ≡ up s b + down s a
 
 abbrev pub Even : ℕ → Formula → Type 0
-Even s (atom p t) = Unit {0}
+Even s (atom p t o) = Unit {0}
 Even s one = Unit {0}
 Even s (tensor a b) = Even s a × Even s b
 Even s (with a b) = Even s a × Even s b × Alike s a b
@@ -33,6 +33,7 @@ Even s (bang a) = Even s a × Level s a
 Even s (at a i) = Even s a
 Even s (says k a) = Even s a
 Even s (superset i j) = Unit {0}
+Even s (forEvery a) = Even s a
 
 -- the difference of two numbers
 abbrev pub less : ℕ → ℕ → ℤ
@@ -74,7 +75,7 @@ less-eq m n p q = (to, from)
 
 pub weight-parts : WeightParts
 unfolding weight up
-weight-parts s (atom p t) = sym (+ℤ-idr (pos (counted s p t)))
+weight-parts s (atom p t o) = sym (+ℤ-idr (pos (counted s p t)))
 weight-parts s one = refl
 weight-parts s (tensor a b) =
     ap₂ _+ℤ_ (weight-parts s a) (weight-parts s b) ∙ less-add (up s a) (down s a) (up s b) (down s b)
@@ -89,6 +90,7 @@ weight-parts s (bang a) = weight-parts s a
 weight-parts s (at a i) = weight-parts s a
 weight-parts s (says k a) = weight-parts s a
 weight-parts s (superset i j) = refl
+weight-parts s (forEvery a) = weight-parts s a
 
 -- what hypotheses add and take away
 abbrev pub ups : ℕ → List Hyp → ℕ
@@ -130,7 +132,7 @@ same-unit : Unit {0} ↔ Unit {0}
 same-unit = (λ x. x, λ x. x)
 
 pub even-is : (s : ℕ) (a : Formula) → WellWeighed s a ↔ Even s a
-even-is s (atom p t) = same-unit
+even-is s (atom p t o) = same-unit
 even-is s one = same-unit
 even-is s (tensor a b) = ×-is (even-is s a) (even-is s b)
 even-is s (with a b) = ×₃-is (even-is s a) (even-is s b) (alike-is s a b)
@@ -141,6 +143,7 @@ even-is s (bang a) = ×-is (even-is s a) (level-is s a)
 even-is s (at a i) = even-is s a
 even-is s (says k a) = even-is s a
 even-is s (superset i j) = same-unit
+even-is s (forEvery a) = even-is s a
 
 pub balanced-is : (s : ℕ) (a : Formula) → BalancedFor s a ↔ (Level s a × Even s a)
 balanced-is s a = (

@@ -5,12 +5,12 @@ use mathlib.Core.Bool.{Bool, true, _&&_}
 use Prim.Native.Nat.{ℕ, _+_}
 use lib.Dec.{eqb}
 use Rattle.logic.specs.Formula.{Formula, atom, one, tensor, with, plus, lolli, implies, bang, at, says}
-use Rattle.logic.specs.Formula.{superset}
+use Rattle.logic.specs.Formula.{superset, forEvery}
 use Rattle.logic.specs.Weight.{counted}
 
 unfoldable mutual
   pub up : ℕ → Formula → ℕ
-  up s (atom p t) = counted s p t
+  up s (atom p t o) = counted s p t
   up s one = 0
   up s (tensor a b) = up s a + up s b
   up s (with a b) = up s a
@@ -21,9 +21,10 @@ unfoldable mutual
   up s (at a i) = up s a
   up s (says k a) = up s a
   up s (superset i j) = 0
+  up s (forEvery a) = up s a
 
   pub down : ℕ → Formula → ℕ
-  down s (atom p t) = 0
+  down s (atom p t o) = 0
   down s one = 0
   down s (tensor a b) = down s a + down s b
   down s (with a b) = down s a
@@ -34,6 +35,7 @@ unfoldable mutual
   down s (at a i) = down s a
   down s (says k a) = down s a
   down s (superset i j) = 0
+  down s (forEvery a) = down s a
 
 -- weighs 0, and weigh alike
 abbrev pub level : ℕ → Formula → Bool
@@ -44,7 +46,7 @@ alike s a b = eqb (up s a + down s b) (up s b + down s a)
 
 -- well weighed
 unfoldable pub even : ℕ → Formula → Bool
-even s (atom p t) = true
+even s (atom p t o) = true
 even s one = true
 even s (tensor a b) = even s a && even s b
 even s (with a b) = even s a && (even s b && alike s a b)
@@ -55,10 +57,11 @@ even s (bang a) = even s a && level s a
 even s (at a i) = even s a
 even s (says k a) = even s a
 even s (superset i j) = true
+even s (forEvery a) = even s a
 
 -- the sessions that stand in a formula
 unfoldable pub sessionsOf : Formula → List ℕ
-sessionsOf (atom p t) = t ∷ []
+sessionsOf (atom p t o) = t ∷ []
 sessionsOf one = []
 sessionsOf (tensor a b) = sessionsOf a ++ sessionsOf b
 sessionsOf (with a b) = sessionsOf a ++ sessionsOf b
@@ -69,6 +72,7 @@ sessionsOf (bang a) = sessionsOf a
 sessionsOf (at a i) = sessionsOf a
 sessionsOf (says k a) = sessionsOf a
 sessionsOf (superset i j) = []
+sessionsOf (forEvery a) = sessionsOf a
 
 unfoldable pub allOf : {A : Type 0} → (A → Bool) → List A → Bool
 allOf f [] = true

@@ -1,12 +1,13 @@
 -- Derivations: the ground rules of document 01 over hypotheses as multisets, in the form of Figure 1 and Appendix A of
 -- the report (source document 000), without labels, shares or tables. Names are those of the step letters.
 use mathlib.Core.List.{List, [], _∷_, _++_, List·Memᴰ}
+use mathlib.Core.Option.{Option}
 use Prim.Native.Nat.{ℕ, _+_}
 use lib.ListN.{length}
 use Rattle.logic.specs.declared.Interval.{Interval}
 use Rattle.logic.specs.Interval.{Window, _⊇_, WellFormed}
 use Rattle.logic.specs.Formula.{Formula, atom, one, tensor, with, plus, lolli, implies, bang, at, says}
-use Rattle.logic.specs.Formula.{superset}
+use Rattle.logic.specs.Formula.{superset, forEvery, IsHolder, withHolder}
 use Rattle.logic.specs.Multiset.{Perm}
 
 -- a hypothesis A[I]
@@ -26,10 +27,12 @@ pub data Judgment : Type 0 where
 -- Derives R D g: g from the unrestricted hypotheses R (document 01: standing), used as often as wanted, and the linear
 -- hypotheses D (single-use), each used just once. `same` leaves the order of hypotheses free and is no use of a rule.
 -- The interval J that `ll` and `ul` choose is one: "A window from..to needs from ≤ to", and its break is 0,0 or
--- strictly inside.
+-- strictly inside. `al` "uses `q` at one named holder, 1 to 65,535, as ∀L of document 000 does": ∀ over holders, at
+-- holder h, is its part after h is put in; "no step proves a `q`".
 pub data Derives : List Hyp → List Hyp → Judgment → Type 0 where
   same : {R S D E : List Hyp} {g : Judgment} → Perm R S → Perm D E → Derives R D g → Derives S E g
-  ax : {R : List Hyp} {p s : ℕ} {i j : Window} → i ⊇ j → Derives R (atom p s ⟦ i ⟧ ∷ []) (holds (atom p s) j)
+  ax : {R : List Hyp} {p s : ℕ} {o : Option ℕ} {i j : Window}
+      → i ⊇ j → Derives R (atom p s o ⟦ i ⟧ ∷ []) (holds (atom p s o) j)
   cp : {R D : List Hyp} {h : Hyp} {g : Judgment} → List·Memᴰ h R → Derives R (h ∷ D) g → Derives R D g
   tr : {R D E : List Hyp} {a b : Formula} {i : Window}
       → Derives R D (holds a i) → Derives R E (holds b i) → Derives R (D ++ E) (holds (tensor a b) i)
@@ -67,12 +70,15 @@ pub data Derives : List Hyp → List Hyp → Judgment → Type 0 where
   sl : {R D : List Hyp} {k : ℕ} {a b : Formula} {i j : Window}
       → i ⊇ j → Derives R (a ⟦ i ⟧ ∷ D) (affirms k b j) → Derives R (says k a ⟦ i ⟧ ∷ D) (affirms k b j)
   gr : {R : List Hyp} {i j : Interval} {k : Window} → i ⊇ j → Derives R [] (holds (superset i j) k)
+  al : {R D : List Hyp} {a : Formula} {i : Window} {g : Judgment} {h : ℕ}
+      → IsHolder h → Derives R (withHolder h a ⟦ i ⟧ ∷ D) g → Derives R (forEvery a ⟦ i ⟧ ∷ D) g
 
--- The rules by their step letters; `ll` and `ul` with the interval J that they choose.
+-- The rules by their step letters; `ll` and `ul` with the interval J that they choose, `al` with the holder.
 pub data Letter : Type 0 where
   ax cp tr tl or ol wr w1 w2 p1 p2 pl : Letter
   ll ul : Window → Letter
   br bl hr hl sr af sl gr : Letter
+  al : ℕ → Letter
 
 -- The rules that a derivation uses, in the order of step lines: "first comes the whole of the first premise, then the
 -- whole of the second."
@@ -100,6 +106,7 @@ letters (Derives.sr d) = Letter.sr ∷ letters d
 letters (Derives.af d) = Letter.af ∷ letters d
 letters (Derives.sl c d) = Letter.sl ∷ letters d
 letters (Derives.gr c) = Letter.gr ∷ []
+letters (Derives.al {h = h} n d) = Letter.al h ∷ letters d
 
 -- the uses of rules
 abbrev pub uses : {R D : List Hyp} {g : Judgment} → Derives R D g → ℕ
@@ -130,3 +137,4 @@ taken (Derives.sr d) = taken d
 taken (Derives.af d) = taken d
 taken (Derives.sl c d) = 1 + taken d
 taken (Derives.gr c) = 0
+taken (Derives.al n d) = 1 + taken d

@@ -1,31 +1,41 @@
--- Document 01's sessions, as far as they speak of formulas and intervals, and what document 02 says of breaks.
+-- Document 01's sessions, as far as they speak of formulas and intervals, and what document 02 says of breaks and
+-- holders.
 use mathlib.Core.Path.{_≡_}
 use mathlib.Core.Bool.{true, false}
+use mathlib.Core.Option.{none, some}
 use Prim.Native.Nat.{ℕ, zero, suc}
 use lib.IntN.{pos, negsuc}
 use Rattle.logic.specs.Interval.{span, contains, has, reversed, broken}
 use Rattle.logic.specs.Formula.{Formula, atom, one, tensor, with, plus, lolli, implies, bang, at, says, superset}
-use Rattle.logic.specs.Formula.{size, seats, places, houseSeats, plain}
+use Rattle.logic.specs.Formula.{forEvery, size, seats, places, houseSeats, plain, withHolder, unbound}
+use Rattle.logic.specs.Formula.{quantified}
 use Rattle.logic.specs.Weight.{weight}
 use Rattle.logic.specs.Counts.{balanced}
 
 -- M1's formulas: a seat and a place of session 7, a free atom, and the offer seat ⊗ free ⊸ place
 abbrev pub seat7 : Formula
-seat7 = says 1 (atom 1 7)
+seat7 = says 1 (atom 1 7 none)
 
 abbrev pub place7 : Formula
-place7 = says 1 (atom 2 7)
+place7 = says 1 (atom 2 7 none)
 
 abbrev pub free7 : Formula
-free7 = says 2 (atom 9 7)
+free7 = says 2 (atom 9 7 none)
 
 abbrev pub offer : Formula
 offer = lolli (tensor seat7 free7) place7
 
 -- a, a ⊗ a, ..
 unfoldable pub twofold : ℕ → Formula
-twofold zero = atom 9 7
+twofold zero = atom 9 7 none
 twofold (suc n) = tensor (twofold n) (twofold n)
+
+-- a place of session 7 for the holder h, 0 for the one bound; and an offer to every holder: a seat becomes their place
+abbrev pub placeFor : ℕ → Formula
+placeFor h = says 1 (atom 2 7 (some h))
+
+abbrev pub everyOffer : Formula
+everyOffer = forEvery (lolli seat7 (placeFor 0))
 
 pub record Examples : Type 0 where
   -- M9: the sixth has size 63
@@ -50,11 +60,11 @@ pub record Examples : Type 0 where
   pub two-for-one : balanced (lolli seat7 (tensor place7 place7)) ≡ false
   -- sessions that cancel only in sum, arms that differ, a seat under ! and one left of ⊃; what stands right of ⊃ may
   -- weigh
-  pub across-sessions : balanced (lolli (atom 1 6) (atom 2 7)) ≡ false
-  pub arms-differ : balanced (lolli (with (atom 1 7) one) (atom 1 7)) ≡ false
-  pub under-bang : balanced (lolli (bang (atom 1 7)) (atom 1 7)) ≡ false
-  pub left-of-implies : balanced (implies (atom 1 7) one) ≡ false
-  pub right-of-implies : balanced (lolli (atom 1 7) (implies one (atom 1 7))) ≡ true
+  pub across-sessions : balanced (lolli (atom 1 6 none) (atom 2 7 none)) ≡ false
+  pub arms-differ : balanced (lolli (with (atom 1 7 none) one) (atom 1 7 none)) ≡ false
+  pub under-bang : balanced (lolli (bang (atom 1 7 none)) (atom 1 7 none)) ≡ false
+  pub left-of-implies : balanced (implies (atom 1 7 none) one) ≡ false
+  pub right-of-implies : balanced (lolli (atom 1 7 none) (implies one (atom 1 7 none))) ≡ true
   pub arms-alike : balanced (lolli (plus seat7 place7) (at place7 (span 0 9 0 0))) ≡ true
   pub plain-seat : plain (tensor seat7 free7) ≡ true
   pub offer-not-plain : plain offer ≡ false
@@ -63,13 +73,13 @@ pub record Examples : Type 0 where
   pub superset-not-plain : plain (superset (span 0 9 0 0) (span 3 4 0 0)) ≡ false
   -- the nearest ⟨K⟩ above a seat decides, also through ⊗; above a bare seat there is none; 0 and 255 are no house
   pub house-seat : houseSeats 7 seat7 ≡ 1
-  pub bare-seat : houseSeats 7 (atom 1 7) ≡ 0
+  pub bare-seat : houseSeats 7 (atom 1 7 none) ≡ 0
   pub host-over-house : houseSeats 7 (says 2 seat7) ≡ 1
-  pub house-over-host : houseSeats 7 (says 1 (says 2 (atom 1 7))) ≡ 0
-  pub beside-host : houseSeats 7 (says 1 (tensor (atom 1 7) (says 2 (atom 1 7)))) ≡ 1
-  pub beside-bare : houseSeats 7 (tensor seat7 (atom 1 7)) ≡ 1
-  pub principal-zero : houseSeats 7 (says 0 (atom 1 7)) ≡ 0
-  pub principal-last : houseSeats 7 (says 255 (atom 1 7)) ≡ 0
+  pub house-over-host : houseSeats 7 (says 1 (says 2 (atom 1 7 none))) ≡ 0
+  pub beside-host : houseSeats 7 (says 1 (tensor (atom 1 7 none) (says 2 (atom 1 7 none)))) ≡ 1
+  pub beside-bare : houseSeats 7 (tensor seat7 (atom 1 7 none)) ≡ 1
+  pub principal-zero : houseSeats 7 (says 0 (atom 1 7 none)) ≡ 0
+  pub principal-last : houseSeats 7 (says 255 (atom 1 7 none)) ≡ 0
   pub house-place : houseSeats 7 place7 ≡ 0
   -- ⊇ is containment, overlap is not; both ends are in an interval
   pub overlap : contains (span 0 599 0 0) (span 540 600 0 0) ≡ false
@@ -100,3 +110,24 @@ pub record Examples : Type 0 where
   pub last-before-first : broken (span 0 9 5 4) ≡ true
   pub zero-first : broken (span 0 9 0 5) ≡ true
   pub zero-last : broken (span 0 9 5 0) ≡ true
+  -- "`n` is an atom and weighs and is tallied like `a`; `q` as its part"
+  pub holder-places : places 7 (placeFor 5) ≡ 1
+  pub holder-seat : houseSeats 7 (says 1 (atom 1 7 (some 5))) ≡ 1
+  pub every-offer-places : places 7 everyOffer ≡ 1
+  pub every-offer-balanced : balanced everyOffer ≡ true
+  pub every-offer-size : size everyOffer ≡ 6
+  pub two-for-every : balanced (forEvery (lolli seat7 (tensor (placeFor 0) (placeFor 5)))) ≡ false
+  -- `q` never stands "in a plain wording, though `n` may"
+  pub holder-plain : plain (placeFor 5) ≡ true
+  pub every-not-plain : plain (forEvery (placeFor 0)) ≡ false
+  -- holder 0 is bound inside `q` and only there; each place where it stands is judged
+  pub bound-inside : unbound everyOffer ≡ false
+  pub unbound-alone : unbound (placeFor 0) ≡ true
+  pub unbound-beside : unbound (tensor (forEvery (placeFor 0)) (placeFor 0)) ≡ true
+  pub named-not-unbound : unbound (placeFor 5) ≡ false
+  pub every-beside : quantified (tensor (placeFor 0) (forEvery (placeFor 0))) ≡ true
+  -- the holder goes to every holder 0, also left of ⊸, and to no other holder, to no `a`, and not inside another `q`
+  pub holder-in : withHolder 5 (lolli (placeFor 0) (placeFor 0)) ≡ lolli (placeFor 5) (placeFor 5)
+  pub holder-other : withHolder 5 (placeFor 6) ≡ placeFor 6
+  pub holder-no-a : withHolder 5 place7 ≡ place7
+  pub holder-not-inside : withHolder 5 (tensor (placeFor 0) everyOffer) ≡ tensor (placeFor 5) everyOffer

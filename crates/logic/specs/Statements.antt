@@ -8,7 +8,7 @@ use lib.Dec.{leb}
 use lib.IntN.{ℤ, pos, _+ℤ_, _-ℤ_}
 use Rattle.logic.specs.declared.Interval.{Interval}
 use Rattle.logic.specs.Interval.{span, _⊇_, contains, has, sameInterval, reversed, broken, WellFormed}
-use Rattle.logic.specs.Formula.{Formula, seats, houseSeats, plain}
+use Rattle.logic.specs.Formula.{Formula, seats, houseSeats, plain, withHolder, unbound}
 use Rattle.logic.specs.Weight.{weight, WellWeighed, BalancedFor, Balanced}
 use Rattle.logic.specs.Multiset.{Every}
 use Rattle.logic.specs.Derives.{Hyp, Judgment, holds, affirms, Derives, letters, taken}
@@ -45,8 +45,8 @@ ByRulesOf {R} {D} x h = (y : Derives R D h) × (letters y ≡ letters x) × (tak
 
 -- Theorem 3 (Subsumption) of the report (source document 000) for the rules of Derives.antt, both parts: 1 is
 -- `at-holds`, "If .. A[I], then .. A[I′]", 2 is `at-affirms`, "If .. (K affirms A) at I, then .. (K affirms A) at I′".
--- The report says nothing of the rules used or the labels taken. Of its rules that document 01 leaves out, using ∀
--- waits for document 02, ask 7, and proving ⊸ and ⊃ and using ⊇ for ask 13, where hypotheses I ⊇ J stand in a sequent
+-- The report says nothing of the rules used or the labels taken. Of its rules that document 01 leaves out, using ∀ is
+-- `al` (document 02, ask 7); proving ⊸ and ⊃ and using ⊇ wait for ask 13, where hypotheses I ⊇ J stand in a sequent
 -- (the report's Ψ, its Lemmas 1 and 2); ⊤ and proving ∀ stay out.
 abbrev pub Subsumption : Type 0
 Subsumption = (R D : List Hyp) (g h : Judgment) → Narrows g h → (x : Derives R D g) → ByRulesOf x h
@@ -89,3 +89,15 @@ pub record AsBefore : Type 0 where
   pub contains : (a b c d : ℕ) → c ≤ d → contains (span a b 0 0) (span c d 0 0) ≡ (leb a c && leb d b)
   pub has : (a b m : ℕ) → has (span a b 0 0) m ≡ (leb a m && leb m b)
   pub unbroken : (a b : ℕ) → broken (span a b 0 0) ≡ false
+
+-- Holders: putting one in changes nothing where no holder 0 stands outside `q`, and putting in 0 changes nothing at
+-- all; after a holder is put in none stands there; and the weights stay, for every session, with what is well weighed.
+pub record HolderPutIn (h : ℕ) (a : Formula) : Type 0 where
+  pub nowhere : unbound a ≡ false → withHolder h a ≡ a
+  pub zero : withHolder 0 a ≡ a
+  pub everywhere : 1 ≤ h → unbound (withHolder h a) ≡ false
+  pub weights : (s : ℕ) → weight s (withHolder h a) ≡ weight s a
+  pub weighed : (s : ℕ) → WellWeighed s a → WellWeighed s (withHolder h a)
+
+abbrev pub Holders : Type 0
+Holders = (h : ℕ) (a : Formula) → HolderPutIn h a

@@ -18,6 +18,7 @@ pub type Window = Interval;
 
 ghost use Rattle.logic.specs.Statements.{Conservation, Subsumption, PlainWeighed, BalancedTest, WeightParts};
 ghost use Rattle.logic.specs.Statements.{HouseSeats, ContainsTest, FormedTest, SameTest, SameSet, AsBefore};
+ghost use Rattle.logic.specs.Statements.{Holders};
 ghost use Rattle.logic.specs.Examples.{Examples};
 
 // A derivation keeps the weight of its linear hypotheses, for every session.
@@ -67,7 +68,12 @@ pub fn without_breaks_as_before()
     ensures { λ _. ⌜ AsBefore ⌝ }
 {}
 
-// What document 01's sessions say of formulas and intervals, and document 02 of breaks.
+// A holder that is put in goes where holder 0 stands outside `q`, and moves no weight.
+pub fn holders_are_put_in()
+    ensures { λ _. ⌜ Holders ⌝ }
+{}
+
+// What document 01's sessions say of formulas and intervals, and document 02 of breaks and holders.
 pub fn examples_compute()
     ensures { λ _. ⌜ Examples ⌝ }
 {}

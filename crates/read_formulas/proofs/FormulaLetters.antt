@@ -7,7 +7,7 @@ use Prim.Native.Nat.{ℕ, _+_, _≤_, _<_}
 use Prim.Native.Char.{code}
 use native.Mathlib.Omega.{arith}
 use lib.ListN.{length, getD, drop, length-drop}
-use Rattle.request.specs.Range.{formulaNumber, _‥_}
+use Rattle.request.specs.Range.{predicate, session, holder, formulaNumber, _‥_}
 use Rattle.request.specs.Text.{bytes, sameBytes, andThen, numberIn}
 use Rattle.request.specs.Reader.{Reader, return, _>>=_, next, named, choose}
 use Rattle.request.specs.Request.{Line}
@@ -15,7 +15,8 @@ use Rattle.request.specs.Read.{number, interval, part, parts, formulaLine, form
 use Rattle.steps.specs.declared.Row.{Row}
 use Rattle.ledger.specs.Table.{lettered, rowOf}
 use Rattle.read_fields.specs.Field.{fieldTo}
-use Rattle.read_formulas.specs.Line.{readLine, row, oneField, twoFields, atFields, supersetFields, rowed}
+use Rattle.read_formulas.specs.Line.{readLine, row, oneField, twoFields, atFields, supersetFields, namedFields}
+use Rattle.read_formulas.specs.Line.{rowed}
 use Rattle.read_fields.proofs.Then.{then-then, then-same, then-pair}
 use Rattle.read_fields.proofs.Bytes.{here2}
 use Rattle.read_formulas.proofs.Cut.{whole-none}
@@ -65,6 +66,20 @@ module _ (letter : ℕ) where
   unfolding supersetFields
   superset-row h b = rw h (two-row interval-shape interval-shape Line.superset (λ v w. refl) b)
 
+  pub named-row : letter ≡ code "n" → (b : List ℕ)
+      → rowed (readLine (number predicate >>= (λ p. number session >>= (λ t. number holder >>= (λ k.
+      return (Line.named p t k))))) b)
+      ≡ namedFields letter b
+  unfolding namedFields rowed number next _>>=_ andThen
+  named-row h b =
+      rw h (ap rowed (number-shape predicate .more _ (λ p. refl) b
+      ∙ then-same (fieldTo 44 (numberIn predicate) b) (λ p.
+      both-last (number-shape session) (number-shape holder) (Line.named (p .0)) (p .1)))
+      ∙ then-then (fieldTo 44 (numberIn predicate) b) _ _
+      ∙ then-same (fieldTo 44 (numberIn predicate) b) (λ p.
+      then-pair (fieldTo 44 (numberIn session) (p .1)) (λ x. fieldTo 10 (numberIn holder) (x .1))
+      (λ x y. (Line.named (p .0) (x .0) (y .0), y .1)) (λ z. some (rowOf (z .0), z .1))))
+
 pub row-told : {x y : Row} (b : List ℕ) → x ≡ y → _≡_ {A = Option (Row × List ℕ)} (some (x, b)) (some (y, b))
 row-told b e = ap (λ z. some (z, b)) e
 
@@ -73,8 +88,8 @@ row-told b e = ap (λ z. some (z, b)) e
 -- those of formula lines
 abbrev pub letters : List ℕ
 letters =
-    code "o" ∷ code "w" ∷ code "u" ∷ code "t" ∷ code "p" ∷ code "l" ∷ code "s" ∷ code "h" ∷ code "g" ∷ code "b" ∷
-    code "a" ∷ []
+    code "o" ∷ code "q" ∷ code "n" ∷ code "w" ∷ code "u" ∷ code "t" ∷ code "p" ∷ code "l" ∷ code "s" ∷ code "h" ∷
+    code "g" ∷ code "b" ∷ code "a" ∷ []
 
 module _ (s : List ℕ) (i : ℕ) where
   pub letter-short : length s ≤ i + 1 → readLine formulaLine (drop i s) ≡ none
@@ -123,7 +138,7 @@ module _ (s : List ℕ) (i : ℕ) where
                     inr refl,
                     (
                       inr refl,
-                      (inr refl, (inr refl, (inr refl, (inr refl, tt)))),
+                      (inr refl, (inr refl, (inr refl, (inr refl, (inr refl, (inr refl, tt)))))),
                     ),
                   ),
                 ),

@@ -8,7 +8,7 @@ use lib.Dec.{eqb}
 use lib.ListN.{length, drop}
 use Rattle.logic.specs.declared.Interval.{Interval}
 use Rattle.logic.specs.Interval.{span, noInterval}
-use Rattle.request.specs.Range.{minute, formulaNumber, _‥_}
+use Rattle.request.specs.Range.{predicate, session, holder, minute, formulaNumber, _‥_}
 use Rattle.request.specs.Text.{bytes, sameBytes, andThen, fields, numberIn}
 use Rattle.request.specs.Reader.{Reader, whole}
 use Rattle.request.specs.Request.{Line}
@@ -47,7 +47,12 @@ intervalTo stop b =
 
 -- a letter, a number and two intervals
 abbrev pub row : ℕ → ℕ → Interval → Interval → Row
-row letter a i j = record { letter = letter; a = a; b = 0; first = i; second = j }
+row letter a i j = record { letter = letter; a = a; b = 0; holder = 0; first = i; second = j }
+
+-- a letter, two numbers and a holder
+abbrev pub held : ℕ → ℕ → ℕ → ℕ → Row
+held letter a b h =
+    record { letter = letter; a = a; b = b; holder = h; first = noInterval; second = noInterval }
 
 unfoldable pub oneField : ℕ → List ℕ → Option (Row × List ℕ)
 oneField letter b = andThen (fieldTo 10 (numberIn formulaNumber) b) (λ p. some (lettered letter (p .0) 0, p .1))
@@ -69,6 +74,13 @@ unfoldable pub supersetFields : ℕ → List ℕ → Option (Row × List ℕ)
 supersetFields letter b =
     andThen (intervalTo 44 b) (λ p.
     andThen (intervalTo 10 (p .1)) (λ q. some (row letter 0 (p .0) (q .0), q .1)))
+
+-- a predicate, a session and a holder
+unfoldable pub namedFields : ℕ → List ℕ → Option (Row × List ℕ)
+namedFields letter b =
+    andThen (fieldTo 44 (numberIn predicate) b) (λ p.
+    andThen (fieldTo 44 (numberIn session) (p .1)) (λ q.
+    andThen (fieldTo 10 (numberIn holder) (q .1)) (λ u. some (held letter (p .0) (q .0) (u .0), u .1))))
 
 -- lines as rows
 unfoldable pub rowed : Option (Line × List ℕ) → Option (Row × List ℕ)

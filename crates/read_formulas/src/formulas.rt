@@ -14,7 +14,7 @@ ghost use Rattle.request.specs.Read.{formulaLine};
 ghost use Rattle.ledger.specs.Table.{lettered as letteredOf};
 ghost use Rattle.read_fields.specs.Field.{maxReach, Stop};
 ghost use Rattle.read_formulas.specs.Line.{readLine, intervalTo, oneField, twoFields, atFields, supersetFields};
-ghost use Rattle.read_formulas.specs.Line.{rowed};
+ghost use Rattle.read_formulas.specs.Line.{namedFields, rowed};
 ghost use Rattle.read_formulas.specs.Line.{spanOf, formulaOf, TwoAsked};
 
 // `from,to,first,last`, which the byte `stop` ends.
@@ -49,7 +49,7 @@ pub fn interval(s: &[u8], at: u32, stop: u8) -> Span
     )
 }
 
-// A letter and two numbers, without intervals.
+// A letter and two numbers, without holder and intervals.
 fn lettered(letter: u32, a: u32, b: u32) -> Row
     ensures { λ r. ⌜ r ≡ letteredOf letter a b ⌝ }
 {
@@ -58,6 +58,7 @@ fn lettered(letter: u32, a: u32, b: u32) -> Row
         letter,
         a,
         b,
+        holder: 0,
         first: i,
         second: i,
     }
@@ -106,6 +107,7 @@ fn at_fields(s: &[u8], at: u32, letter: u32) -> FormulaLine
             letter,
             a,
             b: 0,
+            holder: 0,
             first: w,
             second: intervals::none(),
         },
@@ -130,6 +132,7 @@ fn superset_fields(s: &[u8], at: u32, letter: u32) -> FormulaLine
             letter,
             a: 0,
             b: 0,
+            holder: 0,
             first: v,
             second: w,
         },
@@ -137,7 +140,38 @@ fn superset_fields(s: &[u8], at: u32, letter: u32) -> FormulaLine
     )
 }
 
-// One of the eleven formula lines.
+// `n`: a predicate, a session, a holder
+fn named_fields(s: &[u8], at: u32, letter: u32) -> FormulaLine
+    requires { ⌜ length (now s) ≤ maxReach ⌝ }
+    ensures { λ r. ⌜ formulaOf (now (s .entry)) r ≡ namedFields letter (drop at (now (s .entry))) ⌝ }
+{
+    let f = number(s, at, 0, ranges::PREDICATE_LAST, b',');
+    let Decimal::Number(a, i) = f else {
+        return FormulaLine::Broken;
+    };
+    let g = number(s, i, 0, ranges::SESSION_LAST, b',');
+    let Decimal::Number(b, j) = g else {
+        return FormulaLine::Broken;
+    };
+    let h = number(s, j, 0, ranges::HOLDER_LAST, b'\n');
+    let Decimal::Number(holder, k) = h else {
+        return FormulaLine::Broken;
+    };
+    let none = intervals::none();
+    FormulaLine::Formula(
+        Row {
+            letter,
+            a,
+            b,
+            holder,
+            first: none,
+            second: none,
+        },
+        k,
+    )
+}
+
+// One of the 13 formula lines.
 pub fn formula_line(s: &[u8], at: u32) -> FormulaLine
     requires { ⌜ length (now s) ≤ maxReach ⌝ }
     ensures { λ r. ⌜ formulaOf (now (s .entry)) r ≡ rowed (readLine formulaLine (drop at (now (s .entry)))) ⌝ }
@@ -170,6 +204,8 @@ pub fn formula_line(s: &[u8], at: u32) -> FormulaLine
         letters::TENSOR => two_fields(s, j, x, ranges::FORMULA_LAST, ranges::FORMULA_LAST),
         letters::IMPLIES => two_fields(s, j, x, ranges::FORMULA_LAST, ranges::FORMULA_LAST),
         letters::WITH => two_fields(s, j, x, ranges::FORMULA_LAST, ranges::FORMULA_LAST),
+        letters::NAMED => named_fields(s, j, x),
+        letters::FOR_EVERY => one_field(s, j, x),
         _ => FormulaLine::Broken,
     }
 }

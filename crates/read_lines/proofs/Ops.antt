@@ -10,14 +10,14 @@ use lib.Dec.{eqb, ltb}
 use lib.ListN.{length, getD, drop, length-drop}
 use borrow.Author.Tests.{ne-eqb, lt-ltb, le-ltb}
 use Rattle.logic.specs.declared.Interval.{Interval}
-use Rattle.request.specs.Range.{label, serial}
+use Rattle.request.specs.Range.{label, serial, namedHolder}
 use Rattle.request.specs.Text.{bytes, sameBytes, andThen, numberIn, labelSetIn}
 use Rattle.request.specs.Reader.{Reader, return, _>>=_, next, named, choose, whole}
 use Rattle.request.specs.Request.{Step}
 use Rattle.request.specs.Read.{number, labelSet, interval, labelled, stepLine, holdLine}
 use Rattle.step_rows.specs.declared.StepRow.{StepRow}
 use Rattle.logic.specs.Interval.{noInterval}
-use Rattle.step_rows.specs.StepRows.{half, stepRow, stepOf, trNumber, llNumber, ulNumber, noStep}
+use Rattle.step_rows.specs.StepRows.{half, stepRow, stepOf, trNumber, alNumber, llNumber, ulNumber, noStep}
 use Rattle.read_fields.specs.Field.{fieldTo, strip}
 use Rattle.read_formulas.specs.Line.{readLine, lookup, intervalTo}
 use Rattle.read_lines.specs.Step.{ops, opOf, labelReader, stepReader}
@@ -69,7 +69,7 @@ word a b = code a * base + code b
 
 abbrev keys : List ℕ
 keys =
-    word "u" "l" ∷ word "l" "l" ∷ word "p" "l" ∷ word "t" "l" ∷ word "s" "l" ∷ word "h" "l" ∷
+    word "u" "l" ∷ word "l" "l" ∷ word "a" "l" ∷ word "p" "l" ∷ word "t" "l" ∷ word "s" "l" ∷ word "h" "l" ∷
     word "b" "l" ∷ word "w" "2" ∷ word "w" "1" ∷ word "o" "l" ∷ word "c" "p" ∷ word "a" "x" ∷
     word "t" "r" ∷ word "w" "r" ∷ word "s" "r" ∷ word "h" "r" ∷ word "b" "r" ∷ word "p" "2" ∷
     word "p" "1" ∷ word "g" "r" ∷ word "o" "r" ∷ word "a" "f" ∷ []
@@ -89,17 +89,19 @@ module _ (op : ℕ) where
   unfolding stepReader
   reader-plain h = rw (lt-ltb op trNumber h)
 
-  reader-label : trNumber ≤ op → (op ≡ trNumber → ⊥) → op < llNumber → stepReader op ≡ labelReader op
+  reader-label : trNumber ≤ op → (op ≡ trNumber → ⊥) → op < alNumber → stepReader op ≡ labelReader op
   unfolding stepReader
-  reader-label h n k = rw (le-ltb op trNumber h, ne-eqb op trNumber n, lt-ltb op llNumber k)
+  reader-label h n k = rw (le-ltb op trNumber h, ne-eqb op trNumber n, lt-ltb op alNumber k)
 
-  reader-none : llNumber ≤ op → (op ≡ llNumber → ⊥) → (op ≡ ulNumber → ⊥) → stepReader op ≡ (λ ts. none)
+  reader-none : alNumber ≤ op → (op ≡ alNumber → ⊥) → (op ≡ llNumber → ⊥) → (op ≡ ulNumber → ⊥)
+      → stepReader op ≡ (λ ts. none)
   unfolding stepReader
-  reader-none h n m =
+  reader-none h k n m =
       rw (
         le-ltb op trNumber (omega arith),
         ne-eqb op trNumber (λ e. omega arith),
-        le-ltb op llNumber h,
+        le-ltb op alNumber h,
+        ne-eqb op alNumber k,
         ne-eqb op llNumber n,
         ne-eqb op ulNumber m,
       )
@@ -107,9 +109,10 @@ module _ (op : ℕ) where
   reader-bare : trNumber ≤ op → stepReader op [] ≡ none
   unfolding stepReader labelReader labelled labelSet number interval next _>>=_ andThen
   reader-bare h = rw (le-ltb op trNumber h) (by-test (eqb op trNumber) (λ e. rw e) (λ e.
-      by-test (ltb op llNumber) (λ f. rw (e, f)) (λ f.
-      by-test (eqb op llNumber) (λ g. rw (e, f, g)) (λ g. by-test (eqb op ulNumber) (λ k. rw (e, f, g, k))
-      (λ k. rw (e, f, g, k))))))
+      by-test (ltb op alNumber) (λ f. rw (e, f)) (λ f.
+      by-test (eqb op alNumber) (λ a. rw (e, f, a)) (λ a.
+      by-test (eqb op llNumber) (λ g. rw (e, f, a, g)) (λ g. by-test (eqb op ulNumber) (λ k. rw (e, f, a, g, k))
+      (λ k. rw (e, f, a, g, k)))))))
 
 module _ (b : List ℕ) where
   pub set-line : readLine (stepReader trNumber) b ≡ andThen (fieldTo 10 labelSetIn b) (λ v. some (Step.tr (v .0), v .1))
@@ -120,6 +123,11 @@ module _ (b : List ℕ) where
       ≡ andThen (fieldTo 10 (numberIn label) b) (λ l. some (stepOf (stepRow op (l .0) 0 0 noInterval), l .1))
   unfolding labelReader labelled
   label-line op = number-shape label .last (λ l. stepOf (stepRow op l 0 0 noInterval)) b
+
+  pub holder-line : readLine (stepReader alNumber) b ≡ andThen (fieldTo 44 (numberIn label) b) (λ l.
+      andThen (fieldTo 10 (numberIn namedHolder) (l .1)) (λ h. some (Step.al (l .0) (h .0), h .1)))
+  unfolding stepReader
+  holder-line = both-last (number-shape label) (number-shape namedHolder) Step.al b
 
   pub lolli-line : readLine (stepReader llNumber) b ≡ andThen (fieldTo 44 (numberIn label) b) (λ l.
       andThen (fieldTo 44 labelSetIn (l .1)) (λ v. andThen (intervalTo 10 (v .1)) (λ j.
@@ -199,11 +207,11 @@ module _ (s : List ℕ) (i : ℕ) where
     step-fields e k p =
         step-at ∙ onward-comma _ (drop (i + 3) s) e ∙ ap (λ x. readLine (stepReader x) (drop (i + 3) s)) p
 
-    pub step-label : getD s (i + 2) 0 ≡ 44 → trNumber ≤ op → (op ≡ trNumber → ⊥) → op < llNumber
+    pub step-label : getD s (i + 2) 0 ≡ 44 → trNumber ≤ op → (op ≡ trNumber → ⊥) → op < alNumber
         → readLine stepLine (drop i s) ≡ readLine (labelReader op) (drop (i + 3) s)
     step-label e l n k = step-fields e op refl ∙ rw (reader-label op l n k)
 
-    pub step-none : getD s (i + 2) 0 ≡ 44 → llNumber ≤ op → (op ≡ llNumber → ⊥) → (op ≡ ulNumber → ⊥)
-        → readLine stepLine (drop i s) ≡ none
-    step-none e l n m =
-        step-fields e op refl ∙ rw (reader-none op l n m) (line-none _ (λ ts. whole-none _ ts refl) (drop (i + 3) s))
+    pub step-none : getD s (i + 2) 0 ≡ 44 → alNumber ≤ op → (op ≡ alNumber → ⊥) → (op ≡ llNumber → ⊥)
+        → (op ≡ ulNumber → ⊥) → readLine stepLine (drop i s) ≡ none
+    step-none e l k n m =
+        step-fields e op refl ∙ rw (reader-none op l k n m) (line-none _ (λ ts. whole-none _ ts refl) (drop (i + 3) s))

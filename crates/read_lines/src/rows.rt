@@ -19,7 +19,7 @@ ghost use Rattle.logic.specs.Interval.{noInterval};
 ghost use Rattle.request.specs.Range.{maxBytes};
 ghost use Rattle.request.specs.Read.{stepLine};
 ghost use Rattle.read_formulas.specs.Line.{readLine};
-ghost use Rattle.step_rows.specs.StepRows.{stepRow, trNumber, llNumber, ulNumber};
+ghost use Rattle.step_rows.specs.StepRows.{stepRow, trNumber, alNumber, llNumber, ulNumber};
 ghost use Rattle.read_lines.specs.Step.{opOf, stepReader, labelReader, stepLineOf};
 
 // The number of the step whose word is the two letters.
@@ -48,6 +48,7 @@ fn op_of(a: u8, b: u8) -> u32
         words::SL => ops::SL,
         words::TL => ops::TL,
         words::PL => ops::PL,
+        words::AL => ops::AL,
         words::LL => ops::LL,
         words::UL => ops::UL,
         _ => ops::NONE,
@@ -91,6 +92,22 @@ fn label_fields(s: &[u8], at: u32, op: u32) -> StepLine
         return StepLine::Broken;
     };
     StepLine::Step(plain_step(op, label, 0, 0), i)
+}
+
+// `al`: a label, a holder
+fn holder_fields(s: &[u8], at: u32) -> StepLine
+    requires { ⌜ length (now s) ≤ maxBytes ⌝ }
+    ensures { λ r. ⌜ stepLineOf (now (s .entry)) r ≡ readLine (stepReader alNumber) (drop at (now (s .entry))) ⌝ }
+{
+    let f = number(s, at, 0, ranges::LABEL_LAST, b',');
+    let Decimal::Number(label, i) = f else {
+        return StepLine::Broken;
+    };
+    let g = number(s, i, ranges::NAMED_HOLDER_FIRST, ranges::HOLDER_LAST, b'\n');
+    let Decimal::Number(holder, j) = g else {
+        return StepLine::Broken;
+    };
+    StepLine::Step(plain_step(ops::AL, label, 0, holder), j)
 }
 
 // `ll`: a label, a set of labels, an interval
@@ -173,8 +190,11 @@ pub fn read_step(s: &[u8], at: u32) -> StepLine
     if op == ops::TR {
         return set_fields(s, j);
     }
-    if op < ops::LL {
+    if op < ops::AL {
         return label_fields(s, j, op);
+    }
+    if op == ops::AL {
+        return holder_fields(s, j);
     }
     if op == ops::LL {
         return lolli_fields(s, j);

@@ -8,6 +8,8 @@ unfolding bytes andThen decimalDigit reads decimal numberIn
 ranges-end = record {
   predicates = record { from = refl; to = refl; under = refl; over = refl };
   sessions = record { from = refl; to = refl; under = refl; over = refl };
+  holders = record { from = refl; to = refl; under = refl; over = refl };
+  namedHolders = record { from = refl; to = refl; under = refl; over = refl };
   principals = record { from = refl; to = refl; under = refl; over = refl };
   minutes = record { from = refl; to = refl; under = refl; over = refl };
   formulas = record { from = refl; to = refl; under = refl; over = refl };

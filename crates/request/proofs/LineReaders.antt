@@ -4,19 +4,21 @@ use mathlib.Core.List.{[], _∷_, _++_}
 use mathlib.Core.Bool.{true}
 use Prim.Native.Nat.{ℕ}
 use Prim.Native.String.{String}
+use Rattle.logic.specs.declared.Interval.{Interval}
 use Rattle.logic.specs.Counts.{allOf}
-use Rattle.request.specs.Range.{serial}
+use Rattle.request.specs.Range.{serial, label}
 use Rattle.request.specs.Text.{bytes, sameBytes}
 use Rattle.request.specs.Reader.{named, choose}
 use Rattle.request.specs.Request.{Line, Step}
-use Rattle.request.specs.Read.{part, parts, formulaLine, formulaLineWith, labelled, stepLine, holdLine}
+use Rattle.request.specs.Read.{interval, part, parts, formulaLine, formulaLineWith, labelled, stepLine, holdLine}
 use Rattle.request.specs.Write.{digits, minutes, lineFields, stepFields, holdFields}
-use Rattle.request.specs.InRange.{_inRange_, Parts, LineInRange, StepInRange}
+use Rattle.request.specs.InRange.{_inRange_, IntervalInRange, Parts, LineInRange, StepInRange}
 use Rattle.request.proofs.Readers.{Texts, Reads, Only, Exact, done, _also_, fits, only-return, only-then}
 use Rattle.request.proofs.Readers.{only-after, reads-return, reads-then, reads-last, choose-only, word-reads}
 use Rattle.request.proofs.Readers.{one-reads, one-only, two-reads, two-only}
+use Rattle.request.proofs.Fields.{NumberExact}
 use Rattle.request.proofs.Fields.{predicate-exact, principal-exact, label-exact, formula-exact, session-exact}
-use Rattle.request.proofs.Fields.{serial-exact, labelSet-exact, interval-exact}
+use Rattle.request.proofs.Fields.{serial-exact, labelSet-exact, interval-exact, holder-exact, named-holder-exact}
 
 -- Formula lines: at most 66 bytes
 
@@ -43,6 +45,10 @@ formula-line-reads (Line.says k i) h =
     two-reads principal-exact formula-exact Line.says "s" k i (h .principal) (h .part) refl (λ us. refl)
 formula-line-reads (Line.superset v w) h =
     two-reads interval-exact interval-exact Line.superset "g" v w (h .first) (h .second) refl (λ us. refl)
+formula-line-reads (Line.named p s k) h =
+    word-reads "n" refl (λ us. refl) (reads-then _ (predicate-exact .reads p (h .predicate))
+    (reads-then _ (session-exact .reads s (h .session)) (reads-last _ (holder-exact .reads k (h .holder)))))
+formula-line-reads (Line.forEvery i) h = one-reads formula-exact Line.forEvery "q" i h refl (λ us. refl)
 
 parts-only : {before : Texts} (make : ℕ → ℕ → Line)
     → ((i j : ℕ) → Parts i j → LineInRange (make i j) × (lineFields (make i j) ≡ before ++ (digits i ∷ digits j ∷ [])))
@@ -66,10 +72,19 @@ formula-line-exact = record {
       also two-only formula-exact interval-exact Line.at (λ i w h k. (record { part = h; interval = k }, refl))
       also two-only principal-exact formula-exact Line.says (λ k i h j. (record { principal = h; part = j }, refl))
       also two-only interval-exact interval-exact Line.superset (λ v w h k. (record { first = h; second = k }, refl))
+      also only-then _ (predicate-exact .only) (λ p h. two-only session-exact holder-exact (Line.named p)
+      (λ s k i j. (record { predicate = h; session = i; holder = j }, refl)))
+      also one-only formula-exact Line.forEvery (λ i h. (h, refl))
       also done);
 }
 
 -- Step lines: at most 55 bytes
+
+-- `ul` reads as its label and its interval do
+ul-reads : NumberExact label 3 → Exact 48 interval IntervalInRange minutes 32 → (l : ℕ) (j : Interval)
+    → StepInRange (Step.ul l j) → Reads 48 stepLine (Step.ul l j) (stepFields (Step.ul l j)) 55
+unfolding stepLine stepFields labelled bytes sameBytes choose named allOf
+ul-reads labels intervals l j h = two-reads labels intervals Step.ul "ul" l j (h .label) (h .interval) refl (λ us. refl)
 
 step-line-reads : (s : Step) → StepInRange s → Reads 48 stepLine s (stepFields s) 55
 unfolding stepLine stepFields labelled bytes sameBytes choose named allOf
@@ -88,8 +103,7 @@ step-line-reads (Step.pl l) h = one-reads label-exact Step.pl "pl" l h refl (λ 
 step-line-reads (Step.ll l s j) h =
     word-reads "ll" refl (λ us. refl) (reads-then _ (label-exact .reads l (h .label))
     (reads-then _ (labelSet-exact .reads s (h .share)) (reads-last _ (interval-exact .reads j (h .interval)))))
-step-line-reads (Step.ul l j) h =
-    two-reads label-exact interval-exact Step.ul "ul" l j (h .label) (h .interval) refl (λ us. refl)
+step-line-reads (Step.ul l j) h = ul-reads label-exact interval-exact l j h
 step-line-reads Step.br h = word-reads "br" refl (λ us. refl) (reads-return 48 Step.br)
 step-line-reads (Step.bl l) h = one-reads label-exact Step.bl "bl" l h refl (λ us. refl)
 step-line-reads Step.hr h = word-reads "hr" refl (λ us. refl) (reads-return 48 Step.hr)
@@ -98,6 +112,8 @@ step-line-reads Step.sr h = word-reads "sr" refl (λ us. refl) (reads-return 48 
 step-line-reads Step.af h = word-reads "af" refl (λ us. refl) (reads-return 48 Step.af)
 step-line-reads (Step.sl l) h = one-reads label-exact Step.sl "sl" l h refl (λ us. refl)
 step-line-reads Step.gr h = word-reads "gr" refl (λ us. refl) (reads-return 48 Step.gr)
+step-line-reads (Step.al l k) h =
+    two-reads label-exact named-holder-exact Step.al "al" l k (h .label) (h .holder) refl (λ us. refl)
 
 pub step-line-exact : Exact 48 stepLine StepInRange stepFields 55
 unfolding stepLine stepFields labelled minutes
@@ -127,6 +143,7 @@ step-line-exact = record {
       also only-return Step.af tt refl
       also one-only label-exact Step.sl (λ l h. (h, refl))
       also only-return Step.gr tt refl
+      also two-only label-exact named-holder-exact Step.al (λ l k h i. (record { label = h; holder = i }, refl))
       also done);
 }
 

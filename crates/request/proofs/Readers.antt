@@ -1,5 +1,6 @@
 -- Laws of readers: from which texts they read a value, and that they read it from no others.
 use mathlib.Core.Path.{_≡_, refl, sym, ap, subst, _∙_}
+use mathlib.Core.Logic.{_↔_}
 use mathlib.Core.List.{List, [], _∷_, _++_, map, append-assoc, append-nil}
 use mathlib.Core.Option.{Option, none, some}
 use mathlib.Core.Bool.{Bool, true, false, _&&_, and-eq-true-iff}
@@ -36,6 +37,14 @@ pub record Only {A : Type 0} (P : A → Type 0) (w : A → Texts) (before : Text
 pub record Exact {A : Type 0} (lo : ℕ) (r : Reader A) (P : A → Type 0) (w : A → Texts) (n : ℕ) : Type 0 where
   pub reads : (a : A) → P a → Reads lo r a (w a) n
   pub only : Only P w [] r
+
+-- the same values in other words
+pub exact-as : {A : Type 0} {lo n : ℕ} {r : Reader A} {P Q : A → Type 0} {w : A → Texts} → ((a : A) → Q a ↔ P a)
+    → Exact lo r P w n → Exact lo r Q w n
+exact-as f e = record {
+  reads = λ a h. e .reads a (f a .0 h);
+  only = record { from = λ ts. gives-so (e .only .from ts) (λ x p. (f (x .0) .1 (p .0), p .1)) };
+}
 
 size-append : (ss ts : Texts) → size (ss ++ ts) ≡ size ss + size ts
 size-append [] ts = omega arith

@@ -1,12 +1,12 @@
 -- Requests: read from their lines and from no others; and their bytes.
 use mathlib.Core.Path.{_≡_, refl, sym, ap, subst, _∙_}
 use mathlib.Core.List.{List, [], _∷_}
-use Prim.Native.Nat.{ℕ}
+use Prim.Native.Nat.{ℕ, _+_, _*_, _≤_}
 use native.Mathlib.Omega.{arith}
 use lib.ListN.{length}
 use Rattle.logic.specs.declared.Interval.{Interval}
 use Rattle.logic.specs.Counts.{allOf}
-use Rattle.request.specs.Range.{session, serial, minute, formulaNumber, holds, steps}
+use Rattle.request.specs.Range.{session, serial, minute, formulaNumber, holds, steps, maxBytes}
 use Rattle.request.specs.Text.{bytes, sameBytes, andThen, lines}
 use Rattle.request.specs.Reader.{named, choose, line}
 use Rattle.request.specs.Request.{Booking, Request, word, issue, withdraw, book, tally}
@@ -115,13 +115,17 @@ book-head b h = line-reads refl (book-reads _ _ _ _ _ (record {
   stepCount = h .stepCount;
 }))
 
+-- no booking is longer
+book-longest : (h k : ℕ) → h ≤ holds .last → k ≤ steps .last → 56 + (h * 12 + k * 55) ≤ longest
+book-longest h k a b = omega arith
+
 request-reads : (r : Request) → InRange r → Reads 44 (requestLines session) r (requestTexts r) longest
 unfolding requestLines requestTexts moreLines headFields headTexts rest
 request-reads (word l) h = single-reads (word l) h refl
 request-reads (issue k n i) h = single-reads (issue k n i) h refl
 request-reads (withdraw n) h = single-reads (withdraw n) h refl
 request-reads (book b) h =
-    reads-within (omega (arith, h .holdCount .most, h .stepCount .most))
+    reads-within (book-longest (length (b .holds)) (length (b .steps)) (h .holdCount .most) (h .stepCount .most))
     (reads-then _ (book-head b h)
     (reads-then _ (many-read hold-line (b .holds) (h .holds))
     (reads-last _ (many-read step-line (b .steps) (h .steps)))))
@@ -176,5 +180,9 @@ pub longest-write : Longest
 unfolding write
 longest-write r h = omega (arith, ended-size (requestTexts r), request-reads r h .short)
 
+-- the longest request is a sheet
+longest-fits : longest ≤ maxBytes
+longest-fits = omega arith
+
 pub write-short : WriteShort
-write-short r h = omega (arith, longest-write r h)
+write-short r h = omega (arith, longest-write r h, longest-fits)

@@ -78,7 +78,11 @@ wide-line h = wide-next (λ t. also-whole h (fields t))
 module _ (before after : Range) (wide : Wide (number before) (number after)) where
   formula-line-wide : Wide (formulaLineWith before) (formulaLineWith after)
   unfolding formulaLineWith
-  formula-line-wide = wide-choose (row (wide-then (wide-same _) (λ p. wide-then wide (λ s. wide-same _))) same)
+  formula-line-wide =
+      wide-choose (row (wide-then (wide-same _) (λ p. wide-then wide (λ s. wide-same _)))
+      (row (wide-same _) (row (wide-same _) (row (wide-same _) (row (wide-same _) (row (wide-same _)
+      (row (wide-same _) (row (wide-same _) (row (wide-same _) (row (wide-same _) (row (wide-same _)
+      (row (wide-then (wide-same _) (λ p. wide-then wide (λ s. wide-same _))) same))))))))))))
 
   first-line-wide : Wide (firstLineWith before) (firstLineWith after)
   unfolding firstLineWith

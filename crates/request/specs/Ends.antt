@@ -1,10 +1,10 @@
 -- The ends of the ranges, as the papers write them: document 01, "Ranges", and document 02, ask 1, "65,536 breaks its
--- range".
+-- range", and ask 7.
 use mathlib.Core.Path.{_≡_}
 use mathlib.Core.Option.{none, some}
 use Prim.Native.String.{String}
 use Rattle.request.specs.Range.{Range, predicate, session, principal, minute, formulaNumber, serial, label}
-use Rattle.request.specs.Range.{nextSerial, holds, steps}
+use Rattle.request.specs.Range.{nextSerial, holds, steps, holder, namedHolder}
 use Rattle.request.specs.Text.{bytes, numberIn}
 
 -- these texts are read as the range's first number and its last; those of the numbers before and after are not read
@@ -18,6 +18,8 @@ pub record Ends (r : Range) (first last below past : String) : Type 0 where
 pub record RangesEnd : Type 0 where
   pub predicates : Ends predicate "0" "255" "-" "256"
   pub sessions : Ends session "0" "65535" "-" "65536"
+  pub holders : Ends holder "0" "65535" "-" "65536"
+  pub namedHolders : Ends namedHolder "1" "65535" "0" "65536"
   pub principals : Ends principal "0" "255" "-" "256"
   pub minutes : Ends minute "0" "9999999" "-" "10000000"
   pub formulas : Ends formulaNumber "0" "999" "-" "1000"

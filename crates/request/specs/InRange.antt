@@ -5,7 +5,7 @@ use lib.ListN.{length}
 use Rattle.logic.specs.declared.Interval.{Interval}
 use Rattle.logic.specs.Multiset.{Every}
 use Rattle.request.specs.Range.{Range, predicate, session, principal, minute, formulaNumber, serial, label}
-use Rattle.request.specs.Range.{holds, steps}
+use Rattle.request.specs.Range.{holds, steps, holder, namedHolder}
 use Rattle.request.specs.Request.{Line, Step, Booking, Request, word, issue, withdraw, book, tally}
 
 -- n is in the range
@@ -41,6 +41,9 @@ LineInRange (Line.bang i) = i inRange formulaNumber
 LineInRange (Line.at i w) = record { part : i inRange formulaNumber; interval : IntervalInRange w }
 LineInRange (Line.says k i) = record { principal : k inRange principal; part : i inRange formulaNumber }
 LineInRange (Line.superset v w) = record { first : IntervalInRange v; second : IntervalInRange w }
+LineInRange (Line.named p s h) =
+    record { predicate : p inRange predicate; session : s inRange session; holder : h inRange holder }
+LineInRange (Line.forEvery i) = i inRange formulaNumber
 
 abbrev pub StepInRange : Step → Type 0
 StepInRange (Step.ax l) = l inRange label
@@ -65,6 +68,7 @@ StepInRange Step.sr = Unit {0}
 StepInRange Step.af = Unit {0}
 StepInRange (Step.sl l) = l inRange label
 StepInRange Step.gr = Unit {0}
+StepInRange (Step.al l h) = record { label : l inRange label; holder : h inRange namedHolder }
 
 pub record BookingInRange (b : Booking) : Type 0 where
   pub now : b .now inRange minute

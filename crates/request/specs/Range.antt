@@ -1,6 +1,7 @@
 -- "Ranges: predicate, .., principal 0 to 255; minute 0 to 9,999,999; wording 0 to 999; serial 1 to 999,999;
--- label 0 to 63; holds 0 to 32; steps 1 to 256. A sheet has at most 16,384 bytes." Sessions: document 02.
+-- label 0 to 63; holds 0 to 32; steps 1 to 256. A sheet has at most 16,384 bytes." Sessions, holders: document 02.
 use Prim.Native.Nat.{ℕ, _+_}
+use Rattle.logic.specs.Formula.{lastHolder}
 
 pub record Range : Type 0 where
   pub first : ℕ
@@ -16,6 +17,13 @@ predicate = 0 ‥ 255
 -- document 02, ask 1: "Sessions go from 0 to 65,535 in atoms and in tally."
 abbrev pub session : Range
 session = 0 ‥ 65535
+
+-- document 02, ask 7: "a holder number, 1 to 65,535"; in an atom also 0, which "stands for the holder bound"
+abbrev pub holder : Range
+holder = 0 ‥ lastHolder
+
+abbrev pub namedHolder : Range
+namedHolder = 1 ‥ lastHolder
 
 abbrev pub principal : Range
 principal = 0 ‥ 255

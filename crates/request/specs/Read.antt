@@ -1,4 +1,4 @@
--- The five requests, the eleven formula lines and the 22 step lines: which fields, in which order, from which range.
+-- The five requests, the 13 formula lines and the 23 step lines: which fields, in which order, from which range.
 use Prim.Native.Nat.{ℕ}
 use mathlib.Core.List.{List, [], _∷_}
 use mathlib.Core.Option.{Option}
@@ -7,7 +7,7 @@ use Rattle.logic.specs.Interval.{span}
 use Rattle.request.specs.declared.Kind.{Kind}
 use Rattle.request.specs.declared.Kind.the-variants.{Linear, Unrestricted}
 use Rattle.request.specs.Range.{Range, predicate, session, principal, minute, formulaNumber, serial, label}
-use Rattle.request.specs.Range.{holds, steps}
+use Rattle.request.specs.Range.{holds, steps, holder, namedHolder}
 use Rattle.request.specs.Text.{andThen, lines, numberIn, labelSetIn}
 use Rattle.request.specs.Reader.{Reader, return, _>>=_, next, many, choose, whole, line}
 use Rattle.request.specs.Request.{Line, Step, Request, word, issue, withdraw, book, tally}
@@ -50,7 +50,8 @@ parts make = do
 
 -- "`a,predicate,session` atom; `o` is 1; `t,i,j` ⊗; `w,i,j` &; `p,i,j` ⊕; `l,i,j` ⊸; `u,i,j` ⊃; `b,i` !;
 -- `h,i,from,to` @; `s,principal,i` ⟨K⟩; `g,from,to,from,to` first window ⊇ second", each window with its break.
--- The range of sessions is an argument, since document 02 has widened it (`SheetsAsBefore` in Statements.antt).
+-- Document 02: "wordings `n,predicate,session,holder` and `q,i`, for every holder". The range of sessions is an
+-- argument, since document 02 has widened it (`SheetsAsBefore` in Statements.antt).
 unfoldable pub formulaLineWith : Range → Reader Line
 formulaLineWith sessions = choose (
     ("a", do p ← number predicate; s ← number sessions; return (Line.atom p s)) ∷
@@ -63,7 +64,9 @@ formulaLineWith sessions = choose (
     ("b", part Line.bang) ∷
     ("h", do i ← number formulaNumber; w ← interval; return (Line.at i w)) ∷
     ("s", do k ← number principal; i ← number formulaNumber; return (Line.says k i)) ∷
-    ("g", do v ← interval; w ← interval; return (Line.superset v w)) ∷ [])
+    ("g", do v ← interval; w ← interval; return (Line.superset v w)) ∷
+    ("n", do p ← number predicate; s ← number sessions; h ← number holder; return (Line.named p s h)) ∷
+    ("q", part Line.forEvery) ∷ [])
 
 abbrev pub formulaLine : Reader Line
 formulaLine = formulaLineWith session
@@ -98,7 +101,8 @@ stepLine = choose (
     ("sr", return Step.sr) ∷
     ("af", return Step.af) ∷
     ("sl", labelled Step.sl) ∷
-    ("gr", return Step.gr) ∷ [])
+    ("gr", return Step.gr) ∷
+    ("al", do l ← number label; h ← number namedHolder; return (Step.al l h)) ∷ [])
 
 -- `hold,serial`
 unfoldable pub holdLine : Reader ℕ

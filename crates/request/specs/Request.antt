@@ -5,7 +5,8 @@ use Rattle.logic.specs.declared.Interval.{Interval}
 use Rattle.logic.specs.Interval.{Window}
 use Rattle.request.specs.declared.Kind.{Kind}
 
--- A formula line (document 01: a wording line), in the paper's order; parts are the numbers of earlier formulas.
+-- A formula line (document 01: a wording line), in the paper's order; parts are the numbers of earlier formulas. The
+-- last two are document 02's, ask 7: `n,predicate,session,holder` and `q,i`.
 pub data Line : Type 0 where
   atom : ℕ → ℕ → Line
   one : Line
@@ -14,8 +15,11 @@ pub data Line : Type 0 where
   at : ℕ → Interval → Line
   says : ℕ → ℕ → Line
   superset : Interval → Interval → Line
+  named : ℕ → ℕ → ℕ → Line
+  forEvery : ℕ → Line
 
--- A step line, in the paper's order: a label L, a set of labels (a share), an interval.
+-- A step line, in the paper's order: a label L, a set of labels (a share), an interval. The last one is document 02's,
+-- ask 7: a label and a holder.
 pub data Step : Type 0 where
   ax cp : ℕ → Step
   tr : ℕ → Step
@@ -35,6 +39,7 @@ pub data Step : Type 0 where
   sr af : Step
   sl : ℕ → Step
   gr : Step
+  al : ℕ → ℕ → Step
 
 -- `book,now,wording,from,to,first,last,holds,steps`, the serials held, the step lines
 pub record Booking : Type 0 where
@@ -64,6 +69,8 @@ lineIntervals (Line.bang i) = []
 lineIntervals (Line.at i w) = w ∷ []
 lineIntervals (Line.says k i) = []
 lineIntervals (Line.superset v w) = v ∷ w ∷ []
+lineIntervals (Line.named p s h) = []
+lineIntervals (Line.forEvery i) = []
 
 abbrev pub stepIntervals : Step → List Interval
 stepIntervals (Step.ax l) = []
@@ -88,6 +95,7 @@ stepIntervals Step.sr = []
 stepIntervals Step.af = []
 stepIntervals (Step.sl l) = []
 stepIntervals Step.gr = []
+stepIntervals (Step.al l h) = []
 
 unfoldable pub stepsIntervals : List Step → List Interval
 stepsIntervals [] = []

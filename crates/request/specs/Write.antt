@@ -68,6 +68,8 @@ lineFields (Line.bang i) = bytes "b" ∷ digits i ∷ []
 lineFields (Line.at i w) = bytes "h" ∷ digits i ∷ minutes w
 lineFields (Line.says k i) = bytes "s" ∷ digits k ∷ digits i ∷ []
 lineFields (Line.superset v w) = bytes "g" ∷ minutes v ++ minutes w
+lineFields (Line.named p s h) = bytes "n" ∷ digits p ∷ digits s ∷ digits h ∷ []
+lineFields (Line.forEvery i) = bytes "q" ∷ digits i ∷ []
 
 -- the fields of a step line
 unfoldable pub stepFields : Step → List (List ℕ)
@@ -93,6 +95,7 @@ stepFields Step.sr = bytes "sr" ∷ []
 stepFields Step.af = bytes "af" ∷ []
 stepFields (Step.sl l) = bytes "sl" ∷ digits l ∷ []
 stepFields Step.gr = bytes "gr" ∷ []
+stepFields (Step.al l h) = bytes "al" ∷ digits l ∷ digits h ∷ []
 
 -- `hold,serial`
 unfoldable pub holdFields : ℕ → List (List ℕ)

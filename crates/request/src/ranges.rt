@@ -1,9 +1,14 @@
-// The ends of the ranges, as specs/Range.antt has them (document 01: "Ranges"; sessions: document 02), for the code
-// that reads fields.
+// The ends of the ranges, as specs/Range.antt has them (document 01: "Ranges"; sessions, holders: document 02), for the
+// code that reads fields.
 pub const PREDICATE_LAST: u32 = 255;
 
 // document 02, ask 1: "Sessions go from 0 to 65,535"
 pub const SESSION_LAST: u32 = 65_535;
+
+// document 02, ask 7: "a holder number, 1 to 65,535"; in an atom also 0
+pub const HOLDER_LAST: u32 = 65_535;
+
+pub const NAMED_HOLDER_FIRST: u32 = 1;
 
 pub const PRINCIPAL_LAST: u32 = 255;
 

@@ -16,8 +16,18 @@ texts-open = record {
   forms = refl;
   credentials = refl;
   rules = refl;
+  holders = refl;
 }
 
 pub closings : Closings
 unfolding rewritten AnsweredFrom
-closings = record { short = refl; none = refl; fits = refl; past = refl; left = refl; last = refl }
+closings = record {
+  short = refl;
+  none = refl;
+  fits = refl;
+  past = refl;
+  paused = refl;
+  left = refl;
+  last = refl;
+  holders = refl;
+}

@@ -10,7 +10,7 @@ use lib.ListN.{length, length-append}
 use borrow.Author.Tests.{leb-false, lt-leb, not-false}
 use Rattle.logic.specs.declared.Interval.{Interval}
 use Rattle.logic.specs.Interval.{WellFormed}
-use Rattle.logic.specs.Formula.{Formula}
+use Rattle.logic.specs.Formula.{Formula, unbound}
 use Rattle.logic.specs.Multiset.{Every}
 use Rattle.logic.proofs.Multisets.{every-out, every-snoc, every-map}
 use Rattle.request.specs.declared.Kind.{Kind}
@@ -110,17 +110,17 @@ opens-lawful b t o =
 -- the rules of a credential, with one line more
 rules-stay : (t : Ledger) (l : Line) (c : Credential) → Pass (credentialRules t c)
     → Pass (credentialRules (withLine t l) c)
-rules-stay t l c (ordered, (unbroken, (present, (fits, end)))) =
-    let there = leb-false (length (t .lines)) (c .formula) (if-none 10 _ present) in (
+rules-stay t l c (ordered, (unbroken, (present, (bound, (fits, end))))) =
+    let there = leb-false (length (t .lines)) (c .formula) (if-none 10 _ present) in
+    let same = sym (formula-stays t l (c .formula) there) in (
       ordered,
       (
         unbroken,
         (
           if-false 10 _ (lt-leb _ (c .formula) (omega (arith, length-append (t .lines) (l ∷ []), there))),
           (
-            subst (λ (a : Formula). (unissuableNumber (c .kind) if unissuable (c .kind) a) ≡ none)
-                (sym (formula-stays t l (c .formula) there)) fits,
-            tt,
+            subst (λ (a : Formula). (53 if unbound a) ≡ none) same bound,
+            (subst (λ (a : Formula). (unissuableNumber (c .kind) if unissuable (c .kind) a) ≡ none) same fits, tt),
           ),
         ),
       ),

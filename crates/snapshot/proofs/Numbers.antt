@@ -21,7 +21,7 @@ bad-apart earlier (l ∷ ls) a h =
     let x = or-false (fails (lineRules (linesOnly earlier) l)) (badLines (earlier ++ (l ∷ [])) ls) h in
     let p = none-fails (lineRules (linesOnly earlier) l) (x .0) in
     subst Apart (append-assoc earlier (l ∷ []) ls)
-    (bad-apart (earlier ++ (l ∷ [])) ls (apart-snoc earlier l a (if-none 13 _ (p .1 .1 .1 .1 .0))) (x .1))
+    (bad-apart (earlier ++ (l ∷ [])) ls (apart-snoc earlier l a (if-none 13 _ (p .1 .1 .1 .1 .1 .0))) (x .1))
 
 pub numbers-apart : NumbersApart
 numbers-apart t r =

@@ -91,6 +91,6 @@ lines-bounded earlier (l ∷ ls) b h n =
     let there = every-map (λ k q. leb-false _ _ q) (names l)
     (any-none (missing t) (names l) (if-none 10 _ (p .1 .1 .0))) in
     let more = line-bounded t b l (omega (arith, length-append earlier (l ∷ ls))) there
-    (ltb-false _ _ (if-none 12 _ (p .1 .1 .1 .0))) in
+    (ltb-false _ _ (if-none 12 _ (p .1 .1 .1 .1 .0))) in
     subst (λ (m : List Line). Bounded (linesOnly m)) (append-assoc earlier (l ∷ []) ls)
     (lines-bounded (earlier ++ (l ∷ [])) ls more (x .1) (omega (arith, ap length (append-assoc earlier (l ∷ []) ls))))

@@ -6,13 +6,12 @@ use Prim.Native.Nat.{ℕ}
 use Prim.Native.String.{String}
 use Rattle.request.specs.Text.{bytes}
 use Rattle.request.specs.Ends.{Ends}
-use Rattle.ledger.specs.declared.Answer.the-variants.{Accepted, Refused}
 use Rattle.ledger.specs.Ledger.{Ledger, empty}
-use Rattle.ledger.specs.Calls.{ok, told, after}
+use Rattle.ledger.specs.Calls.{Told, ok, told, after}
 use Rattle.ledger.specs.Sessions.{ofLines, each, words, second, m1Booking}
 use Rattle.ledger.specs.Cases.{Turn, _⇒_, _⇛_, accepted, refused, AnsweredFrom}
 use Rattle.snapshot.specs.Snapshot.{lineCount, liveCount, text}
-use Rattle.snapshot.specs.Reopen.{reopen, Closing, close}
+use Rattle.snapshot.specs.Reopen.{reopen, close}
 
 -- M1: its ledger before and after the booking
 
@@ -133,6 +132,21 @@ rules =
     (("till,1,1,2,0" ∷ "g,9,0,0,0,0,9,0,0" ∷ "x" ∷ []) ⇛ refused 50) ∷
     (("till,1,2,2,2" ∷ "o" ∷ "o" ∷ "1,r,0,0,9,0,0" ∷ "1,r,0,0,9,0,0" ∷ []) ⇛ refused 50) ∷ []
 
+-- Document 02, ask 7: lines `n` and `q` are in form; 53 of a word or an issue is a rule that these enforce (51), after
+-- the lines before it.
+abbrev pub holders : List Turn
+holders =
+    (("till,1,3,3,1" ∷ "n,2,7,0" ∷ "q,0" ∷ "n,2,7,65535" ∷ "2,s,2,0,9,0,0" ∷ []) ⇛ accepted 51) ∷
+    (("till,1,3,1,0" ∷ "n,2,7,65536" ∷ []) ⇛ refused 50) ∷
+    (("till,1,3,1,0" ∷ "n,2,7" ∷ []) ⇛ refused 50) ∷
+    (("till,1,3,3,0" ∷ "n,2,7,0" ∷ "q,0" ∷ "q,1" ∷ []) ⇛ refused 51) ∷
+    (("till,1,3,3,0" ∷ "n,2,7,0" ∷ "q,0" ∷ "t,1,1" ∷ []) ⇛ accepted 31) ∷
+    (("till,1,3,2,0" ∷ "q,1" ∷ "n,2,7,0" ∷ []) ⇛ refused 51) ∷
+    (("till,1,3,1,1" ∷ "n,2,7,0" ∷ "2,s,0,0,9,0,0" ∷ []) ⇛ refused 51) ∷
+    (("till,1,3,1,1" ∷ "n,9,7,0" ∷ "2,r,0,0,9,0,0" ∷ []) ⇛ refused 51) ∷
+    (("till,1,3,2,1" ∷ "n,9,7,0" ∷ "q,0" ∷ "2,s,1,0,9,0,0" ∷ []) ⇛ refused 51) ∷
+    (("till,1,3,2,1" ∷ "n,9,7,0" ∷ "q,0" ∷ "2,r,1,0,9,0,0" ∷ []) ⇛ accepted 39) ∷ []
+
 pub record TextsOpen : Type 0 where
   -- "its counts .. pass 200 or 512"
   pub lineCounts : Ends lineCount "0" "200" "-" "201"
@@ -140,28 +154,48 @@ pub record TextsOpen : Type 0 where
   pub forms : OpenedAs forms
   pub credentials : OpenedAs credentials
   pub rules : OpenedAs rules
+  pub holders : OpenedAs holders
 
--- After serial 999,999 was given: "(14, 22, 23 apart)", so the text is opened, and 23 comes with the next issue.
+-- After serial 999,999 was given: "(14, 22, 23 apart)", so the text is opened, and 23 comes with the next issue,
+-- where 53 does not come before it.
 abbrev pub lastSerial : List ℕ
-lastSerial = ofLines ("till,1,1000000,1,1" ∷ "a,2,7" ∷ "999999,s,0,0,9,0,0" ∷ [])
+lastSerial = ofLines ("till,1,1000000,2,1" ∷ "a,2,7" ∷ "n,2,7,0" ∷ "999999,s,0,0,9,0,0" ∷ [])
 
 abbrev pub lastTurns : List Turn
 lastTurns =
     ("tally,7,5\n" ⇒ ok (0 ∷ 0 ∷ 1 ∷ [])) ∷
     ("issue,s,0,0,9,0,0\n" ⇒ refused 23) ∷
+    ("issue,s,1,0,9,0,0\n" ⇒ refused 53) ∷
     ("withdraw,999999\n" ⇒ accepted 999999) ∷
     ("issue,s,0,0,9,0,0\n" ⇒ refused 23) ∷ []
 
--- the empty ledger, closed into a buffer of these bytes
-abbrev pub closedInto : String → Closing
-closedInto o = close empty (bytes o)
+-- A ledger with a break in a formula and in a credential, and its text: "break first and break last, after from and
+-- to". Written the other way round the text would be another; read the other way round the break would be none (51).
+abbrev pub pausedCalls : List (List String)
+pausedCalls = each ("word,a,9,7" ∷ "word,h,0,0,9,4,5" ∷ "issue,s,0,0,9,4,5" ∷ [])
+
+abbrev pub pausedText : List ℕ
+pausedText = ofLines ("till,1,2,2,1" ∷ "a,9,7" ∷ "h,0,0,9,4,5" ∷ "1,s,0,0,9,4,5" ∷ [])
+
+-- Document 02, ask 7: lines `n` and `q` as they are written
+abbrev pub holderText : List String
+holderText = "n,9,65535,65535" ∷ "n,1,7,0" ∷ "q,1" ∷ "t,2,0" ∷ []
+
+abbrev pub holderWords : List String
+holderWords = "word,n,9,65535,65535" ∷ "word,n,1,7,0" ∷ "word,q,1" ∷ "word,t,2,0" ∷ []
+
+-- the empty ledger, closed into a buffer of these bytes: what is told, and the buffer after
+abbrev pub closedInto : String → Told × List ℕ
+closedInto o = (told (close empty (bytes o) .answer), close empty (bytes o) .buffer)
 
 pub record Closings : Type 0 where
   -- one byte too short, just long enough, and longer
-  pub short : closedInto "abcdefghijkl" ≡ record { answer = Refused 52 0; buffer = bytes "abcdefghijkl" }
-  pub none : closedInto "" ≡ record { answer = Refused 52 0; buffer = [] }
-  pub fits : closedInto "abcdefghijklm" ≡ record { answer = Accepted 13; buffer = bytes "till,1,1,0,0\n" }
-  pub past : closedInto "abcdefghijklmnopqr" ≡ record { answer = Accepted 13; buffer = bytes "till,1,1,0,0\nnopqr" }
+  pub short : closedInto "abcdefghijkl" ≡ (refused 52, bytes "abcdefghijkl")
+  pub none : closedInto "" ≡ (refused 52, [])
+  pub fits : closedInto "abcdefghijklm" ≡ (accepted 13, bytes "till,1,1,0,0\n")
+  pub past : closedInto "abcdefghijklmnopqr" ≡ (accepted 13, bytes "till,1,1,0,0\nnopqr")
+  pub paused : text (playedOn empty pausedCalls) ≡ pausedText
   -- a text that is read and refused (51) leaves the ledger
   pub left : reopen (reopened lastSerial) (ofLines (one "3,s,0,0,9,0,0")) .ledger ≡ reopened lastSerial
   pub last : AnsweredFrom (reopened lastSerial) lastTurns
+  pub holders : text (playedOn empty (each holderWords)) ≡ ofLines ("till,1,1,4,0" ∷ holderText)

@@ -12,6 +12,7 @@ use Rattle.steps.specs.Check.{premiseOf, checkOf}
 use Rattle.steps.specs.Check.{Outcome as Result}
 use Rattle.steps.specs.Plans.{planOf}
 use Rattle.ledger.specs.Checks.{verdict}
+use Rattle.steps.specs.Instance.{instanceRow}
 use Rattle.store_cells.specs.Layout.{rowAt}
 use Rattle.step_rows.specs.LabelRows.{labelAt, putLabel}
 use Rattle.step_rows.specs.StepRows.{stepAt, stepsFrom}
@@ -114,7 +115,7 @@ module _ {e : Setting} {left next : ℕ} {t : List ℕ} {q : Sequent} where
       go (suc f) = simp x
 
   pub goes-on : {p : Plan} {r : Outcome} {t′ : List ℕ} → left ≤ e .total → (left ≡ 0 → ⊥)
-      → p ≡ planOf (rowAt (e .store)) (labelAt t) (q .unrestricted) (q .linear) (q .goal)
+      → p ≡ planOf (instanceRow (rowAt (e .store))) (labelAt t) (q .unrestricted) (q .linear) (q .goal)
       (stepAt (e .steps) (e .total - left))
       → StepChecked e (left - 1) next t (q .unrestricted) p r t′ → PremiseChecked e left next t q r t′
   unfolding premiseOf
@@ -140,7 +141,7 @@ module _ {store steps t t′ : List ℕ} {total next : ℕ} {q : Sequent} {o : O
   e = record { store = store; steps = steps; total = total }
 
   abbrev checked : Result (List ℕ)
-  checked = checkOf (rowAt store) labelAt putLabel total (stepsFrom steps 0 total) t next q
+  checked = checkOf (instanceRow (rowAt store)) labelAt putLabel total (stepsFrom steps 0 total) t next q
 
   outcome : {o′ : Outcome} → o ≡ o′ → checked ≡ finished total (resultOf e o′ t′)
   unfolding checkOf

@@ -11,6 +11,7 @@ use Rattle.steps.specs.Check.{Outcome as Result}
 use Rattle.ledger.specs.declared.Answer.{Answer}
 use Rattle.ledger.specs.declared.Answer.the-variants.{Refused}
 use Rattle.ledger.specs.Checks.{Check, verdict}
+use Rattle.steps.specs.Instance.{instanceRow}
 use Rattle.store_cells.specs.Layout.{rowAt}
 use Rattle.step_rows.specs.LabelRows.{labelAt, putLabel}
 use Rattle.step_rows.specs.StepRows.{maxSteps, stepsFrom}
@@ -40,7 +41,7 @@ leftOf (Stopped c n) = 0
 
 -- the definition, at a fuel
 abbrev pub judge : Setting → ℕ → Judge (List ℕ)
-judge e f = premiseOf (rowAt (e .store)) labelAt putLabel (e .total) f
+judge e f = premiseOf (instanceRow (rowAt (e .store))) labelAt putLabel (e .total) f
 
 -- An answer r, with the table t′ after, is the definition's at every fuel that suffices; the lines left do not grow.
 pub record PremiseChecked (e : Setting) (left next : ℕ) (t : List ℕ) (q : Sequent) (r : Outcome) (t′ : List ℕ) : Type 0

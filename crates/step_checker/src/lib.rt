@@ -7,6 +7,7 @@ use steps::Plan;
 use steps::Sequent;
 use store::Store;
 ghost use Prim.Native.Nat.{_≤_};
+ghost use Rattle.steps.specs.Instance.{instanceRow};
 ghost use Rattle.steps.specs.Check.{checkOf};
 ghost use Rattle.store_cells.specs.Layout.{rowAt};
 ghost use Rattle.step_rows.specs.LabelRows.{labelAt, putLabel};
@@ -106,7 +107,7 @@ pub fn check(
     next: u32,
 ) -> Checked
     requires { ⌜ total ≤ maxSteps ⌝ }
-    ensures { λ r. ⌜ Answers (checkOf (rowAt (now (store .entry))) labelAt putLabel total
+    ensures { λ r. ⌜ Answers (checkOf (instanceRow (rowAt (now (store .entry)))) labelAt putLabel total
         (stepsFrom (now (steps .entry)) 0 total) (now (table .entry)) next q) r (now (table .exit)) ⌝ }
 {
     let o = check_premise(store, steps, table, total, total, next, q);

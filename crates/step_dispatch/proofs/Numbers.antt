@@ -1,6 +1,6 @@
 -- Steps by their numbers, and steps that break their rule.
 use mathlib.Core.Path.{_≡_, refl, ap, subst}
-use mathlib.Core.Bool.{false}
+use mathlib.Core.Bool.{false, _||_}
 use Prim.Native.Nat.{ℕ, zero, suc, _+_, _-_, _^_, _≤_, _<_}
 use Prim.Native.Char.{Char}
 use native.Mathlib.Omega.{arith}
@@ -15,7 +15,7 @@ use Rattle.steps.specs.declared.Goal.{Goal}
 use Rattle.steps.specs.declared.Goal.the-variants.{Holds, Affirms}
 use Rattle.steps.specs.declared.Plan.{Plan}
 use Rattle.steps.specs.declared.Plan.the-variants.{Refused}
-use Rattle.steps.specs.Plans.{when, is, right, affirmed, left, planOf}
+use Rattle.steps.specs.Plans.{when, is, right, affirmed, left, atomic, planOf}
 use Rattle.step_plans.proofs.PlanTests.{when-refused, not-just}
 use Rattle.step_rows.specs.declared.StepRow.{StepRow}
 use Rattle.step_rows.specs.StepRows.{makers, implies, stepOf, axNumber, olNumber, ulNumber, noStep}
@@ -89,7 +89,7 @@ module _ (row : ℕ → Row) (label : ℕ → Hypothesis) (R D : ℕ) where
   -- "The right steps .. and `ax` need a goal without affirms"
   pub right-refused : (k m : ℕ) (i : Interval) (s : StepRow) → 1 ≤ s .op → s .op ≤ axNumber
       → planOf row label R D (Affirms m i k) (stepOf s) ≡ Refused
-  unfolding planOf right
+  unfolding planOf right atomic
   right-refused k m i s l u =
       let e : s .op ≡ 1 + (s .op - 1) = omega arith in
       let refuses : ℕ → Type 0 =
@@ -100,8 +100,8 @@ module _ (row : ℕ → Row) (label : ℕ → Hypothesis) (R D : ℕ) where
 
   pub ax-refused : (n : ℕ) (i : Interval) (l : ℕ) → D < 2 ^ 64 → 64 ≤ l
       → planOf row label R D (Holds n i) (Step.ax l) ≡ Refused
-  unfolding planOf right when
-  ax-refused n i l h b = rw (not-just D l h b) (when-refused (is (row n) "a"))
+  unfolding planOf atomic when
+  ax-refused n i l h b = rw (not-just D l h b) (when-refused (is (row n) "a" || is (row n) "n"))
 
   -- "L is in D save at `cp`"
   module _ (g : Goal) (s : StepRow) (e : member D (s .label) ≡ false) where
@@ -140,7 +140,7 @@ module _ (row : ℕ → Row) (label : ℕ → Hypothesis) (R D : ℕ) where
                         not-affirmed g _,
                         (
                           not-in _ _,
-                          (not-in _ _, (not-in _ _, tt)),
+                          (not-in _ _, (not-in _ _, (not-in _ _, tt))),
                         ),
                       ),
                     ),

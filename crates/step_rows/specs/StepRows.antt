@@ -1,5 +1,5 @@
 -- Step lines as rows: step k's number, label, the high and low 32 bits of its share, and its interval's from, to, first
--- and last.
+-- and last. The holder of `al` stands as the low number.
 use mathlib.Core.List.{List, [], _∷_}
 use Prim.Native.Nat.{ℕ, zero, suc, _+_, _*_}
 use lib.ListN.{getD}
@@ -48,10 +48,11 @@ makers =
     (λ r. Step.hr) ∷ (λ r. Step.sr) ∷ (λ r. Step.wr) ∷ (λ r. Step.tr (share r)) ∷
     (λ r. Step.ax (r .label)) ∷ (λ r. Step.cp (r .label)) ∷ (λ r. Step.ol (r .label)) ∷ (λ r. Step.w1 (r .label)) ∷
     (λ r. Step.w2 (r .label)) ∷ (λ r. Step.bl (r .label)) ∷ (λ r. Step.hl (r .label)) ∷ (λ r. Step.sl (r .label)) ∷
-    (λ r. Step.tl (r .label)) ∷ (λ r. Step.pl (r .label)) ∷
+    (λ r. Step.tl (r .label)) ∷ (λ r. Step.pl (r .label)) ∷ (λ r. Step.al (r .label) (r .low)) ∷
     (λ r. Step.ll (r .label) (share r) (r .interval)) ∷ implies ∷ []
 
--- the numbers at which ranges end or begin, and that of no step; `tr` is the first with a field
+-- the numbers at which ranges end or begin, and that of no step; `tr` is the first with a field, `al` the first with
+-- more than a label or a share
 abbrev pub trNumber : ℕ
 trNumber = 9
 
@@ -61,14 +62,17 @@ axNumber = 10
 abbrev pub olNumber : ℕ
 olNumber = 12
 
+abbrev pub alNumber : ℕ
+alNumber = 20
+
 abbrev pub llNumber : ℕ
-llNumber = 20
+llNumber = 21
 
 abbrev pub ulNumber : ℕ
-ulNumber = 21
+ulNumber = 22
 
 abbrev pub noStep : ℕ
-noStep = 22
+noStep = 23
 
 -- every number past the last reads as the last
 unfoldable pub stepOf : StepRow → Step

@@ -40,9 +40,11 @@ pub const TL: u32 = 18;
 
 pub const PL: u32 = 19;
 
-pub const LL: u32 = 20;
+pub const AL: u32 = 20;
 
-pub const UL: u32 = 21;
+pub const LL: u32 = 21;
+
+pub const UL: u32 = 22;
 
 // No step.
-pub const NONE: u32 = 22;
+pub const NONE: u32 = 23;

@@ -155,3 +155,7 @@ spelled (Derives.sl c x) mn =
     at-left Step.sl (_ ∷ []) (λ k. refl) label-writable (λ f r d k m e. Rule.sl m e c) (omega arith) (spelled x mn)
 spelled (Derives.gr c) mn = λ ls r d fits sub m room.
     closing ls r d fits (Rule.gr (empty ls d (fits .linear) (fits .room) m) c) (tt, tt)
+spelled (Derives.al {h = h} n x) mn =
+    at-left (λ k. Step.al k h) (_ ∷ []) (λ k. refl)
+    (λ k l. (record { label = label-in k l; holder = record { least = n .least; most = n .most } }, tt))
+    (λ f r d k m e. Rule.al m e n) (omega arith) (spelled x mn)

@@ -6,6 +6,7 @@ pub mod Spelling
 pub mod Complete
 pub mod Narrow
 pub mod Unroll
+pub mod Instances
 pub mod Agree
 pub mod Runs
 pub mod LabelTables

@@ -54,6 +54,7 @@ narrow Rule.sr (at-holds n) = (_, LeavesNarrow.one (at-affirms n), Rule.sr)
 narrow Rule.af (at-affirms n) = (_, LeavesNarrow.one (at-holds n), Rule.af)
 narrow (Rule.sl m e c) (at-affirms n) = (_, LeavesNarrow.one (at-affirms n), Rule.sl m e (⊇-trans c n))
 narrow (Rule.gr z c) (at-holds n) = (_, LeavesNarrow.none, Rule.gr z c)
+narrow (Rule.al m e h) n = (_, LeavesNarrow.one n, Rule.al m e h)
 
 -- So all lines: from the step at the narrower goal and what it leaves, and from the premises at every narrower goal.
 abbrev Narrower : ℕ → Labels → Branch → List Step → List Step → Labels → Type 0

@@ -66,6 +66,7 @@ lowers Rule.sr = omega arith
 lowers Rule.af = omega arith
 lowers (Rule.sl m e c) = omega arith
 lowers (Rule.gr e c) = tt
+lowers (Rule.al m e h) = omega arith
 
 -- a premise of the sequent q, at labels ls₁ that extend those of q
 module _ {ls ls₁ : Labels} {q : Labelled} (p : Branch) (x : Extends ls ls₁) (fits : Fits ls q)

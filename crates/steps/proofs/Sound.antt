@@ -4,9 +4,13 @@ use mathlib.Core.List.{List, [], _∷_, _++_, append-assoc, List·Memᴰ, List·
 use Prim.Native.Nat.{ℕ, _+_, _^_, _<_, _≤_}
 use native.Mathlib.Omega.{arith}
 use lib.ListN.{length}
-use Rattle.logic.specs.Derives.{Hyp, Judgment, Derives, Letter, letters, taken}
+use Rattle.logic.specs.declared.Interval.{Interval}
+use Rattle.logic.specs.Interval.{Window, _⊇_, WellFormed}
+use Rattle.logic.specs.Formula.{Formula}
+use Rattle.logic.specs.Derives.{Hyp, _⟦_⟧, Judgment, holds, Derives, Letter, letters, taken}
 use Rattle.logic.specs.Multiset.{Perm, Every}
 use Rattle.logic.proofs.Multisets.{perm-refl, perm-sym, perm-trans}
+use Rattle.request.specs.Range.{minute}
 use Rattle.request.specs.Request.{Step}
 use Rattle.labels.specs.Labels.{_∋_, remove}
 use Rattle.labels.proofs.Sets.{only-member, member-below}
@@ -42,6 +46,27 @@ Makes ls r d s g (premises p₁ p₂) =
     → Derivation (hyps ls r) (hyps ls d) g (letterOf s ∷ (letters y ++ letters z))
     (news p₁ + news p₂ + (taken y + taken z))
 
+-- what a rule makes of the derivations alone
+abbrev From : Labels → ℕ → ℕ → Judgment → Leaves → Type 0
+From ls r d g nothing = Derives (hyps ls r) (hyps ls d) g
+From ls r d g (premise p) = Of ls r p → Derives (hyps ls r) (hyps ls d) g
+From ls r d g (premises p₁ p₂) = Of ls r p₁ → Of ls r p₂ → Derives (hyps ls r) (hyps ls d) g
+
+-- the interval that `ll` or `ul` chooses, the letter of `ul`, its minutes
+chosen-ll : {l s : ℕ} {j : Interval} → Writable (Step.ll l s j) → WellFormed j
+chosen-ll w = w .1 .0
+
+chosen-ul : {l : ℕ} {j : Interval} → Writable (Step.ul l j) → WellFormed j
+chosen-ul w = w .1 .0
+
+letter-ul : (l : ℕ) (j : Interval) → letterOf (Step.ul l j) ≡ Letter.ul j
+letter-ul l j = refl
+
+minutes-ul : {R D : List Hyp} {g : Judgment} {a b : Formula} {i j : Window} (o : WellFormed j) (c : i ⊇ j)
+    (y : Derives R [] (holds a j)) (z : Derives R (b ⟦ j ⟧ ∷ D) g) → j .to ≤ minute .last
+    → Minutes y → Minutes z → Minutes (Derives.ul o c y z)
+minutes-ul o c y z e my mz = (e, my, mz)
+
 module _ (ls : Labels) (R D : ℕ) (known-R : R < 2 ^ length ls) (known-D : D < 2 ^ length ls)
     (low : length ls ≤ maxLabels) where
   -- one label, for a hypothesis that is what the rule asks, and the rest
@@ -66,38 +91,99 @@ module _ (ls : Labels) (R D : ℕ) (known-R : R < 2 ^ length ls) (known-D : D < 
   rest : Perm (hyps ls R) (hyps ls R)
   rest = perm-refl (hyps ls R)
 
+  makes-ax : {l : ℕ} {g : Judgment} {w : Leaves} → Rule (named ls) R D (Step.ax l) g w → Makes ls R D (Step.ax l) g w
+  unfolding letters taken
+  makes-ax (Rule.ax {l = l} q e c) = (Derives.same rest (only l q e) (Derives.ax c), refl, refl, tt)
+
+  makes-sl : {l : ℕ} {g : Judgment} {w : Leaves} → Rule (named ls) R D (Step.sl l) g w → Makes ls R D (Step.sl l) g w
+  unfolding letters taken
+  makes-sl (Rule.sl {l = l} m e c) = λ y my. (Derives.same rest (out l m e) (Derives.sl c y), refl, omega arith, my)
+
+  makes-hl : {l : ℕ} {g : Judgment} {w : Leaves} → Rule (named ls) R D (Step.hl l) g w → Makes ls R D (Step.hl l) g w
+  unfolding letters taken
+  makes-hl (Rule.hl {l = l} m e) = λ y my. (Derives.same rest (out l m e) (Derives.hl y), refl, omega arith, my)
+
+  makes-p1 : {g : Judgment} {w : Leaves} → Rule (named ls) R D Step.p1 g w → Makes ls R D Step.p1 g w
+  unfolding letters taken
+  makes-p1 Rule.p1 = λ y my. (Derives.p1 y, refl, omega arith, my)
+
+  makes-p2 : {g : Judgment} {w : Leaves} → Rule (named ls) R D Step.p2 g w → Makes ls R D Step.p2 g w
+  unfolding letters taken
+  makes-p2 Rule.p2 = λ y my. (Derives.p2 y, refl, omega arith, my)
+
+  makes-pl : {l : ℕ} {g : Judgment} {w : Leaves} → Rule (named ls) R D (Step.pl l) g w → Makes ls R D (Step.pl l) g w
+  unfolding letters taken
+  makes-pl (Rule.pl {l = l} m e) = λ y my z mz.
+      (Derives.same rest (out l m e) (Derives.pl y z), refl, omega arith, (my, mz))
+
+  makes-w1 : {l : ℕ} {g : Judgment} {w : Leaves} → Rule (named ls) R D (Step.w1 l) g w → Makes ls R D (Step.w1 l) g w
+  unfolding letters taken
+  makes-w1 (Rule.w1 {l = l} m e) = λ y my. (Derives.same rest (out l m e) (Derives.w1 y), refl, omega arith, my)
+
+  makes-w2 : {l : ℕ} {g : Judgment} {w : Leaves} → Rule (named ls) R D (Step.w2 l) g w → Makes ls R D (Step.w2 l) g w
+  unfolding letters taken
+  makes-w2 (Rule.w2 {l = l} m e) = λ y my. (Derives.same rest (out l m e) (Derives.w2 y), refl, omega arith, my)
+
+  makes-hr : {g : Judgment} {w : Leaves} → Rule (named ls) R D Step.hr g w → Makes ls R D Step.hr g w
+  unfolding letters taken
+  makes-hr Rule.hr = λ y my. (Derives.hr y, refl, omega arith, my)
+
+  makes-wr : {g : Judgment} {w : Leaves} → Rule (named ls) R D Step.wr g w → Makes ls R D Step.wr g w
+  unfolding letters taken
+  makes-wr Rule.wr = λ y my z mz. (Derives.wr y z, refl, omega arith, (my, mz))
+
+  makes-ll : {l s : ℕ} {j : Interval} {g : Judgment} {w : Leaves} → Rule (named ls) R D (Step.ll l s j) g w
+      → Writable (Step.ll l s j) → Makes ls R D (Step.ll l s j) g w
+  unfolding letters taken
+  makes-ll (Rule.ll {l = l} {s = s} m e c h) w = λ y my z mz.
+      let k = perm-trans (on (pick-share (named ls) maxLabels s (remove D l) h)) (out l m e) in
+      (Derives.same rest k (Derives.ll (chosen-ll w) c y z), refl, omega arith, (w .0 .interval .to .most, my, mz))
+
+  -- `ul`: the derivation, before its rules and its minutes
+  abbrev from-ul : {l : ℕ} {j : Interval} {g : Judgment} {w : Leaves} → Rule (named ls) R D (Step.ul l j) g w
+      → WellFormed j → From ls R D g w
+  from-ul (Rule.ul {l = l} m e c) o = λ y z.
+      Derives.same rest (out l m e) (Derives.ul o c (Derives.same rest (bare 0 refl) y) z)
+
+  makes-ul : {l : ℕ} {j : Interval} {g : Judgment} {w : Leaves} → Rule (named ls) R D (Step.ul l j) g w
+      → Writable (Step.ul l j) → Makes ls R D (Step.ul l j) g w
+  unfolding letters taken
+  makes-ul (Rule.ul {l = l} {j = j} m e c) w = λ y my z mz. (
+    from-ul (Rule.ul m e c) (chosen-ul w) y z,
+    ap (_∷ (letters y ++ letters z)) (sym (letter-ul l j)),
+    omega arith,
+    minutes-ul (chosen-ul w) c (Derives.same rest (bare 0 refl) y) z (w .0 .interval .to .most) my mz,
+  )
+
+  -- every rule
   makes : {s : Step} {g : Judgment} {w : Leaves} → Rule (named ls) R D s g w → Writable s
       → Makes ls R D s g w
   unfolding letters taken
-  makes (Rule.ax {l = l} q e c) w = (Derives.same rest (only l q e) (Derives.ax c), refl, refl, tt)
+  makes (Rule.ax {l = l} q e c) w = makes-ax (Rule.ax {l = l} q e c)
   makes (Rule.cp {l = l} m) w = λ y my. (Derives.cp (copied l m) y, refl, omega arith, my)
   makes (Rule.tr {s = s} h) w = λ y my z mz.
       (Derives.same rest (pick-share (named ls) maxLabels s D h) (Derives.tr y z), refl, omega arith, (my, mz))
   makes (Rule.tl {l = l} m e) w = λ y my. (Derives.same rest (out l m e) (Derives.tl y), refl, omega arith, my)
   makes (Rule.or e) w = (Derives.same rest (perm-sym (bare D e)) Derives.or, refl, refl, tt)
   makes (Rule.ol {l = l} m e) w = λ y my. (Derives.same rest (out l m e) (Derives.ol y), refl, omega arith, my)
-  makes Rule.wr w = λ y my z mz. (Derives.wr y z, refl, omega arith, (my, mz))
-  makes (Rule.w1 {l = l} m e) w = λ y my. (Derives.same rest (out l m e) (Derives.w1 y), refl, omega arith, my)
-  makes (Rule.w2 {l = l} m e) w = λ y my. (Derives.same rest (out l m e) (Derives.w2 y), refl, omega arith, my)
-  makes Rule.p1 w = λ y my. (Derives.p1 y, refl, omega arith, my)
-  makes Rule.p2 w = λ y my. (Derives.p2 y, refl, omega arith, my)
-  makes (Rule.pl {l = l} m e) w = λ y my z mz.
-      (Derives.same rest (out l m e) (Derives.pl y z), refl, omega arith, (my, mz))
-  makes (Rule.ll {l = l} {s = s} m e c h) w = λ y my z mz.
-      let k = perm-trans (on (pick-share (named ls) maxLabels s (remove D l) h)) (out l m e) in
-      (Derives.same rest k (Derives.ll (w .1 .0) c y z), refl, omega arith, (w .0 .interval .to .most, my, mz))
-  makes (Rule.ul {l = l} m e c) w = λ y my z mz.
-      let u = Derives.ul (w .1 .0) c (Derives.same rest (bare 0 refl) y) z in
-      (Derives.same rest (out l m e) u, refl, omega arith, (w .0 .interval .to .most, my, mz))
+  makes Rule.wr w = makes-wr Rule.wr
+  makes (Rule.w1 {l = l} m e) w = makes-w1 (Rule.w1 {l = l} m e)
+  makes (Rule.w2 {l = l} m e) w = makes-w2 (Rule.w2 {l = l} m e)
+  makes Rule.p1 w = makes-p1 Rule.p1
+  makes Rule.p2 w = makes-p2 Rule.p2
+  makes (Rule.pl {l = l} m e) w = makes-pl (Rule.pl {l = l} m e)
+  makes (Rule.ll m e c h) w = makes-ll (Rule.ll m e c h) w
+  makes (Rule.ul m e c) w = makes-ul (Rule.ul m e c) w
   makes (Rule.br e) w = λ y my.
       (Derives.same rest (perm-sym (bare D e)) (Derives.br (Derives.same rest (bare D e) y)), refl, omega arith, my)
   makes (Rule.bl {l = l} m e) w = λ y my. (Derives.same rest (out l m e) (Derives.bl y), refl, omega arith, my)
-  makes Rule.hr w = λ y my. (Derives.hr y, refl, omega arith, my)
-  makes (Rule.hl {l = l} m e) w = λ y my. (Derives.same rest (out l m e) (Derives.hl y), refl, omega arith, my)
+  makes Rule.hr w = makes-hr Rule.hr
+  makes (Rule.hl {l = l} m e) w = makes-hl (Rule.hl {l = l} m e)
   makes Rule.sr w = λ y my. (Derives.sr y, refl, omega arith, my)
   makes Rule.af w = λ y my. (Derives.af y, refl, omega arith, my)
-  makes (Rule.sl {l = l} m e c) w = λ y my. (Derives.same rest (out l m e) (Derives.sl c y), refl, omega arith, my)
+  makes (Rule.sl {l = l} m e c) w = makes-sl (Rule.sl {l = l} m e c)
   makes (Rule.gr e c) w = (Derives.same rest (perm-sym (bare D e)) (Derives.gr c), refl, refl, tt)
+  makes (Rule.al {l = l} m e n) w = λ y my. (Derives.same rest (out l m e) (Derives.al n y), refl, omega arith, my)
 
 -- The derivation that the lines spell: by their rules, as many labels as it takes.
 pub record Derived (ss : List Step) (ls : Labels) (q : Labelled) (rest : List Step) (ls′ : Labels) : Type 0 where

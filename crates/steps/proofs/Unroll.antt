@@ -15,12 +15,12 @@ use Rattle.steps.specs.Rule.{Branch, Leaves, nothing, premise, premises}
 module _ {row : ℕ → Row} {f : ℕ → Formula} (u : Unrolls row f) where
   -- the formula of a number by its letter
   pub of-letter : (i c : ℕ) → row i .letter ≡ c → f i ≡ made f c (row i)
-  of-letter i c e = u .formed i ∙ ap (λ (n : ℕ). made f n (row i)) e
+  of-letter i c e = u .forms .formed i ∙ ap (λ (n : ℕ). made f n (row i)) e
 
   -- its letter by the formula, and again the formula
   pub letter-of : (i : ℕ) {a : Formula} → f i ≡ a → (row i .letter ≡ letter a) × (made f (letter a) (row i) ≡ a)
   letter-of i {a} e =
-      let o : row i .letter ≡ letter a = sym (u .letters i) ∙ ap letter e in
+      let o : row i .letter ≡ letter a = sym (u .forms .letters i) ∙ ap letter e in
       (o, sym (of-letter i (letter a) o) ∙ e)
 
   abbrev pub branchOf : Premise → Branch

@@ -1,3 +1,4 @@
+pub mod Instance
 pub mod Plans
 pub mod Check
 pub mod Rule

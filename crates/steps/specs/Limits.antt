@@ -34,6 +34,7 @@ Minutes (Derives.sr d) = Minutes d
 Minutes (Derives.af d) = Minutes d
 Minutes (Derives.sl c d) = Minutes d
 Minutes (Derives.gr c) = Unit {0}
+Minutes (Derives.al n d) = Minutes d
 
 -- a step line of a request that passes 2, 3 and 43: its fields in range, its interval well formed
 abbrev pub Writable : Step → Type 0

@@ -1,11 +1,12 @@
--- Document 01's section "Steps", as a computation on formula numbers and sets of labels: what each step asks of a
--- sequent, and what it leaves.
-use mathlib.Core.Bool.{Bool, true, false, _&&_}
+-- Document 01's section "Steps", with document 02's `al`, as a computation on formula numbers and sets of labels: what
+-- each step asks of a sequent, and what it leaves.
+use mathlib.Core.Bool.{Bool, true, false, _&&_, _||_}
 use Prim.Native.Nat.{ℕ}
 use Prim.Native.Char.{Char, code}
-use lib.Dec.{eqb}
+use lib.Dec.{eqb, leb}
 use Rattle.logic.specs.declared.Interval.{Interval}
 use Rattle.logic.specs.Interval.{contains}
+use Rattle.logic.specs.Formula.{lastHolder}
 use Rattle.request.specs.Request.{Step}
 use Rattle.labels.specs.Labels.{member, subset, isEmpty, isJust, remove, without}
 use Rattle.steps.specs.declared.Row.{Row}
@@ -17,6 +18,7 @@ use Rattle.steps.specs.declared.Fresh.the-variants.{Nothing, Linear, Bot
 use Rattle.steps.specs.declared.Premise.{Premise}
 use Rattle.steps.specs.declared.Plan.{Plan}
 use Rattle.steps.specs.declared.Plan.the-variants.{Refused, Closed, One, Two}
+use Rattle.steps.specs.Instance.{_for_}
 
 -- the formula of a number at an interval
 infix 90 _over_
@@ -37,7 +39,7 @@ abbrev pub is : Row → Char → Bool
 is x c = eqb (x .letter) (code c)
 
 -- The sequent has unrestricted labels R, linear labels D and goal g; `label` tells what a label stands for, `row` the
--- row of a formula's number.
+-- row of a formula's number, which may have a holder in it.
 module _ (row : ℕ → Row) (label : ℕ → Hypothesis) (R D : ℕ) (g : Goal) where
   -- "The right steps .. and `ax` need a goal without affirms": A at I, where A has the letter
   unfoldable pub right : Goal → Char → (Row → Interval → Plan) → Plan
@@ -54,16 +56,23 @@ module _ (row : ℕ → Row) (label : ℕ → Hypothesis) (R D : ℕ) (g : Goal)
   left l c k =
       when (member D l && is (row (label l .formula)) c) (k (label l .interval) (row (label l .formula)))
 
-  -- L is an atom equal to that of the row, by predicate and session
+  -- A at I, where A is an atom: `a`, or `n`
+  unfoldable pub atomic : Goal → (Row → Interval → Plan) → Plan
+  atomic (Holds n i) k = when (is (row n) "a" || is (row n) "n") (k (row n) i)
+  atomic (Affirms n i p) k = Refused
+
+  -- L is an atom equal to that of the row: by letter, predicate and session, and an `n` by its holder
   abbrev pub sameAtom : ℕ → Row → Bool
   sameAtom l x =
       let y = row (label l .formula) in
-      is y "a" && (eqb (y .a) (x .a) && eqb (y .b) (x .b))
+      eqb (y .letter) (x .letter)
+      && (eqb (y .a) (x .a) && (eqb (y .b) (x .b) && (is x "a" || eqb (y .holder) (x .holder))))
 
   unfoldable pub planOf : Step → Plan
-  -- "D holds just L, an atom equal to the goal; L's window ⊇ goal's. Closes."
+  -- "D holds just L, an atom equal to the goal; L's window ⊇ goal's. Closes." Document 02: "Equality at `ax` is that of
+  -- the formula after the holder is put in."
   planOf (Step.ax l) =
-      right g "a" (λ x i. when (isJust D l && (sameAtom l x && contains (label l .interval) i)) Closed)
+      atomic g (λ x i. when (isJust D l && (sameAtom l x && contains (label l .interval) i)) Closed)
   -- "L in R; a new single label of the same wording and window."
   planOf (Step.cp l) = when (member R l) (One (premise D g (Linear (label l))))
   -- "⊗; left from the share, right from the rest of D."
@@ -118,3 +127,7 @@ module _ (row : ℕ → Row) (label : ℕ → Hypothesis) (R D : ℕ) (g : Goal)
   -- "⊇ that holds, D empty; closes."
   planOf Step.gr =
       right g "g" (λ x i. when (isEmpty D && contains (x .first) (x .second)) Closed)
+  -- document 02, ask 7: "uses `q` at one named holder, 1 to 65,535": its part, after that is put in, for L
+  planOf (Step.al l h) =
+      left l "q" (λ i x. when (leb 1 h && leb h lastHolder)
+      (One (premise (remove D l) g (Linear (((x .a) for h) over i)))))

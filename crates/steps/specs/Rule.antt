@@ -1,11 +1,14 @@
 -- Document 01's section "Steps" as a relation on formulas and labels: what each step asks of a sequent and what it
--- leaves, one constructor for each step letter. No number of a formula stands here, and no recursion.
+-- leaves, one constructor for each step letter, with document 02's `al`. No number of a formula stands here, and no
+-- recursion.
 use mathlib.Core.Path.{_≡_}
 use mathlib.Core.List.{List, [], _∷_}
+use mathlib.Core.Option.{Option}
 use Prim.Native.Nat.{ℕ, _^_}
 use Rattle.logic.specs.declared.Interval.{Interval}
 use Rattle.logic.specs.Interval.{Window, _⊇_}
 use Rattle.logic.specs.Formula.{Formula, atom, one, tensor, with, plus, lolli, implies, bang, at, says, superset}
+use Rattle.logic.specs.Formula.{forEvery, IsHolder, withHolder}
 use Rattle.logic.specs.Derives.{Hyp, _⟦_⟧, Judgment, holds, affirms}
 use Rattle.request.specs.Request.{Step}
 use Rattle.labels.specs.Labels.{_∋_, _⊑_, remove, without}
@@ -34,9 +37,10 @@ pub data Leaves : Type 0 where
 -- Rule label R D step goal leaves: the step is right at the sequent with unrestricted labels R, linear labels D and
 -- this goal, where `label` tells what a label stands for; and it leaves what is said.
 pub data Rule (label : ℕ → Hyp) (R D : ℕ) : Step → Judgment → Leaves → Type 0 where
-  -- "D holds just L, an atom equal to the goal; L's window ⊇ goal's. Closes."
-  ax : {l p s : ℕ} {i j : Window}
-      → D ≡ 2 ^ l → label l ≡ atom p s ⟦ i ⟧ → i ⊇ j → Rule label R D (Step.ax l) (holds (atom p s) j) nothing
+  -- "D holds just L, an atom equal to the goal; L's window ⊇ goal's. Closes." Document 02: "Equality at `ax` is that of
+  -- the formula after the holder is put in."
+  ax : {l p s : ℕ} {o : Option ℕ} {i j : Window}
+      → D ≡ 2 ^ l → label l ≡ atom p s o ⟦ i ⟧ → i ⊇ j → Rule label R D (Step.ax l) (holds (atom p s o) j) nothing
   -- "L in R; a new single label of the same wording and window."
   cp : {l : ℕ} {g : Judgment} → R ∋ l → Rule label R D (Step.cp l) g (premise (from D g (label l ∷ [])))
   -- "⊗; left from the share, right from the rest of D."
@@ -98,3 +102,6 @@ pub data Rule (label : ℕ → Hyp) (R D : ℕ) : Step → Judgment → Leaves �
       → Rule label R D (Step.sl l) (affirms k b j) (premise (from (remove D l) (affirms k b j) (a ⟦ i ⟧ ∷ [])))
   -- "⊇ that holds, D empty; closes."
   gr : {i j : Interval} {k : Window} → D ≡ 0 → i ⊇ j → Rule label R D Step.gr (holds (superset i j) k) nothing
+  -- document 02, ask 7: "uses `q` at one named holder, 1 to 65,535": its part, after that is put in, for L
+  al : {l h : ℕ} {a : Formula} {i : Window} {g : Judgment} → D ∋ l → label l ≡ forEvery a ⟦ i ⟧ → IsHolder h
+      → Rule label R D (Step.al l h) g (premise (from (remove D l) g (withHolder h a ⟦ i ⟧ ∷ [])))

@@ -19,7 +19,8 @@ use Rattle.steps.specs.Check.{maxLabels, done, stopped, checkOf}
 use Rattle.steps.specs.Spells.{Labels, Labelled, Spells, Refused}
 use Rattle.steps.specs.StepLetters.{lettersOf}
 use Rattle.steps.specs.Limits.{Minutes, Writable}
-use Rattle.steps.specs.Unroll.{Unrolls, goalOf, labelledOf}
+use Rattle.steps.specs.Instance.{instance, instanceRow}
+use Rattle.steps.specs.Unroll.{Forms, Unrolls, Small, goalOf, labelledOf}
 use Rattle.steps.specs.Labelling.{hyps, labelledBy, Fits, Shows, Begins}
 
 -- a derivation by the rules that the lines name, with n labels taken before and labels enough
@@ -84,3 +85,9 @@ module _ {T : Type 0} (Good : T → Type 0) (held : T → ℕ → Hypothesis) (p
       (R D : List Hyp) → Begins u Good held t n r d ls R D
       → (g : Goal) (x : Derives R D (goalOf u g)) → Minutes x → length ls + taken x ≤ maxLabels
       → (ss : List Step) × (lettersOf ss ≡ letters x) × Every Writable ss × Passes held put row t n (asked r d g) ss
+
+-- Holders: where formulas form rows whose parts are formulas' own numbers, the rows with holders put in unroll to the
+-- formulas with these put in.
+abbrev pub Instances : Type 0
+Instances = (row : ℕ → Row) (formula : ℕ → Formula) → Forms row formula → Small row
+    → Unrolls (instanceRow row) (instance formula)

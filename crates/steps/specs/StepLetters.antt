@@ -1,4 +1,5 @@
--- The rule that a step line names, by its letter, with the interval of `ll` and `ul`; its labels forgotten.
+-- The rule that a step line names, by its letter, with the interval of `ll` and `ul` and the holder of `al`; its labels
+-- forgotten.
 use mathlib.Core.List.{List, map}
 use Rattle.logic.specs.Derives.{Letter}
 use Rattle.request.specs.Request.{Step}
@@ -26,6 +27,7 @@ letterOf Step.sr = Letter.sr
 letterOf Step.af = Letter.af
 letterOf (Step.sl l) = Letter.sl
 letterOf Step.gr = Letter.gr
+letterOf (Step.al l h) = Letter.al h
 
 -- of step lines
 abbrev pub lettersOf : List Step → List Letter

@@ -20,3 +20,7 @@ pub const AT: u32 = b'h' as u32;
 pub const SAYS: u32 = b's' as u32;
 
 pub const SUPERSET: u32 = b'g' as u32;
+
+pub const NAMED: u32 = b'n' as u32;
+
+pub const FOR_EVERY: u32 = b'q' as u32;

@@ -2,16 +2,19 @@
 // share, src/letters.rt the letters of formula lines; specs/ has the definitions.
 pub mod letters;
 
-// A formula's line as a row: the letter's byte and its fields, numbers and intervals; 0, and 0 to 0, where it has none.
+// A formula's line as a row: the letter's byte and its fields, two numbers, the holder of an atom that carries one
+// (document 02, ask 7) and intervals; 0, and 0 to 0, where it has none.
 pub struct Row {
     pub letter: u32,
     pub a: u32,
     pub b: u32,
+    pub holder: u32,
     pub first: logic::Interval,
     pub second: logic::Interval,
 }
 
-// A formula, by its number, at an interval: what a label stands for.
+// A formula, by its number, at an interval: what a label stands for. A holder that was put in stands in the number
+// (specs/Instance.antt); so it does in a goal's.
 pub struct Hypothesis {
     pub formula: u32,
     pub interval: logic::Window,
@@ -58,7 +61,7 @@ pub enum Plan {
 // function does nothing: its `ensures` is the statement, of specs/Statements.antt.
 
 ghost use Rattle.steps.specs.Labelling.{AnyTable, readLabel, writeLabel};
-ghost use Rattle.steps.specs.Statements.{Spelt, Complete, Narrowing, Exactly, Sound, Passing};
+ghost use Rattle.steps.specs.Statements.{Spelt, Complete, Narrowing, Exactly, Sound, Passing, Instances};
 
 // Lines that spell a derivation give one by their rules, and every derivation within the limits has such lines.
 pub fn lines_are_derivations()
@@ -81,4 +84,9 @@ pub fn checker_is_exact()
 pub fn passing_is_deriving()
     ensures sound { λ _. ⌜ Sound AnyTable readLabel writeLabel ⌝ }
     ensures complete { λ _. ⌜ Passing AnyTable readLabel writeLabel ⌝ }
+{}
+
+// Rows with a holder put in are those of the formulas with it put in.
+pub fn holders_go_along()
+    ensures { λ _. ⌜ Instances ⌝ }
 {}

@@ -42,6 +42,8 @@ empty-stands l h a b c d =
         sizes = λ i q. absurd (omega arith);
         plains = λ i q. absurd (omega arith);
         balances = λ i q. absurd (omega arith);
+        unbounds = λ i q. absurd (omega arith);
+        quantifieds = λ i q. absurd (omega arith);
         bounded = subst Bounded (sym e) empty-bounded;
       };
       ledger = e;

@@ -6,7 +6,7 @@ use mathlib.Core.Bool.{Bool}
 use mathlib.Core.Option.{some}
 use Prim.Native.Nat.{ℕ, _≤_, _<_}
 use lib.ListN.{length}
-use Rattle.logic.specs.Formula.{size, plain, bit}
+use Rattle.logic.specs.Formula.{size, plain, bit, unbound, quantified}
 use Rattle.logic.specs.Counts.{balanced}
 use Rattle.request.specs.Range.{serial}
 use Rattle.steps.specs.declared.Row.{Row}
@@ -17,7 +17,7 @@ use Rattle.ledger.specs.Checks.{maxSize, maxFormulas, maxLive}
 use Rattle.ledger.specs.Bounds.{There, Bounded}
 use Rattle.store.specs.Tab.{tab, present}
 use Rattle.store_cells.specs.Layout.{cells, maxRows, lineCount, liveCount, nextSerial, rowCount, rowAt, sizeAt, plainAt}
-use Rattle.store_cells.specs.Layout.{balancedAt, credentialAt, entryAt}
+use Rattle.store_cells.specs.Layout.{balancedAt, unboundAt, quantifiedAt, credentialAt, entryAt}
 
 unfoldable pub ledgerOf : List ℕ → Ledger
 ledgerOf l = record {
@@ -49,6 +49,8 @@ pub record Good (l : List ℕ) : Type 0 where
   pub sizes : (i : ℕ) → i < lineCount l → sizeAt l i ≡ size (formula (ledgerOf l) i)
   pub plains : (i : ℕ) → i < lineCount l → plainAt l i ≡ bit (plain (formula (ledgerOf l) i))
   pub balances : (i : ℕ) → i < lineCount l → balancedAt l i ≡ bit (balanced (formula (ledgerOf l) i))
+  pub unbounds : (i : ℕ) → i < lineCount l → unboundAt l i ≡ bit (unbound (formula (ledgerOf l) i))
+  pub quantifieds : (i : ℕ) → i < lineCount l → quantifiedAt l i ≡ bit (quantified (formula (ledgerOf l) i))
   pub bounded : Bounded (ledgerOf l)
 
 -- what a function that changes the store leaves: a good store that stands for the ledger t
@@ -56,9 +58,9 @@ pub record StandsFor (l : List ℕ) (t : Ledger) : Type 0 where
   pub good : Good l
   pub ledger : ledgerOf l ≡ t
 
--- what the checks of a formula line have found before its row is added, with its formula's size, whether it is plain
--- and whether it is balanced
-pub record Wordable (l : List ℕ) (r : Row) (s : ℕ) (p b : Bool) : Type 0 where
+-- what the checks of a formula line have found before its row is added, with its formula's size, whether it is plain,
+-- balanced, has an unbound holder and has a `q`
+pub record Wordable (l : List ℕ) (r : Row) (s : ℕ) (p b u q : Bool) : Type 0 where
   pub good : Good l
   pub room : length (ledgerOf l .lines) < maxFormulas
   pub canonical : Canonical r
@@ -66,6 +68,8 @@ pub record Wordable (l : List ℕ) (r : Row) (s : ℕ) (p b : Bool) : Type 0 whe
   pub sized : s ≡ size (form (formula (ledgerOf l)) (lineOf r))
   pub plain-kept : p ≡ plain (form (formula (ledgerOf l)) (lineOf r))
   pub balancedly : b ≡ balanced (form (formula (ledgerOf l)) (lineOf r))
+  pub unbound-kept : u ≡ unbound (form (formula (ledgerOf l)) (lineOf r))
+  pub quantified-kept : q ≡ quantified (form (formula (ledgerOf l)) (lineOf r))
   pub small : s ≤ maxSize
 
 -- what the checks of an issue or a booking have found before a credential of formula n is given

@@ -10,7 +10,7 @@ use store_cells::lines;
 ghost use mathlib.Core.Path.{_≡_};
 ghost use Prim.Native.Nat.{_<_};
 ghost use lib.ListN.{length};
-ghost use Rattle.logic.specs.Formula.{size, plain};
+ghost use Rattle.logic.specs.Formula.{size, plain, unbound, quantified};
 ghost use Rattle.logic.specs.Counts.{balanced};
 ghost use Rattle.request.specs.declared.Kind.the-variants.{Linear};
 ghost use Rattle.request.specs.Request.{Line};
@@ -58,6 +58,7 @@ fn one_row() -> Row
         letter: letters::ONE,
         a: 0,
         b: 0,
+        holder: 0,
         first: i,
         second: i,
     }
@@ -84,7 +85,8 @@ pub fn line_at(store: &Store, n: u32) -> Row
     lines::line_row(store, n)
 }
 
-// The size of a formula of the ledger, whether it is plain and whether it is balanced, as kept with its row.
+// The size of a formula of the ledger, whether it is plain, balanced, has an unbound holder and has a `q`, as kept with
+// its row.
 pub fn size_at(store: &Store, n: u32) -> u32
     requires { ⌜ Good (now store) × (n < length (ledgerOf (now store) .lines)) ⌝ }
     ensures { λ r. ⌜ r ≡ size (formula (ledgerOf (now (store .entry))) n) ⌝ }
@@ -104,6 +106,20 @@ pub fn balanced_at(store: &Store, n: u32) -> bool
     ensures { λ r. ⌜ r ≡ balanced (formula (ledgerOf (now (store .entry))) n) ⌝ }
 {
     lines::balanced(store, n) == 1
+}
+
+pub fn unbound_at(store: &Store, n: u32) -> bool
+    requires { ⌜ Good (now store) × (n < length (ledgerOf (now store) .lines)) ⌝ }
+    ensures { λ r. ⌜ r ≡ unbound (formula (ledgerOf (now (store .entry))) n) ⌝ }
+{
+    lines::unbound(store, n) == 1
+}
+
+pub fn quantified_at(store: &Store, n: u32) -> bool
+    requires { ⌜ Good (now store) × (n < length (ledgerOf (now store) .lines)) ⌝ }
+    ensures { λ r. ⌜ r ≡ quantified (formula (ledgerOf (now (store .entry))) n) ⌝ }
+{
+    lines::quantified(store, n) == 1
 }
 
 // How many credential rows are in use, gaps too.

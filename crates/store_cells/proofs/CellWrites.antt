@@ -18,6 +18,7 @@ use Rattle.ledger.specs.Table.{rowOf}
 use Rattle.ledger.specs.Checks.{maxFormulas}
 use Rattle.store_cells.specs.Layout.{lineBase, sizeCell, plainCell, balancedCell, lineWidth, credentialBase}
 use Rattle.store_cells.specs.Layout.{credentialWidth, gapKind}
+use Rattle.store_cells.specs.Layout.{unboundCell, quantifiedCell, unboundAt, quantifiedAt}
 use Rattle.store_cells.specs.Layout.{credentialCell, credentialPlace}
 use Rattle.store_cells.specs.Layout.{cells, maxRows, cell, lineCount, liveCount, nextSerial, rowCount, rowFrom}
 use Rattle.store_cells.specs.Layout.{lineCell, rowAt, sizeAt, plainAt, balancedAt, lineCells, putLine, kindFrom}
@@ -30,17 +31,18 @@ row-ext g h e j = record {
   letter = e 0 (omega arith) j;
   a = e 1 (omega arith) j;
   b = e 2 (omega arith) j;
+  holder = e 3 (omega arith) j;
   first = record {
-    from = e 3 (omega arith) j;
-    to = e 4 (omega arith) j;
-    first = e 5 (omega arith) j;
-    last = e 6 (omega arith) j;
+    from = e 4 (omega arith) j;
+    to = e 5 (omega arith) j;
+    first = e 6 (omega arith) j;
+    last = e 7 (omega arith) j;
   };
   second = record {
-    from = e 7 (omega arith) j;
-    to = e 8 (omega arith) j;
-    first = e 9 (omega arith) j;
-    last = e 10 (omega arith) j;
+    from = e 8 (omega arith) j;
+    to = e 9 (omega arith) j;
+    first = e 10 (omega arith) j;
+    last = e 11 (omega arith) j;
   };
 }
 
@@ -109,6 +111,14 @@ module _ (l m : List ℕ) (s : SameLines l m) where
   unfolding balancedAt
   same-balanced n h = same-cell n balancedCell h (omega arith)
 
+  pub same-unbound : (n : ℕ) → n < maxFormulas → unboundAt m n ≡ unboundAt l n
+  unfolding unboundAt
+  same-unbound n h = same-cell n unboundCell h (omega arith)
+
+  pub same-quantified : (n : ℕ) → n < maxFormulas → quantifiedAt m n ≡ quantifiedAt l n
+  unfolding quantifiedAt
+  same-quantified n h = same-cell n quantifiedCell h (omega arith)
+
 -- row i of the credentials stands in m as in l
 abbrev pub Stays : List ℕ → List ℕ → ℕ → Type 0
 Stays l m i = (f : ℕ) → f < credentialWidth → credentialCell m i f ≡ credentialCell l i f
@@ -170,26 +180,26 @@ count-live l m v s = record {
 }
 
 -- A formula row is put.
-module _ (m : List ℕ) (i : ℕ) (r : Row) (s : ℕ) (p b : Bool) where
+module _ (m : List ℕ) (i : ℕ) (r : Row) (s : ℕ) (p b u q : Bool) where
   pub line-same : length m ≡ cells → i < maxFormulas → (f : ℕ) → f < lineWidth
-      → lineCell (putLine m i r s p b) i f ≡ getD (lineCells r s p b) f 0
+      → lineCell (putLine m i r s p b u q) i f ≡ getD (lineCells r s p b u q) f 0
   unfolding lineCell putLine
-  line-same n h f q = row-same m lineBase lineWidth i (lineCells r s p b) f (omega arith) (omega arith)
+  line-same n h f x = row-same m lineBase lineWidth i (lineCells r s p b u q) f (omega arith) (omega arith)
 
-  pub line-other : (k f : ℕ) → (k ≡ i → ⊥) → f < lineWidth → lineCell (putLine m i r s p b) k f ≡ lineCell m k f
+  pub line-other : (k f : ℕ) → (k ≡ i → ⊥) → f < lineWidth → lineCell (putLine m i r s p b u q) k f ≡ lineCell m k f
   unfolding lineCell putLine
-  line-other k f h q = row-other m lineBase lineWidth i (lineCells r s p b) refl k f h q
+  line-other k f h x = row-other m lineBase lineWidth i (lineCells r s p b u q) refl k f h x
 
-  line-before : (k : ℕ) → k < lineBase → getD (putLine m i r s p b) k 0 ≡ getD m k 0
+  line-before : (k : ℕ) → k < lineBase → getD (putLine m i r s p b u q) k 0 ≡ getD m k 0
   unfolding putLine
-  line-before k h = put-below m lineBase lineWidth i (lineCells r s p b) k h
+  line-before k h = put-below m lineBase lineWidth i (lineCells r s p b u q) k h
 
-  pub line-live : length m ≡ cells → i < maxFormulas → SameLive m (putLine m i r s p b)
+  pub line-live : length m ≡ cells → i < maxFormulas → SameLive m (putLine m i r s p b u q)
   unfolding putLine cell
   line-live n h = record {
-    long = length-putRow m lineBase lineWidth i (lineCells r s p b) ∙ n;
+    long = length-putRow m lineBase lineWidth i (lineCells r s p b u q) ∙ n;
     count = line-before 1 (omega arith);
     next = line-before 2 (omega arith);
     used = line-before 3 (omega arith);
-    rows = λ k x f q. put-above m lineBase lineWidth i (lineCells r s p b) (credentialPlace k f) (omega arith);
+    rows = λ k x f y. put-above m lineBase lineWidth i (lineCells r s p b u q) (credentialPlace k f) (omega arith);
   }

@@ -6,10 +6,10 @@
 --   1                  the count of live credentials
 --   2                  the next serial
 --   3                  the count of credential rows in use
---   lineBase ..        200 rows of 14: a formula line's (document 01: a wording's) letter, a, b, its first interval
---                      and its second, each from, to, first, last; then its formula's size, whether it is plain and
---                      whether it is balanced (1 or 0), kept so that no later request goes through the formula's
---                      parts again
+--   lineBase ..        200 rows of 17: a formula line's (document 01: a wording's) letter, a, b, holder, its first
+--                      interval and its second, each from, to, first, last; then its formula's size, whether it is
+--                      plain, balanced, has an unbound holder and has a `q` (1 or 0), kept so that no later request
+--                      goes through the formula's parts again
 --   credentialBase ..  1,024 rows of 7: a credential's (a coupon's) serial, kind (0 linear: single-use, 1
 --                      unrestricted: standing, 2 for one that has left: a gap), formula number (wording), and its
 --                      interval (window), from, to, first, last. Rows stand in the order of their serials, and a row
@@ -40,9 +40,9 @@ use Rattle.logic.specs.Choice.{pick}
 abbrev pub lineBase : ℕ
 lineBase = 4
 
--- in a row the line's own numbers stand before its formula's size, plain and balanced
+-- in a row the line's own numbers stand before what is kept of its formula
 abbrev pub sizeCell : ℕ
-sizeCell = 11
+sizeCell = 12
 
 abbrev pub plainCell : ℕ
 plainCell = sizeCell + 1
@@ -50,8 +50,14 @@ plainCell = sizeCell + 1
 abbrev pub balancedCell : ℕ
 balancedCell = plainCell + 1
 
+abbrev pub unboundCell : ℕ
+unboundCell = balancedCell + 1
+
+abbrev pub quantifiedCell : ℕ
+quantifiedCell = unboundCell + 1
+
 abbrev pub lineWidth : ℕ
-lineWidth = balancedCell + 1
+lineWidth = quantifiedCell + 1
 
 abbrev pub credentialBase : ℕ
 credentialBase = lineBase + maxFormulas * lineWidth
@@ -117,8 +123,9 @@ rowFrom g = record {
   letter = g 0;
   a = g 1;
   b = g 2;
-  first = span (g 3) (g 4) (g 5) (g 6);
-  second = span (g 7) (g 8) (g 9) (g 10);
+  holder = g 3;
+  first = span (g 4) (g 5) (g 6) (g 7);
+  second = span (g 8) (g 9) (g 10) (g 11);
 }
 
 -- the row of a formula's number; a number that names none reads as 1
@@ -135,15 +142,22 @@ plainAt l n = lineCell l n plainCell
 unfoldable pub balancedAt : List ℕ → ℕ → ℕ
 balancedAt l n = lineCell l n balancedCell
 
-abbrev pub lineCells : Row → ℕ → Bool → Bool → List ℕ
-lineCells r size plain balanced =
+unfoldable pub unboundAt : List ℕ → ℕ → ℕ
+unboundAt l n = lineCell l n unboundCell
+
+unfoldable pub quantifiedAt : List ℕ → ℕ → ℕ
+quantifiedAt l n = lineCell l n quantifiedCell
+
+abbrev pub lineCells : Row → ℕ → Bool → Bool → Bool → Bool → List ℕ
+lineCells r size plain balanced unbound quantified =
     let v = r .first in
     let w = r .second in
-    r .letter ∷ r .a ∷ r .b ∷ v .from ∷ v .to ∷ v .first ∷ v .last ∷ w .from ∷ w .to ∷ w .first ∷ w .last ∷
-    size ∷ bit plain ∷ bit balanced ∷ []
+    r .letter ∷ r .a ∷ r .b ∷ r .holder ∷ v .from ∷ v .to ∷ v .first ∷ v .last ∷ w .from ∷ w .to ∷ w .first ∷ w .last ∷
+    size ∷ bit plain ∷ bit balanced ∷ bit unbound ∷ bit quantified ∷ []
 
-unfoldable pub putLine : List ℕ → ℕ → Row → ℕ → Bool → Bool → List ℕ
-putLine l i r size plain balanced = putRow l lineBase lineWidth i (lineCells r size plain balanced)
+unfoldable pub putLine : List ℕ → ℕ → Row → ℕ → Bool → Bool → Bool → Bool → List ℕ
+putLine l i r size plain balanced unbound quantified =
+    putRow l lineBase lineWidth i (lineCells r size plain balanced unbound quantified)
 
 -- Credential rows
 

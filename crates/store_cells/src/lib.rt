@@ -8,13 +8,17 @@ pub mod lines;
 // where the formula rows start; how many numbers a line has, and what stands after them; how wide a row is
 const LINES: usize = 4;
 
-const SIZE: usize = 11;
+const SIZE: usize = 12;
 
 const PLAIN: usize = SIZE + 1;
 
 const BALANCED: usize = PLAIN + 1;
 
-const LINE_WIDTH: usize = BALANCED + 1;
+const UNBOUND: usize = BALANCED + 1;
+
+const QUANTIFIED: usize = UNBOUND + 1;
+
+const LINE_WIDTH: usize = QUANTIFIED + 1;
 
 // where the credential rows start, how wide they are and how many there are: twice as many as may live
 const CREDENTIALS: usize = LINES + ledger::MAX_FORMULAS as usize * LINE_WIDTH;

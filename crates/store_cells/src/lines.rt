@@ -3,15 +3,18 @@ use crate::BALANCED;
 use crate::LINE_WIDTH;
 use crate::LINES;
 use crate::PLAIN;
+use crate::QUANTIFIED;
 use crate::SIZE;
 use crate::Store;
+use crate::UNBOUND;
 use logic::Interval;
 use steps::Row;
 ghost use mathlib.Core.Path.{_≡_};
 ghost use Prim.Native.Nat.{_<_};
 ghost use Rattle.logic.specs.Formula.{bit};
 ghost use Rattle.ledger.specs.Checks.{maxFormulas};
-ghost use Rattle.store_cells.specs.Layout.{rowFrom, lineCell, sizeAt, plainAt, balancedAt, putLine};
+ghost use Rattle.store_cells.specs.Layout.{rowFrom, lineCell, sizeAt, plainAt, balancedAt, unboundAt};
+ghost use Rattle.store_cells.specs.Layout.{quantifiedAt, putLine};
 
 pub fn line_row(store: &Store, i: u32) -> Row
     requires { ⌜ i < maxFormulas ⌝ }
@@ -22,17 +25,18 @@ pub fn line_row(store: &Store, i: u32) -> Row
         letter: store[at],
         a: store[at + 1],
         b: store[at + 2],
+        holder: store[at + 3],
         first: Interval {
-            from: store[at + 3],
-            to: store[at + 4],
-            first: store[at + 5],
-            last: store[at + 6],
+            from: store[at + 4],
+            to: store[at + 5],
+            first: store[at + 6],
+            last: store[at + 7],
         },
         second: Interval {
-            from: store[at + 7],
-            to: store[at + 8],
-            first: store[at + 9],
-            last: store[at + 10],
+            from: store[at + 8],
+            to: store[at + 9],
+            first: store[at + 10],
+            last: store[at + 11],
         },
     }
 }
@@ -58,33 +62,61 @@ pub fn balanced(store: &Store, i: u32) -> u32
     store[LINES + (i as usize) * LINE_WIDTH + BALANCED]
 }
 
+pub fn unbound(store: &Store, i: u32) -> u32
+    requires { ⌜ i < maxFormulas ⌝ }
+    ensures { λ r. ⌜ r ≡ unboundAt (now (store .entry)) i ⌝ }
+{
+    store[LINES + (i as usize) * LINE_WIDTH + UNBOUND]
+}
+
+pub fn quantified(store: &Store, i: u32) -> u32
+    requires { ⌜ i < maxFormulas ⌝ }
+    ensures { λ r. ⌜ r ≡ quantifiedAt (now (store .entry)) i ⌝ }
+{
+    store[LINES + (i as usize) * LINE_WIDTH + QUANTIFIED]
+}
+
 fn bit_of(b: bool) -> u32
     ensures { λ r. ⌜ r ≡ bit b ⌝ }
 {
     if b { 1 } else { 0 }
 }
 
-pub fn put_line(store: &mut Store, i: u32, row: Row, size: u32, plain: bool, balanced: bool)
+pub fn put_line(
+    store: &mut Store,
+    i: u32,
+    row: Row,
+    size: u32,
+    plain: bool,
+    balanced: bool,
+    unbound: bool,
+    quantified: bool,
+)
     requires { ⌜ i < maxFormulas ⌝ }
-    ensures { λ _. ⌜ now (store .exit) ≡ putLine (now (store .entry)) i row size plain balanced ⌝ }
+    ensures { λ _. ⌜ now (store .exit) ≡ putLine (now (store .entry)) i row size plain balanced unbound quantified ⌝ }
 {
     let p = bit_of(plain);
     let b = bit_of(balanced);
+    let u = bit_of(unbound);
+    let q = bit_of(quantified);
     let v = row.first;
     let w = row.second;
     let at = LINES + (i as usize) * LINE_WIDTH;
     store[at] = row.letter;
     store[at + 1] = row.a;
     store[at + 2] = row.b;
-    store[at + 3] = v.from;
-    store[at + 4] = v.to;
-    store[at + 5] = v.first;
-    store[at + 6] = v.last;
-    store[at + 7] = w.from;
-    store[at + 8] = w.to;
-    store[at + 9] = w.first;
-    store[at + 10] = w.last;
+    store[at + 3] = row.holder;
+    store[at + 4] = v.from;
+    store[at + 5] = v.to;
+    store[at + 6] = v.first;
+    store[at + 7] = v.last;
+    store[at + 8] = w.from;
+    store[at + 9] = w.to;
+    store[at + 10] = w.first;
+    store[at + 11] = w.last;
     store[at + SIZE] = size;
     store[at + PLAIN] = p;
     store[at + BALANCED] = b;
+    store[at + UNBOUND] = u;
+    store[at + QUANTIFIED] = q;
 }

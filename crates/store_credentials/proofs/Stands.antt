@@ -3,7 +3,7 @@ use mathlib.Core.Path.{_≡_, sym, ap, subst, _∙_}
 use mathlib.Core.List.{List}
 use Prim.Native.Nat.{ℕ, _<_}
 use native.Mathlib.Omega.{arith}
-use Rattle.logic.specs.Formula.{size, plain, bit}
+use Rattle.logic.specs.Formula.{size, plain, bit, unbound, quantified}
 use Rattle.logic.specs.Counts.{balanced}
 use Rattle.request.specs.Request.{Line}
 use Rattle.ledger.specs.declared.Credential.{Credential}
@@ -16,6 +16,7 @@ use Rattle.store_cells.specs.Layout.{lineCount, nextSerial, rowCount, entryAt, 
 use Rattle.store.specs.Store.{lineOf, ledgerOf, Canonical, RowsOrdered, Good, StandsFor}
 use Rattle.store.proofs.Tabs.{tab-ext}
 use Rattle.store_cells.proofs.CellWrites.{SameLines, lines-self, same-row, same-size, same-plain, same-balanced}
+use Rattle.store_cells.proofs.CellWrites.{same-unbound, same-quantified}
 use Rattle.store_cells.proofs.CredentialRows.{hint-lines, hint-live}
 use Rattle.store.proofs.Live.{same-live, same-ordered}
 
@@ -43,6 +44,10 @@ module _ (l m : List ℕ) (g : Good l) (s : SameLines l m) where
             ∙ ap (λ a. bit (plain a)) (sym (same-formula i));
         balances = λ i h. same-balanced l m s i (small i (below i h)) ∙ g .balances i (below i h)
             ∙ ap (λ a. bit (balanced a)) (sym (same-formula i));
+        unbounds = λ i h. same-unbound l m s i (small i (below i h)) ∙ g .unbounds i (below i h)
+            ∙ ap (λ a. bit (unbound a)) (sym (same-formula i));
+        quantifieds = λ i h. same-quantified l m s i (small i (below i h)) ∙ g .quantifieds i (below i h)
+            ∙ ap (λ a. bit (quantified a)) (sym (same-formula i));
         bounded = b;
       }
 

@@ -8,7 +8,7 @@ use native.Mathlib.Omega.{arith}
 use native.Mathlib.Decide.{ℕ-discrete}
 use borrow.Author.Tests.{eq-eqb}
 use lib.ListN.{getD}
-use Rattle.logic.specs.Formula.{Formula, size, plain, bit}
+use Rattle.logic.specs.Formula.{Formula, size, plain, bit, unbound, quantified}
 use Rattle.logic.specs.Counts.{balanced}
 use Rattle.steps.specs.declared.Row.{Row}
 use Rattle.ledger.specs.Table.{form}
@@ -20,7 +20,8 @@ use Rattle.ledger.specs.Bounds.{Bounded}
 use Rattle.ledger.proofs.Bounds.{line-bounded}
 use Rattle.store.specs.Tab.{tab}
 use Rattle.store_cells.specs.Layout.{lineCount, lineCell, rowAt, sizeAt, plainAt, balancedAt, lineCells, putLineCount}
-use Rattle.store_cells.specs.Layout.{putLine, sizeCell, plainCell, balancedCell, lineWidth}
+use Rattle.store_cells.specs.Layout.{putLine, sizeCell, plainCell, balancedCell, lineWidth, unboundAt, quantifiedAt}
+use Rattle.store_cells.specs.Layout.{unboundCell, quantifiedCell}
 use Rattle.store.specs.Store.{lineOf, ledgerOf, Canonical, StandsFor, Wordable}
 use Rattle.store.proofs.Tabs.{tab-append}
 use Rattle.store_cells.proofs.CellWrites.{row-ext, row-below, SameLive, count-live, head-same, head-line, line-same}
@@ -35,13 +36,15 @@ record Right (m : List ℕ) (i : ℕ) : Type 0 where
   sized : sizeAt m i ≡ size (formula (ledgerOf m) i)
   plain-kept : plainAt m i ≡ bit (plain (formula (ledgerOf m) i))
   balancedly : balancedAt m i ≡ bit (balanced (formula (ledgerOf m) i))
+  unbound-kept : unboundAt m i ≡ bit (unbound (formula (ledgerOf m) i))
+  quantified-kept : quantifiedAt m i ≡ bit (quantified (formula (ledgerOf m) i))
 
-module _ (l : List ℕ) (r : Row) (s : ℕ) (p b : Bool) (a : Wordable l r s p b) where
+module _ (l : List ℕ) (r : Row) (s : ℕ) (p b u z : Bool) (a : Wordable l r s p b u z) where
   abbrev n : ℕ
   n = lineCount l
 
   abbrev rowed : List ℕ
-  rowed = putLine l n r s p b
+  rowed = putLine l n r s p b u z
 
   abbrev m : List ℕ
   m = putLineCount rowed (n + 1)
@@ -53,7 +56,7 @@ module _ (l : List ℕ) (r : Row) (s : ℕ) (p b : Bool) (a : Wordable l r s p b
   room = omega (arith, lines-length l, a .room)
 
   rowed-live : SameLive l rowed
-  rowed-live = line-live l n r s p b (a .good .long) room
+  rowed-live = line-live l n r s p b u z (a .good .long) room
 
   live : SameLive l m
   live = count-live l rowed (n + 1) rowed-live
@@ -61,16 +64,16 @@ module _ (l : List ℕ) (r : Row) (s : ℕ) (p b : Bool) (a : Wordable l r s p b
   count : lineCount m ≡ n + 1
   count = head-same rowed 0 (n + 1) (rowed-live .long) (omega arith)
 
-  new-cell : (f : ℕ) → f < lineWidth → lineCell m n f ≡ getD (lineCells r s p b) f 0
-  new-cell f q = head-line rowed 0 (n + 1) n f (omega arith) ∙ line-same l n r s p b (a .good .long) room f q
+  new-cell : (f : ℕ) → f < lineWidth → lineCell m n f ≡ getD (lineCells r s p b u z) f 0
+  new-cell f q = head-line rowed 0 (n + 1) n f (omega arith) ∙ line-same l n r s p b u z (a .good .long) room f q
 
   old-cell : (k f : ℕ) → k < n → f < lineWidth → lineCell m k f ≡ lineCell l k f
-  old-cell k f h q = head-line rowed 0 (n + 1) k f (omega arith) ∙ line-other l n r s p b k f (omega arith) q
+  old-cell k f h q = head-line rowed 0 (n + 1) k f (omega arith) ∙ line-other l n r s p b u z k f (omega arith) q
 
   new-row : rowAt m n ≡ r
   new-row =
       row-below m n (omega (arith, count)) room
-      ∙ row-ext (lineCell m n) (λ f. getD (lineCells r s p b) f 0) (λ f q. new-cell f (omega arith))
+      ∙ row-ext (lineCell m n) (λ f. getD (lineCells r s p b u z) f 0) (λ f q. new-cell f (omega arith))
 
   old-row : (k : ℕ) → k < n → rowAt m k ≡ rowAt l k
   old-row k h =
@@ -99,16 +102,19 @@ module _ (l : List ℕ) (r : Row) (s : ℕ) (p b : Bool) (a : Wordable l r s p b
       ap (λ (x : Ledger). formula x k) ledger ∙ formula-stays t (lineOf r) k (omega (arith, lines-length l))
 
   new-right : Right m n
-  unfolding sizeAt plainAt balancedAt
+  unfolding sizeAt plainAt balancedAt unboundAt quantifiedAt
   new-right = record {
     canonical = subst Canonical (sym new-row) (a .canonical);
     sized = new-cell sizeCell (omega arith) ∙ a .sized ∙ ap size (sym new-formula);
     plain-kept = new-cell plainCell (omega arith) ∙ ap bit (a .plain-kept ∙ ap plain (sym new-formula));
     balancedly = new-cell balancedCell (omega arith) ∙ ap bit (a .balancedly ∙ ap balanced (sym new-formula));
+    unbound-kept = new-cell unboundCell (omega arith) ∙ ap bit (a .unbound-kept ∙ ap unbound (sym new-formula));
+    quantified-kept = new-cell quantifiedCell (omega arith)
+        ∙ ap bit (a .quantified-kept ∙ ap quantified (sym new-formula));
   }
 
   old-right : (k : ℕ) → k < n → Right m k
-  unfolding sizeAt plainAt balancedAt
+  unfolding sizeAt plainAt balancedAt unboundAt quantifiedAt
   old-right k h = record {
     canonical = subst Canonical (sym (old-row k h)) (a .good .canonical k h);
     sized = old-cell k sizeCell h (omega arith) ∙ a .good .sizes k h ∙ ap size (sym (old-formula k h));
@@ -116,6 +122,10 @@ module _ (l : List ℕ) (r : Row) (s : ℕ) (p b : Bool) (a : Wordable l r s p b
         ∙ ap (λ x. bit (plain x)) (sym (old-formula k h));
     balancedly = old-cell k balancedCell h (omega arith) ∙ a .good .balances k h
         ∙ ap (λ x. bit (balanced x)) (sym (old-formula k h));
+    unbound-kept = old-cell k unboundCell h (omega arith) ∙ a .good .unbounds k h
+        ∙ ap (λ x. bit (unbound x)) (sym (old-formula k h));
+    quantified-kept = old-cell k quantifiedCell h (omega arith) ∙ a .good .quantifieds k h
+        ∙ ap (λ x. bit (quantified x)) (sym (old-formula k h));
   }
 
   right : (k : ℕ) → k < lineCount m → Right m k
@@ -135,6 +145,8 @@ module _ (l : List ℕ) (r : Row) (s : ℕ) (p b : Bool) (a : Wordable l r s p b
       sizes = λ k h. right k h .sized;
       plains = λ k h. right k h .plain-kept;
       balances = λ k h. right k h .balancedly;
+      unbounds = λ k h. right k h .unbound-kept;
+      quantifieds = λ k h. right k h .quantified-kept;
       bounded = subst Bounded (sym ledger) (line-bounded t (a .good .bounded) (lineOf r) (a .room) (a .there)
           (omega (arith, a .sized, a .small)));
     };
@@ -142,6 +154,6 @@ module _ (l : List ℕ) (r : Row) (s : ℕ) (p b : Bool) (a : Wordable l r s p b
   }
 
   -- by the stores that make it
-  pub add-done : {m₀ m₁ : List ℕ} {i : ℕ} → i ≡ lineCount l → m₀ ≡ putLine l i r s p b → m₁ ≡ putLineCount m₀ (i + 1)
-      → StandsFor m₁ (withLine (ledgerOf l) (lineOf r))
+  pub add-done : {m₀ m₁ : List ℕ} {i : ℕ} → i ≡ lineCount l → m₀ ≡ putLine l i r s p b u z
+      → m₁ ≡ putLineCount m₀ (i + 1) → StandsFor m₁ (withLine (ledgerOf l) (lineOf r))
   add-done e e₀ e₁ = rw (e₁, e₀, e) added

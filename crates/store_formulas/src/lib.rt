@@ -14,7 +14,10 @@ ghost use Rattle.store.specs.Store.{lineOf, ledgerOf, Good, StandsFor, Wordable
 fn same_row(x: Row, y: Row) -> bool
     ensures { λ r. ⌜ r ≡ sameRow x y ⌝ }
 {
-    if (x.a == y.a) & ((x.b == y.b) & (x.letter == y.letter)) {
+    if x.a != y.a {
+        return false;
+    }
+    if (x.b == y.b) & ((x.holder == y.holder) & (x.letter == y.letter)) {
         if intervals::same(x.first, y.first) {
             return intervals::same(x.second, y.second);
         }
@@ -39,13 +42,21 @@ pub fn has_row(store: &Store, row: Row) -> bool
     false
 }
 
-// One formula line (document 01: a wording) more, with its formula's size, whether it is plain and whether it is
-// balanced.
-pub fn add_row(store: &mut Store, row: Row, size: u32, plain: bool, balanced: bool)
-    requires { ⌜ Wordable (now store) row size plain balanced ⌝ }
+// One formula line (document 01: a wording) more, with its formula's size, whether it is plain, balanced, has an
+// unbound holder and has a `q`.
+pub fn add_row(
+    store: &mut Store,
+    row: Row,
+    size: u32,
+    plain: bool,
+    balanced: bool,
+    unbound: bool,
+    quantified: bool,
+)
+    requires { ⌜ Wordable (now store) row size plain balanced unbound quantified ⌝ }
     ensures { λ _. ⌜ StandsFor (now (store .exit)) (withLine (ledgerOf (now (store .entry))) (lineOf row)) ⌝ }
 {
     let n = head::line_count(store);
-    lines::put_line(store, n, row, size, plain, balanced);
+    lines::put_line(store, n, row, size, plain, balanced, unbound, quantified);
     head::put_line_count(store, n + 1);
 }

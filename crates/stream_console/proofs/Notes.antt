@@ -15,7 +15,15 @@ use Rattle.io.specs.Counts.{clamped}
 use Rattle.stream_passed.specs.Passed.{Came, Went}
 use Rattle.stream_console.specs.declared.Input.{Input}
 use Rattle.stream_console.specs.declared.Output.{Output}
-use Rattle.stream_console.specs.Console.{noted, handed, CameIn, WentOut}
+use Rattle.stream_console.specs.Console.{noted, handed, CameIn, WentOut, Sent}
+
+-- A law that says of what a function returns one thing of all that a need asks: `part (λ (x : Need) (y : Law). y)`,
+-- where the law takes what is returned from x, an equation of it.
+abbrev pub part : {A B : Type 0} → (A → B → B) → Type 0
+part {B = B} _ = B
+
+abbrev pub returned : {A : Type 0} {a b : A} → a ≡ b → A
+returned {a = a} e = a
 
 pub noted-as : (i : Input) (z : ℤ) (n : ℕ) {i′ : Input} → i′ .from ≡ i .from → i′ .reads ≡ (i .reads + 1) % 2 ^ 64
     → i′ .bytes ≡ (i .bytes + i′ .got) % 2 ^ 64 → i′ .got ≡ clamped z n → i′ .ended ≡ eqb (i′ .got) 0
@@ -53,7 +61,10 @@ came-on i x z {i′} q b e =
     counted b (take (i′ .got) x) e (ap (λ (i : Input). i .bytes) q)
     (sym got ∙ sym (length-take-le (i′ .got) x (rw got (clamped-few z (length x)))))
 
-pub went-on : (u : Output) (x : List ℕ) (a : Bool) {u′ : Output} → u′ ≡ handed u (length x) a → (w : List ℕ)
+went-on : (u : Output) (x : List ℕ) (a : Bool) {u′ : Output} → u′ ≡ handed u (length x) a → (w : List ℕ)
     → WentOut u w → WentOut u′ (w ++ x)
 unfolding Went
 went-on u x a q w e = counted w x e (ap (λ (u : Output). u .bytes) q) refl
+
+pub sent-as : (u : Output) (x : List ℕ) (a : Bool) {u′ : Output} → u′ ≡ handed u (length x) a → Sent u x u′
+sent-as u x a q = record { answer = a; note = q; went = went-on u x a q }

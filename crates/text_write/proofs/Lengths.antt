@@ -11,7 +11,7 @@ use Rattle.request.specs.Text.{bytes}
 use Rattle.request.specs.Write.{digits, minutes, kindField}
 use Rattle.ledger.specs.declared.Credential.{Credential}
 use Rattle.snapshot.specs.Snapshot.{editionFields, titleFields, credentialFields}
-use Rattle.text_write.specs.declared.Shape.the-variants.{One, Bang, Pair, At, Superset}
+use Rattle.text_write.specs.declared.Shape.the-variants.{One, Single, Pair, At, Superset, Triple}
 use Rattle.text_write.specs.Put.{Measured, ended, title, shapeFields}
 use Rattle.text_write.proofs.Puts.{Some, ended-length, ended-size}
 
@@ -63,10 +63,11 @@ pub one-measured : Measured (ended 10 (shapeFields One)) 90 2
 unfolding shapeFields
 one-measured = record { exact = sym (ended-size _ [] 10); small = omega arith }
 
-pub bang-measured : (n : ℕ) {a : ℕ} → Measured (digits n) 10 a → Measured (ended 10 (shapeFields (Bang n))) 90 (a + 3)
+pub single-measured : (x n : ℕ) {a : ℕ} → Measured (digits n) 10 a
+    → Measured (ended 10 (shapeFields (Single x n))) 90 (a + 3)
 unfolding shapeFields
-bang-measured n a = record {
-  exact = omega (arith, a .exact, ended-size (98 ∷ []) (digits n ∷ []) 10);
+single-measured x n a = record {
+  exact = omega (arith, a .exact, ended-size (x ∷ []) (digits n ∷ []) 10);
   small = omega (arith, a .small);
 }
 
@@ -76,6 +77,15 @@ unfolding shapeFields
 pair-measured x m n a b = record {
   exact = omega (arith, a .exact, b .exact, ended-size (x ∷ []) (digits m ∷ digits n ∷ []) 10);
   small = omega (arith, a .small, b .small);
+}
+
+pub triple-measured : (l m n : ℕ) {a b c : ℕ} → Measured (digits l) 10 a → Measured (digits m) 10 b
+    → Measured (digits n) 10 c → Measured (ended 10 (shapeFields (Triple l m n))) 90 (a + b + c + 5)
+unfolding shapeFields
+triple-measured l m n a b c = record {
+  exact =
+      omega (arith, a .exact, b .exact, c .exact, ended-size (110 ∷ []) (digits l ∷ digits m ∷ digits n ∷ []) 10);
+  small = omega (arith, a .small, b .small, c .small);
 }
 
 pub at-measured : (n : ℕ) (w : Interval) {a b : ℕ} → Measured (digits n) 10 a → Measured (ended 10 (minutes w)) 44 b

@@ -7,7 +7,7 @@ use lib.ListN.{length, drop, set}
 use Rattle.request.specs.Write.{digits, joined, minutes}
 use Rattle.snapshot.specs.Snapshot.{Title}
 use Rattle.text_write.specs.declared.Shape.{Shape}
-use Rattle.text_write.specs.declared.Shape.the-variants.{One, Bang, Pair, At, Superset}
+use Rattle.text_write.specs.declared.Shape.the-variants.{One, Single, Pair, At, Superset, Triple}
 
 -- the text stands at the front, "Bytes past the written text stay", and the answer is "the number of bytes it wrote"
 pub record Put (rest text rest′ : List ℕ) (r : ℕ) : Type 0 where
@@ -42,7 +42,8 @@ counts next lines live = digits next ∷ digits lines ∷ digits live ∷ []
 -- the fields of a formula line, by what stands after its letter
 unfoldable pub shapeFields : Shape → List (List ℕ)
 shapeFields One = (code "o" ∷ []) ∷ []
-shapeFields (Bang i) = (code "b" ∷ []) ∷ digits i ∷ []
+shapeFields (Single x i) = (x ∷ []) ∷ digits i ∷ []
 shapeFields (Pair x i j) = (x ∷ []) ∷ digits i ∷ digits j ∷ []
 shapeFields (At i w) = (code "h" ∷ []) ∷ digits i ∷ minutes w
 shapeFields (Superset v w) = (code "g" ∷ []) ∷ minutes v ++ minutes w
+shapeFields (Triple i j k) = (code "n" ∷ []) ∷ digits i ∷ digits j ∷ digits k ∷ []

@@ -14,17 +14,18 @@ ghost use Rattle.request.specs.Text.{bytes};
 ghost use Rattle.request.specs.Write.{digits, minutes, kindField, lineFields};
 ghost use Rattle.snapshot.specs.Snapshot.{titleFields, credentialFields};
 ghost use Rattle.store.specs.Store.{lineOf};
-ghost use Rattle.text_write.specs.declared.Shape.the-variants.{Bang, Pair, At, Superset};
+ghost use Rattle.text_write.specs.declared.Shape.the-variants.{Single, Pair, At, Superset, Triple};
 ghost use Rattle.text_write.specs.Put.{Put, Room, Measured, putTwo, ended, title, counts, shapeFields};
 
-// What stands after the letter of a formula line: nothing, a number, two numbers (with the letter), a number and an
-// interval, two intervals.
+// What stands after the letter of a formula line: nothing, a number or two (with the letter), a number and an interval,
+// two intervals, three numbers.
 enum Shape {
     One,
-    Bang(u32),
+    Single(u8, u32),
     Pair(u8, u32, u32),
     At(u32, Interval),
     Superset(Interval, Interval),
+    Triple(u32, u32, u32),
 }
 
 // Numbers
@@ -165,11 +166,11 @@ fn put_intervals(rest: &mut [u8], v: Interval, w: Interval) -> usize
 
 // Formula lines (document 01: wording lines), by their shape
 
-fn put_bang(rest: &mut [u8], n: u32) -> usize
-    requires { ⌜ Room (now rest) (ended 10 (shapeFields (Bang n))) ⌝ }
-    ensures { λ r. ⌜ Put (now (rest .entry)) (ended 10 (shapeFields (Bang n))) (now (rest .exit)) r ⌝ }
+fn put_single(rest: &mut [u8], x: u8, n: u32) -> usize
+    requires { ⌜ Room (now rest) (ended 10 (shapeFields (Single x n))) ⌝ }
+    ensures { λ r. ⌜ Put (now (rest .entry)) (ended 10 (shapeFields (Single x n))) (now (rest .exit)) r ⌝ }
 {
-    let i = put_letter(rest, b'b', b',');
+    let i = put_letter(rest, x, b',');
     let j = put_field(&mut rest[i..], n, b'\n');
     i + j
 }
@@ -201,6 +202,15 @@ fn put_superset(rest: &mut [u8], v: Interval, w: Interval) -> usize
     i + j
 }
 
+fn put_triple(rest: &mut [u8], l: u32, m: u32, n: u32) -> usize
+    requires { ⌜ Room (now rest) (ended 10 (shapeFields (Triple l m n))) ⌝ }
+    ensures { λ r. ⌜ Put (now (rest .entry)) (ended 10 (shapeFields (Triple l m n))) (now (rest .exit)) r ⌝ }
+{
+    let i = put_head(rest, b'n', l);
+    let k = put_fields(&mut rest[i..], m, n, b'\n');
+    i + k
+}
+
 fn shape_of(row: Row) -> Shape
     ensures { λ r. ⌜ shapeFields r ≡ lineFields (lineOf row) ⌝ }
 {
@@ -212,7 +222,7 @@ fn shape_of(row: Row) -> Shape
         letters::PLUS => Shape::Pair(b'p', row.a, row.b),
         letters::LOLLI => Shape::Pair(b'l', row.a, row.b),
         letters::IMPLIES => Shape::Pair(b'u', row.a, row.b),
-        letters::BANG => Shape::Bang(row.a),
+        letters::BANG => Shape::Single(b'b', row.a),
         letters::AT => {
             let w = row.first;
             Shape::At(row.a, w)
@@ -223,6 +233,8 @@ fn shape_of(row: Row) -> Shape
             let w = row.second;
             Shape::Superset(v, w)
         }
+        letters::NAMED => Shape::Triple(row.a, row.b, row.holder),
+        letters::FOR_EVERY => Shape::Single(b'q', row.a),
         _ => Shape::One,
     }
 }
@@ -234,10 +246,11 @@ pub fn put_formula(rest: &mut [u8], row: Row) -> usize
     let shape = shape_of(row);
     match shape {
         Shape::One => put_letter(rest, b'o', b'\n'),
-        Shape::Bang(n) => put_bang(rest, n),
+        Shape::Single(x, n) => put_single(rest, x, n),
         Shape::Pair(x, m, n) => put_pair(rest, x, m, n),
         Shape::At(n, w) => put_at(rest, n, w),
         Shape::Superset(v, w) => put_superset(rest, v, w),
+        Shape::Triple(l, m, n) => put_triple(rest, l, m, n),
     }
 }
 
@@ -247,10 +260,11 @@ pub fn formula_length(row: Row) -> usize
     let shape = shape_of(row);
     match shape {
         Shape::One => 2,
-        Shape::Bang(n) => digits_length(n) + 3,
+        Shape::Single(_, n) => digits_length(n) + 3,
         Shape::Pair(_, m, n) => digits_length(m) + digits_length(n) + 4,
         Shape::At(n, w) => digits_length(n) + interval_length(w) + 3,
         Shape::Superset(v, w) => interval_length(v) + interval_length(w) + 2,
+        Shape::Triple(l, m, n) => digits_length(l) + digits_length(m) + digits_length(n) + 5,
     }
 }
 

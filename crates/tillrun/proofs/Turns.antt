@@ -30,27 +30,47 @@ few {i} {x} r = rw (ap (λ (i : Input). i .got) (r .note)) (at (r .answer))
     at (pos k) = min-le-right k (length x)
     at (negsuc k) = omega arith
 
-pub turned : {l k o : List ℕ} {t : Turn} {l′ k′ o′ x′ : List ℕ} {q : Place} {i : Input} {u : Output} {n : ℕ}
-    → longest * length x′ ≤ length o′ → Took l k o (t .place) (take n x′) l′ k′ o′ q → n ≡ i .got
-    → Received (t .input) x′ i → Sent (t .output) (take (q .text) o′) u → q .text ≤ length o′
-    → Turned l k o t l′ k′ o′ x′
-    (record { place = record { filled = q .filled; fresh = q .fresh; text = 0 }; input = i; output = u })
-turned {t = t} {l′ = l′} {k′ = k′} {o′ = o′} {x′ = x′} {q = q} {u = u} h m f received sent room =
-    let e : u .put ≡ q .text = ap (λ (u : Output). u .put) (sent .note) ∙ length-take-le (q .text) o′ room in
-    record {
-      ready = record { good = m .ready .good; begun = m .ready .begun; filled = m .ready .filled; text = omega arith };
-      received = received;
-      sent = subst (λ (n : ℕ). Sent (t .output) (take n o′) u) (sym e) sent;
-      none = refl;
-      stands = λ w b s.
-          let now = subst (λ (n : ℕ). Stands w l′ k′ o′ q (b ++ take n x′)) f (m .stands w b s) in
-          record {
-            ledger = now .ledger;
-            begun = now .begun;
-            fresh = now .fresh;
-            text = append-nil (w ++ take (u .put) o′) ∙ ap (λ (n : ℕ). w ++ take n o′) e ∙ now .text;
-          };
-    }
+-- A law that says of what a function returns one thing of all that a need asks: `part (λ (x : Need) (y : Law). y)`,
+-- where the law takes the values from x.
+abbrev pub part : {A B : Type 0} → (A → B → B) → Type 0
+part {B = B} _ = B
+
+module _ {l k o : List ℕ} {t : Turn} {l′ k′ o′ x′ : List ℕ} {t′ : Turn} where
+  -- q: the place that the answering left
+  abbrev pub Placed : Turned l k o t l′ k′ o′ x′ t′ → Place → Type 0
+  Placed _ q = t′ .place ≡ record { filled = q .filled; fresh = q .fresh; text = 0 }
+
+  abbrev pub Answered : Turned l k o t l′ k′ o′ x′ t′ → Place → Type 0
+  Answered _ q = Sent (t .output) (take (q .text) o′) (t′ .output)
+
+  pub turned : {q : Place} {n : ℕ} → longest * length x′ ≤ length o′ → Took l k o (t .place) (take n x′) l′ k′ o′ q
+      → n ≡ t′ .input .got → Received (t .input) x′ (t′ .input) → Sent (t .output) (take (q .text) o′) (t′ .output)
+      → q .text ≤ length o′ → t′ .place ≡ record { filled = q .filled; fresh = q .fresh; text = 0 }
+      → Turned l k o t l′ k′ o′ x′ t′
+  turned {q} h m f received sent room placed =
+      let e : t′ .output .put ≡ q .text =
+      ap (λ (u : Output). u .put) (sent .note) ∙ length-take-le (q .text) o′ room in
+      subst (λ (p : Place). Turned l k o t l′ k′ o′ x′ (record { place = p; input = t′ .input; output = t′ .output }))
+      (sym placed) (record {
+        ready = record {
+          good = m .ready .good;
+          begun = m .ready .begun;
+          filled = m .ready .filled;
+          text = omega arith;
+        };
+        received = received;
+        sent = subst (λ (n : ℕ). Sent (t .output) (take n o′) (t′ .output)) (sym e) sent;
+        none = refl;
+        stands = λ w b s.
+            let now = subst (λ (n : ℕ). Stands w l′ k′ o′ q (b ++ take n x′)) f (m .stands w b s) in
+            record {
+              ledger = now .ledger;
+              begun = now .begun;
+              fresh = now .fresh;
+              text =
+                  append-nil (w ++ take (t′ .output .put) o′) ∙ ap (λ (n : ℕ). w ++ take n o′) e ∙ now .text;
+            };
+      })
 
 -- nothing is read or written yet
 pub going-start : {l k o : List ℕ} (n : ℕ) {i : Input} {u : Output} → StandsFor l empty → length k ≡ most

@@ -17,10 +17,11 @@ pub const WITHIN: [&str; 9] = [
 ];
 pub const NOW: [&str; 2] = ["later: now stays", "later: another now"];
 /// The steps of these bookings.
-pub const STEPS: [&str; 22] = [
+pub const STEPS: [&str; 23] = [
     "later: ax", "later: cp", "later: tr", "later: tl", "later: or", "later: ol", "later: wr", "later: w1",
     "later: w2", "later: p1", "later: p2", "later: pl", "later: ll", "later: ul", "later: br", "later: bl",
     "later: hr", "later: hl", "later: sr", "later: af", "later: sl", "later: gr",
+    "later: al",
 ];
 
 /// Longer sessions are left out.

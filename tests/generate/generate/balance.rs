@@ -7,11 +7,11 @@ use super::session::{Desk, Session};
 use super::wording::*;
 use super::world::World;
 
-pub const BALANCE: [&str; 20] = [
+pub const BALANCE: [&str; 22] = [
     "weight: a", "weight: o", "weight: t", "weight: w", "weight: p", "weight: l", "weight: u", "weight: b",
     "weight: h", "weight: s", "weight: g", "one session only", "sessions that cancel", "arms of & differ",
     "arms of ⊕ differ", "weight under !", "weight left of ⊃", "clause broken deep inside", "offer at random",
-    "not plain",
+    "not plain", "weight: n", "weight: q",
 ];
 
 fn offer(desk: &mut Desk, part: &Part, good: bool, name: &str) {
@@ -69,6 +69,41 @@ fn light(desk: &mut Desk) {
     }
 }
 
+/// Weights of atoms in a holder's name, whoever it is, and of `q`.
+fn holders(desk: &mut Desk) {
+    let [s7, p7, _, p8, f, o] = stock();
+    let mut d = |part: Part, good: bool, name: &str| offer(desk, &part, good, name);
+    for holder in [1, 7, LAST_HOLDER] {
+        let (seat, place) = (named(1, 7, holder), named(2, 7, holder));
+        [0, 3, 255].iter().for_each(|predicate| d(named(*predicate, 7, holder), true, "weight: n"));
+        [&seat, &place, &tensor(&seat, &f)].iter().for_each(|part| d((*part).clone(), false, "weight: n"));
+        d(lolli(&seat, &place), true, "weight: n");
+        d(lolli(&seat, &p7), true, "weight: n");
+        d(lolli(&s7, &place), true, "weight: n");
+        d(lolli(&seat, &named(2, 7, 8)), true, "weight: n");
+        d(lolli(&seat, &named(2, 8, holder)), false, "weight: n");
+        d(lolli(&seat, &p8), false, "weight: n");
+        d(with(&seat, &o), false, "weight: n");
+        d(bang(&seat), false, "weight: n");
+    }
+    let (seat, place) = (named(1, 7, 0), named(2, 7, 0));
+    let good = [
+        named(9, 7, 0), f.clone(), o, lolli(&seat, &place), lolli(&seat, &p7), lolli(&s7, &place),
+        lolli(&with(&seat, &place), &s7), bang(&lolli(&seat, &place)), implies(&named(9, 7, 0), &lolli(&seat, &seat)),
+    ];
+    good.iter().for_each(|part| d(for_all(part), true, "weight: q"));
+    let bad = [
+        seat.clone(), s7.clone(), tensor(&seat, &f), lolli(&seat, &p8), lolli(&seat, &named(2, 8, 0)), bang(&seat),
+        implies(&seat, &f), with(&f, &seat), plus(&f, &seat), lolli(&f, &seat), lolli(&tensor(&seat, &s7), &place),
+    ];
+    bad.iter().for_each(|part| d(for_all(part), false, "weight: q"));
+    d(lolli(&for_all(&seat), &p7), true, "weight: q");
+    d(tensor(&for_all(&lolli(&seat, &f)), &for_all(&place)), true, "weight: q");
+    d(with(&for_all(&seat), &f), false, "weight: q");
+    d(implies(&for_all(&seat), &f), false, "weight: q");
+    d(lolli(&bang(&for_all(&seat)), &p7), false, "weight: q");
+}
+
 /// Weights of ⊸, ⊃, !, @ and ⟨K⟩.
 fn arrows(desk: &mut Desk) {
     let [s7, p7, _, _, f, o] = stock();
@@ -95,6 +130,12 @@ fn single_weights() -> Session {
     light(&mut desk);
     arrows(&mut desk);
     desk.session("balance: weights", 0)
+}
+
+fn of_holders() -> Session {
+    let mut desk = Desk::new();
+    holders(&mut desk);
+    desk.session("balance: holders", 0)
 }
 
 /// The clauses for two sessions, here called 7 and 8.
@@ -139,7 +180,7 @@ fn deep(bad: usize) -> Session {
     let all = [with(&o, &s7), plus(&f, &s7), tensor(&bang(&s7), &lolli(&s7, &o)), implies(&s7, &o)];
     let b = &all[bad];
     let mut desk = Desk::new();
-    let mut places = vec![bang(b), at(b, window(1, 2)), says(1, b)];
+    let mut places = vec![bang(b), at(b, window(1, 2)), says(1, b), for_all(b)];
     for join in [tensor, with, plus, lolli, implies] {
         places.extend([join(b, &o), join(&o, b)]);
     }
@@ -150,7 +191,7 @@ fn deep(bad: usize) -> Session {
     desk.session("balance: deep inside", 0)
 }
 
-/// Wordings outside a, t, s: as single-use offer and as goal, alone and inside.
+/// Wordings outside a, n, t, s: as single-use offer and as goal, alone and inside.
 fn not_plain() -> Session {
     let mut desk = Desk::new();
     let [s7, _, _, _, f, o] = stock();
@@ -158,7 +199,7 @@ fn not_plain() -> Session {
     let w = window(1, 2);
     let bad = [
         o.clone(), with(&f, &f), plus(&f, &f), lolli(&f, &f), implies(&f, &f), bang(&f), at(&f, w),
-        covers(w, w),
+        covers(w, w), for_all(&f), for_all(&named(9, 7, 0)),
     ];
     for b in &bad {
         for part in [b.clone(), tensor(b, &f), tensor(&f, b), says(1, &tensor(&f, &says(2, b)))] {
@@ -211,6 +252,7 @@ pub fn random(seed: u64) -> Session {
 fn changed(rng: &mut Rng, world: &World, part: &Part) -> Part {
     let mut go = |p: &Part| changed(rng, world, p);
     match &**part {
+        Wording::ForAll(a) => for_all(&go(a)),
         Wording::Tensor(a, b) => tensor(&go(a), b),
         Wording::With(a, b) => with(a, &go(b)),
         Wording::Plus(a, b) => plus(&go(a), b),
@@ -220,13 +262,14 @@ fn changed(rng: &mut Rng, world: &World, part: &Part) -> Part {
         Wording::At(a, w) => at(&go(a), *w),
         Wording::Says(k, a) => says(*k, &go(a)),
         Wording::Atom(k, s) if rng.chance(1, 2) => atom(*k, world.beside(*s)),
+        Wording::Named(k, s, h) if rng.chance(1, 2) => named(*k, world.beside(*s), *h),
         _ if rng.chance(1, 2) => world.weighty_atom(rng, world.sessions[0]),
         _ => world.free_atom(rng),
     }
 }
 
 pub fn sessions() -> Vec<Session> {
-    let mut all = vec![single_weights(), not_plain()];
+    let mut all = vec![single_weights(), of_holders(), not_plain()];
     let pairs = [(7, 8), (7, 263), (255, LAST_SESSION), (256, 0), (65_279, LAST_SESSION)];
     all.extend(pairs.map(|(s, t)| clauses(s, t)));
     all.extend((0..4).map(deep));

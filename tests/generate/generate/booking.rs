@@ -2,6 +2,7 @@
 
 use super::breaks::{breaks, Broken};
 use super::derivation::{Deriv, Hyp};
+use super::follow::{at_first, first_wrong};
 use super::form::Kind;
 use super::grow::Grower;
 use super::model::Answer;
@@ -91,6 +92,7 @@ impl Booking {
 
     /// The sheet that must be accepted.
     pub fn accept(&self, desk: &mut Desk) {
+        assert_eq!(first_wrong(&self.deriv, &at_first(&self.deriv), None), None, "a derivation");
         let serial = desk.model.given + 1;
         let sheet = self.sheet(&self.serials, &self.texts());
         desk.expect(&sheet, Answer::Done(serial), &self.marks());
@@ -117,6 +119,7 @@ impl Booking {
         marks.extend(self.two_within_two().then_some("two premises within two"));
         marks.extend(self.singles_alike().then_some("alike: both in one booking"));
         marks.extend(self.right_by_break());
+        marks.extend(super::holders::booked(self));
         for h in self.holds.iter().filter(|h| h.standing) {
             let mut parts = vec![];
             h.wording.collect(&mut parts);
@@ -185,10 +188,10 @@ pub const RIGHT_BY_BREAK: [&str; 5] = [
     "by chance: ul right by a break", "by chance: gr right by a break",
 ];
 
-pub const LETTERS: &str = "aotwplubhsg";
-pub const STANDING: [&str; 11] = [
+pub const LETTERS: &str = "aotwplubhsgnq";
+pub const STANDING: [&str; 13] = [
     "standing a", "standing o", "standing t", "standing w", "standing p", "standing l", "standing u",
-    "standing b", "standing h", "standing s", "standing g",
+    "standing b", "standing h", "standing s", "standing g", "standing n", "standing q",
 ];
 
 /// A random booking of a plain goal, or None where it passed a limit.

@@ -23,22 +23,23 @@ macro_rules! over_break {
     };
 }
 
-pub const LEFTS: [(&str, char); 11] = [
+/// The same for every left step and `ax`.
+macro_rules! lefts {
+    ($clause:literal) => { ways!("ax" "tl" "ol" "w1" "w2" "pl" "ll" "ul" "bl" "hl" "sl" "al"; $clause) };
+}
+
+pub const LEFTS: [(&str, char); 12] = [
     ("ax", 'a'), ("tl", 't'), ("ol", 'o'), ("w1", 'w'), ("w2", 'w'), ("pl", 'p'),
-    ("ll", 'l'), ("ul", 'u'), ("bl", 'b'), ("hl", 'h'), ("sl", 's'),
+    ("ll", 'l'), ("ul", 'u'), ("bl", 'b'), ("hl", 'h'), ("sl", 's'), ("al", 'q'),
 ];
 pub const RIGHTS: [(&str, char); 9] = [
     ("tr", 't'), ("or", 'o'), ("wr", 'w'), ("p1", 'p'), ("p2", 'p'), ("br", 'b'),
     ("hr", 'h'), ("sr", 's'), ("gr", 'g'),
 ];
-pub const OF_R: [&str; 11] =
-    ways!("ax" "tl" "ol" "w1" "w2" "pl" "ll" "ul" "bl" "hl" "sl"; "label of R");
-pub const SPENT: [&str; 11] =
-    ways!("ax" "tl" "ol" "w1" "w2" "pl" "ll" "ul" "bl" "hl" "sl"; "label no longer in D");
-pub const NEVER: [&str; 11] =
-    ways!("ax" "tl" "ol" "w1" "w2" "pl" "ll" "ul" "bl" "hl" "sl"; "label never taken");
-pub const OTHER: [&str; 11] =
-    ways!("ax" "tl" "ol" "w1" "w2" "pl" "ll" "ul" "bl" "hl" "sl"; "L of another connective");
+pub const OF_R: [&str; 12] = lefts!("label of R");
+pub const SPENT: [&str; 12] = lefts!("label no longer in D");
+pub const NEVER: [&str; 12] = lefts!("label never taken");
+pub const OTHER: [&str; 12] = lefts!("L of another connective");
 pub const GOAL_OTHER: [&str; 9] =
     ways!("tr" "or" "wr" "p1" "p2" "br" "hr" "sr" "gr"; "goal of another connective");
 pub const GOAL_AFFIRMS: [&str; 9] = ways!("tr" "or" "wr" "p1" "p2" "br" "hr" "sr" "gr"; "goal affirms");
@@ -74,6 +75,7 @@ fn line(letters: &'static str, label: Option<u32>, w: Window) -> StepLine {
     StepLine {
         letters,
         label,
+        holder: (letters == "al").then_some(5),
         share: matches!(letters, "tr" | "ll").then_some(0),
         window: matches!(letters, "ll" | "ul").then_some(w),
     }
@@ -87,10 +89,15 @@ fn bare(letters: &'static str) -> StepLine {
     line(letters, None, window(0, 0))
 }
 
+/// A wording of the connective; `n` is an atom as `a` is.
+fn is(letter: char, wording: &Wording) -> bool {
+    if letter == 'a' { wording.atomic().is_some() } else { wording.letter() == letter }
+}
+
 /// L would suit the step, were it only in D.
 fn fits(letters: &str, letter: char, h: &Held, s: &Scene) -> bool {
     let around = h.window.contains(s.goal.window);
-    h.wording.letter() == letter
+    is(letter, &h.wording)
         && match letters {
             "ax" => s.goal.by.is_none() && h.wording == s.goal.wording && around,
             "sl" => s.goal.by.is_some() && s.goal.by == principal(h) && around,
@@ -139,7 +146,7 @@ fn labels(i: usize, letters: &'static str, letter: char, s: &Scene, out: &mut Ve
         "sl" => s.goal.by.is_some() && h.window.contains(s.goal.window),
         _ => true,
     };
-    for h in s.d.iter().filter(|h| h.wording.letter() != letter).filter(only_fault) {
+    for h in s.d.iter().filter(|h| !is(letter, &h.wording)).filter(only_fault) {
         out.push((OTHER[i], on(letters, h)));
     }
 }
@@ -163,14 +170,14 @@ fn goals(i: usize, letters: &'static str, letter: char, s: &Scene, out: &mut Vec
 }
 
 fn axioms(s: &Scene, out: &mut Vec<Broken>) {
-    for h in s.d.iter().filter(|h| h.wording.letter() == 'a') {
+    for h in s.d.iter().filter(|h| is('a', &h.wording)) {
         let equal = h.wording == s.goal.wording;
         let around = h.window.contains(s.goal.window);
         let alone = s.d.len() == 1;
         let name = match (s.goal.by, equal, around, alone) {
             (Some(_), true, true, true) => "ax: goal affirms",
             (None, true, true, false) => "ax: more in D",
-            (None, false, _, true) if s.goal.wording.letter() == 'a' => "ax: other atom",
+            (None, false, _, true) if is('a', &s.goal.wording) => "ax: other atom",
             (None, false, _, true) => "ax: goal no atom",
             _ => continue,
         };

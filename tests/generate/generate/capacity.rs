@@ -20,7 +20,7 @@ fn sizes() -> Session {
     desk.script("word,l,4,4", "ok,6", "size 63");
     desk.script("word,b,5", "ok,7", "size 64");
     desk.script("word,h,6,1,2,0,0", "ok,8", "size 64");
-    for line in ["s,1,7", "b,8", "h,7,3,4,0,0"] {
+    for line in ["s,1,7", "b,8", "h,7,3,4,0,0", "q,7"] {
         desk.script(&format!("word,{line}"), "no,12,0", "size 65");
     }
     // 31 + 33 and one: 65; 31 + 32 and one: 64.
@@ -34,21 +34,41 @@ fn sizes() -> Session {
         desk.script(&format!("word,{letter},9,4"), &format!("ok,{number}"), "size 64");
         desk.script(&format!("word,{letter},9,4"), "no,13,0", "line there already");
     }
+    named_sizes(&mut desk);
     desk.session("sizes", 0)
+}
+
+/// The same with atoms in a holder's name, which have size 1, under `q`.
+fn named_sizes(desk: &mut Desk) {
+    let first = desk.model.lines.len();
+    desk.words(&["n,9,7,0"]);
+    for n in first..first + 4 {
+        desk.words(&[&format!("t,{n},{n}")]);
+    }
+    let next = first + 5;
+    desk.script(&format!("word,t,{},{}", next - 1, next - 1), &format!("ok,{next}"), "size 63");
+    desk.script(&format!("word,q,{next}"), &format!("ok,{}", next + 1), "size 64");
+    desk.script(&format!("word,s,1,{}", next + 1), "no,12,0", "size 65");
+    desk.script(&format!("word,s,1,{next}"), &format!("ok,{}", next + 2), "size 64");
+    desk.script(&format!("word,q,{}", next + 2), "no,12,0", "size 65");
 }
 
 fn wordings() -> Session {
     let mut desk = Desk::new();
-    desk.words(&["a,1,7", "o", "s,0,0", "h,0,0,9,0,0", "g,0,9,0,0,0,9,0,0", "b,1", "w,0,0", "p,0,0", "u,1,1", "l,0,0"]);
-    for line in ["a,1,7", "o", "s,0,0", "h,0,0,9,0,0", "g,0,9,0,0,0,9,0,0", "b,1", "w,0,0", "p,0,0", "u,1,1", "l,0,0"] {
+    let lines = [
+        "a,1,7", "o", "s,0,0", "h,0,0,9,0,0", "g,0,9,0,0,0,9,0,0", "b,1", "w,0,0", "p,0,0", "u,1,1", "l,0,0", "n,1,7,0",
+        "n,1,7,7", "q,10",
+    ];
+    desk.words(&lines);
+    for line in lines {
         desk.script(&format!("word,{line}"), "no,13,0", "line there already");
     }
-    for n in 10..199 {
+    for n in lines.len()..199 {
         desk.words(&[&format!("a,{},{n}", n % 5)]);
     }
     desk.script("word,a,1,7", "no,13,0", "line there already");
     desk.script("word,a,250,250", "ok,199", "199 wordings there");
-    for line in ["a,250,251", "t,0,1", "g,0,9,0,0,0,8,0,0", "s,7,199"] {
+    for line in ["a,250,251", "t,0,1", "g,0,9,0,0,0,8,0,0", "s,7,199", "n,1,7,8", "q,11"] {
         desk.script(&format!("word,{line}"), "no,14,0", "200 wordings there");
     }
     desk.script("word,a,1,7", "no,13,0", "line there already, 200 there");

@@ -12,9 +12,9 @@ pub struct Coverage {
     unknown: u32,
 }
 
-const LETTERS: [&str; 22] = [
+const LETTERS: [&str; 23] = [
     "ax", "cp", "tr", "tl", "or", "ol", "wr", "w1", "w2", "p1", "p2", "pl", "ll", "ul", "br", "bl", "hr",
-    "hl", "sr", "af", "sl", "gr",
+    "hl", "sr", "af", "sl", "gr", "al",
 ];
 const BOOKED: [&str; 9] = [
     "share empty", "share full", "share between", "goal under ⟨K⟩", "goal not under ⟨K⟩", "64 labels",
@@ -24,7 +24,7 @@ const MORE: [&str; 6] = [
     "tally", "damaged at random", "empty sheet", "range: last wording there",
     "range: first wording not there", "range: first serial not given",
 ];
-const REFUSALS: [u32; 17] = [1, 2, 3, 10, 12, 13, 14, 20, 21, 22, 24, 30, 31, 40, 41, 42, 43];
+const REFUSALS: [u32; 18] = [1, 2, 3, 10, 12, 13, 14, 20, 21, 22, 24, 30, 31, 40, 41, 42, 43, 53];
 
 fn all(list: &[&str]) -> Vec<String> {
     list.iter().map(|s| s.to_string()).collect()
@@ -46,6 +46,17 @@ fn required_of_texts() -> Vec<(&'static str, Vec<String>)> {
         ("as word and issue answer", all(&text_rules::ASKED)),
         ("50 and 51 at once", all(&text_rules::BOTH)),
         ("closed and opened between sheets", all(&text_life::PACKED)),
+    ]
+}
+
+/// Places in a holder's name.
+fn required_of_holders() -> [(&'static str, Vec<String>); 3] {
+    let lines = [&holders::FORMS[..], &holders::WITHIN, &holders::LOOSE, &holders::TALLIED];
+    let steps = [&instances::AL[..], &instances::ALONG, &instances::FIRSTS, &instances::EQUAL];
+    [
+        ("places in a holder's name", all(&lines.concat())),
+        ("the step al", all(&steps.concat())),
+        ("the step al, by chance", all(&holders::BY_CHANCE)),
     ]
 }
 
@@ -100,6 +111,7 @@ fn required(wish: &Wish) -> Vec<(&'static str, Vec<String>)> {
         ("windows of guests who are late", all(&arrivals::WITHIN)),
         ("step letters in bookings of guests who are late", all(&arrivals::STEPS)),
     ];
+    groups.extend(required_of_holders());
     groups.extend(long.then(|| ("the last serial", all(&long::LONG))));
     groups
 }

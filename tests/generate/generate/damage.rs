@@ -19,10 +19,10 @@ fn mark_of(name: &str) -> &'static str {
 }
 
 /// A good sheet of each kind, with its answer when they are played in this order.
-const GOOD: [(&str, &str); 14] = [
+const GOOD: [(&str, &str); 16] = [
     ("word,a,12,34", "ok,5"), ("word,o", "ok,6"), ("word,t,1,2", "ok,7"), ("word,b,1", "ok,8"),
     ("word,h,1,23,45,30,31", "ok,9"), ("word,s,6,1", "ok,10"), ("word,g,12,34,0,0,56,78,60,77", "ok,11"),
-    ("word,a,1,65535", "ok,12"),
+    ("word,a,1,65535", "ok,12"), ("word,n,12,34,65535", "ok,13"), ("word,q,12", "ok,14"),
     ("issue,s,1,23,45,24,44", "ok,4"), ("issue,r,4,10,60,0,0", "ok,5"), ("withdraw,4", "ok,4"),
     ("tally,7,1234567", "ok,0,1,0"), ("tally,65535,50", "ok,0,0,0"),
     ("book,15,1,10,20,17,18,2,4|hold,1|hold,2|cp,0|ll,2,0000000000000002,10,20,17,18|ax,1|ax,3", "ok,6"),
@@ -31,7 +31,7 @@ const GOOD: [(&str, &str); 14] = [
 /// Step lines of every form, for a booking that is refused at its first step when undamaged.
 fn every_form() -> (Vec<u8>, Answer) {
     let steps = "af|ax,12|cp,12|tr,00000000000000ab|tl,1|or|ol,1|wr|w1,1|w2,1|p1|p2|pl,1\
-        |ll,12,00000000000000cd,12,34,23,24|ul,12,34,56,45,46|br|bl,1|hr|hl,1|sr|sl,1|gr";
+        |ll,12,00000000000000cd,12,34,23,24|ul,12,34,56,45,46|br|bl,1|hr|hl,1|sr|sl,1|gr|al,12,345";
     let n = steps.split('|').count();
     (sheet_of(&format!("book,15,1,10,20,12,13,2,{n}|hold,1|hold,2|{steps}")), Answer::Refused(40, 1))
 }
@@ -89,7 +89,7 @@ fn field_damage(sheet: &[u8]) -> Vec<(&'static str, Vec<u8>)> {
         ("letter in a number", Box::new(number(|f| format!("{f}x")))),
         ("letter in a number", Box::new(number(|f| format!("0x{f}")))),
         ("letter in a number", Box::new(number(|f| format!("{f}.0")))),
-        ("unknown word", Box::new(word(|f| format!("{f}q")))),
+        ("unknown word", Box::new(word(|f| format!("{f}z")))),
         ("upper-case word", Box::new(word(|f| f.to_uppercase()))),
         ("field too many", Box::new(|f: &str| Some(format!("{f},{f}")))),
     ];
@@ -246,7 +246,7 @@ pub fn at_random(rng: &mut Rng, sheet: &[u8]) -> Vec<u8> {
     let mut bad = sheet.to_vec();
     let at = rng.below(bad.len());
     match rng.below(5) {
-        0 => bad[at] = rng.pick(b"0123456789,\nabcdefghlorstuwpx \r-"),
+        0 => bad[at] = rng.pick(b"0123456789,\nabcdefghlnopqrstuwx \r-"),
         1 => bad.insert(at, rng.pick(b"0123456789,\nasr")),
         2 => {
             bad.remove(at);

@@ -28,6 +28,8 @@ pub struct Node {
     pub l: Option<Id>,
     pub share: Option<Vec<Id>>,
     pub window: Option<Window>,
+    /// The holder at which `al` uses a `q`.
+    pub holder: Option<u32>,
     pub d: Vec<Hyp>,
     pub goal: Goal,
     pub premises: Vec<Premise>,
@@ -83,7 +85,7 @@ impl Deriv {
 
 fn right(letters: &'static str, d: Vec<Hyp>, goal: Goal, premises: Vec<Premise>) -> Node {
     assert!(goal.by.is_none(), "right steps need a goal without affirms");
-    Node { letters, l: None, share: None, window: None, d, goal, premises }
+    Node { letters, l: None, share: None, window: None, holder: None, d, goal, premises }
 }
 
 pub fn at_goal(wording: Part, window: Window) -> Goal {
@@ -91,7 +93,7 @@ pub fn at_goal(wording: Part, window: Window) -> Goal {
 }
 
 pub fn ax(h: Hyp, goal_window: Window) -> Deriv {
-    assert!(h.window.contains(goal_window) && h.wording.letter() == 'a');
+    assert!(h.window.contains(goal_window) && h.wording.atomic().is_some());
     let goal = at_goal(h.wording.clone(), goal_window);
     let mut node = right("ax", vec![h.clone()], goal, vec![]);
     node.l = Some(h.id);
@@ -168,8 +170,17 @@ pub fn left(letters: &'static str, a: Deriv, taken: &[Id], l: Hyp) -> Deriv {
     d.push(l.clone());
     let goal = a.goal().clone();
     let premises = vec![Premise { takes, joins_r: false, node: a.node }];
-    let node = Node { letters, l: Some(l.id), share: None, window: None, d, goal, premises };
+    let node = Node { letters, l: Some(l.id), share: None, window: None, holder: None, d, goal, premises };
     Deriv { r: a.r, node }
+}
+
+/// `al`: l below is a `q`, and what is taken above its part with the holder put in.
+pub fn al(a: Deriv, taken: Id, l: Hyp, holder: u32) -> Deriv {
+    let above = a.hyp(taken);
+    assert!(l.wording.letter() == 'q' && above.wording == l.wording.parts()[0].put(holder) && above.window == l.window);
+    let mut out = left("al", a, &[taken], l);
+    out.node.holder = Some(holder);
+    out
 }
 
 /// `cp`: the hypothesis comes from R below, where it is called r.
@@ -178,7 +189,7 @@ pub fn cp(a: Deriv, taken: Id, r: Id) -> Deriv {
     let (d, goal) = (a.without(&[taken]), a.goal().clone());
     let standing = Hyp { id: r, ..h.clone() };
     let premises = vec![Premise { takes: vec![h], joins_r: false, node: a.node }];
-    let node = Node { letters: "cp", l: Some(r), share: None, window: None, d, goal, premises };
+    let node = Node { letters: "cp", l: Some(r), share: None, window: None, holder: None, d, goal, premises };
     Deriv { r: union(a.r, vec![standing]), node }
 }
 

@@ -9,10 +9,17 @@ use super::session::{Desk, Session};
 use super::wording::*;
 use super::world::World;
 
-pub const DRILLS: [&str; 22] = [
+pub const DRILLS: [&str; 23] = [
     "ax", "tl", "ol", "w1", "w2", "pl", "ll", "ul", "bl", "hl", "sl", "tr", "or", "wr", "p1", "p2", "br",
-    "hr", "sr", "gr", "arms", "whole",
+    "hr", "sr", "gr", "al", "arms", "whole",
 ];
+
+/// `al` below the derivation, for an atom in a holder's name.
+fn from_every(a: Deriv, h: &Hyp, l: Id) -> Deriv {
+    let Wording::Named(predicate, session, holder) = *h.wording else { panic!("no holder in {h:?}") };
+    let below = Hyp { id: l, wording: for_all(&named(predicate, session, 0)), window: h.window };
+    al(a, h.id, below, holder)
+}
 
 /// The left step below an axiom for the atom, everything then copied from R.
 fn one_side(g: &mut Grower, letters: &'static str, a: &Part, goal: Window) -> Deriv {
@@ -48,6 +55,7 @@ fn one_side(g: &mut Grower, letters: &'static str, a: &Part, goal: Window) -> De
             bl(copied, r, l)
         }
         "hl" => left("hl", base, &[h.id], below(at(a, goal))),
+        "al" => from_every(base, &h, l),
         _ => left("sl", af(base, 1), &[h.id], below(says(1, a))),
     };
     let copied = g.copy(bent, l);
@@ -84,7 +92,7 @@ fn right_drill(g: &mut Grower, letters: &'static str, goal: Window) -> Deriv {
     let affirmed = sr(af(right_step(g, letters, goal), 1));
     let extra = g.hyp(one(), goal);
     let dropped = left("ol", right_step(g, letters, goal), &[], extra);
-    let (h, second, other) = (g.hyp(atom(4, 1), goal), g.hyp(atom(4, 3), goal), g.axiom(atom(4, 2), goal));
+    let (h, second, other) = (g.hyp(atom(4, 1), goal), g.hyp(atom(4, 3), goal), g.axiom(named(4, 2, 6), goal));
     let (i, j) = (h.id, second.id);
     let base = tr(tr(ax(h, goal), ax(second, goal)), other);
     let (l, m) = (g.id(), g.id());
@@ -114,6 +122,7 @@ fn drill(g: &mut Grower, letters: &'static str, goal: Window) -> Deriv {
     let a = atom(9, 7);
     let grown = match letters {
         "tr" | "or" | "wr" | "p1" | "p2" | "br" | "hr" | "sr" | "gr" => right_drill(g, letters, goal),
+        "al" => tr(one_side(g, "al", &named(9, 7, 5), goal), one_side(g, "al", &named(9, 7, 261), goal)),
         "arms" => arms(g, goal),
         "whole" => {
             let part = says(2, &tensor(&atom(1, 7), &says(1, &tensor(&atom(2, 7), &a))));
@@ -138,6 +147,8 @@ pub fn exercise(b: &Booking, desk: &mut Desk, g: &mut Grower, seen: &mut Seen, b
     late::missing_single(b, desk);
     late::alike_single(b, desk, g.rng);
     late::broken_single(b, desk, g.rng);
+    late::renamed_single(b, desk, g.rng);
+    late::other_holder(b, desk, g.rng, 1 + breaks / 8);
     late::outside(b, desk);
     late::misfit(b, desk, g.rng);
     late::ends(b, desk, g.rng);

@@ -1,6 +1,6 @@
 //! The form of a sheet (η-logic's request): lines, fields and ranges, and nothing else.
 
-use super::wording::{with_break, Window, LAST_MINUTE, LAST_SESSION};
+use super::wording::{with_break, Window, LAST_HOLDER, LAST_MINUTE, LAST_SESSION};
 
 #[derive(Clone, Copy, PartialEq, Eq, Debug)]
 pub enum Kind {
@@ -95,9 +95,10 @@ pub fn wording_line(fields: &[&str]) -> Option<WordingLine> {
     };
     match fields {
         ["a", p, s] => line.numbers = vec![byte(p)?, session(s)?],
+        ["n", p, s, h] => line.numbers = vec![byte(p)?, session(s)?, number(h, 0, LAST_HOLDER)?],
         ["o"] => {}
         ["t" | "w" | "p" | "l" | "u", i, j] => line.refs = vec![wording(i)?, wording(j)?],
-        ["b", i] => line.refs = vec![wording(i)?],
+        ["b" | "q", i] => line.refs = vec![wording(i)?],
         ["h", i, w @ ..] => {
             line.refs = vec![wording(i)?];
             line.windows = vec![span(w)?];
@@ -119,6 +120,11 @@ fn step_line(line: &str) -> Option<Vec<Window>> {
         ["or" | "wr" | "p1" | "p2" | "br" | "hr" | "sr" | "af" | "gr"] => Some(vec![]),
         ["ax" | "cp" | "tl" | "ol" | "w1" | "w2" | "pl" | "bl" | "hl" | "sl", l] => {
             label(l)?;
+            Some(vec![])
+        }
+        ["al", l, h] => {
+            label(l)?;
+            number(h, 1, LAST_HOLDER)?;
             Some(vec![])
         }
         ["tr", s] => share(s).map(|()| vec![]),

@@ -18,7 +18,7 @@ pub fn weights(part: &Part) -> Vec<u32> {
     part.sessions().into_iter().flat_map(units).collect()
 }
 
-const LEFT: [&str; 13] = ["tl", "tl", "ol", "w1", "w2", "pl", "ll", "ll", "ul", "bl", "hl", "sl", "cp"];
+const LEFT: [&str; 15] = ["tl", "tl", "ol", "w1", "w2", "pl", "ll", "ll", "ul", "bl", "hl", "sl", "cp", "al", "al"];
 
 impl<'a> Grower<'a> {
     pub fn new(rng: &'a mut Rng, world: &'a World) -> Grower<'a> {
@@ -111,7 +111,7 @@ impl<'a> Grower<'a> {
         let a = self.prove(want, goal, fuel, plain);
         let mut a = af(a, principal);
         for _ in 0..self.rng.below(4) {
-            let letters = self.rng.pick(&["sl", "sl", "sl", "tl", "cp", "hl", "ll"]);
+            let letters = self.rng.pick(&["sl", "sl", "sl", "tl", "cp", "hl", "ll", "al"]);
             a = self.try_left(a, letters, 1);
         }
         sr(a)
@@ -182,6 +182,7 @@ impl<'a> Grower<'a> {
             "ll" | "ul" => self.arrow(a, &h, letters == "ll", fuel),
             "pl" => self.choice(a, &h),
             "w1" | "w2" | "hl" | "sl" => self.wrap(a, &h, letters, false),
+            "al" => self.instance(a, &h),
             _ => a,
         }
     }
@@ -233,12 +234,19 @@ impl<'a> Grower<'a> {
         left(letters, a, &[h.id], l)
     }
 
+    /// h below is a `q`, used at one holder.
+    fn instance(&mut self, a: Deriv, h: &Hyp) -> Deriv {
+        let Some((wording, holder)) = self.world.for_every(self.rng, &h.wording) else { return a };
+        let l = self.hyp(wording, h.window);
+        al(a, h.id, l, holder)
+    }
+
     /// `pl`: one arm is h, the other is h dressed by other left steps.
     fn choice(&mut self, a: Deriv, h: &Hyp) -> Deriv {
         let mut b = a.clone();
         let mut dressed = h.clone();
         for _ in 0..self.rng.below(3) {
-            b = match self.rng.pick(&["w1", "w2", "hl", "sl", "one", "ul"]) {
+            b = match self.rng.pick(&["w1", "w2", "hl", "sl", "one", "ul", "al"]) {
                 "one" => {
                     let extra = self.hyp(one(), h.window);
                     let l = self.hyp(tensor(&extra.wording, &dressed.wording), h.window);
@@ -248,6 +256,7 @@ impl<'a> Grower<'a> {
                     let l = self.id();
                     arrow(false, or(h.window), b, dressed.id, l, h.window)
                 }
+                "al" => self.instance(b, &dressed),
                 letters => self.wrap(b, &dressed, letters, true),
             };
             let kept: Vec<Id> = a.node.d.iter().map(|x| x.id).filter(|id| *id != h.id).collect();
@@ -257,20 +266,22 @@ impl<'a> Grower<'a> {
         if self.rng.chance(1, 2) { pl(a, h.id, b, dressed.id, l) } else { pl(b, dressed.id, a, h.id, l) }
     }
 
+    /// h comes from an offer of it for something that weighs the same; gives the offer, which weighs nothing.
+    pub fn offered(&mut self, a: Deriv, h: &Hyp) -> (Deriv, Id) {
+        let q = self.prove(&weights(&h.wording), h.window, 0, true);
+        let outer = self.world.containing(self.rng, h.window);
+        let id = self.id();
+        (arrow(true, q, a, h.id, id, outer), id)
+    }
+
     /// Takes every hypothesis that is no plain single from standing coupons.
     pub fn finish(&mut self, a: Deriv) -> Deriv {
         let mut a = a;
         loop {
             let open = |h: &&Hyp| !h.wording.plain();
             let Some(h) = a.node.d.iter().find(open).cloned() else { return a };
-            let mut id = h.id;
-            if !h.wording.balanced() {
-                let q = self.prove(&weights(&h.wording), h.window, 0, true);
-                let outer = self.world.containing(self.rng, h.window);
-                id = self.id();
-                a = arrow(true, q, a, h.id, id, outer);
-            }
-            a = self.copy(a, id);
+            let (offered, id) = if h.wording.balanced() { (a, h.id) } else { self.offered(a, &h) };
+            a = self.copy(offered, id);
         }
     }
 

@@ -20,7 +20,7 @@ pub const HOUSE_SEATS: [&str; 12] = [
 ];
 
 /// What a wording holds of session 7: seats whose nearest ⟨K⟩ is ⟨1⟩, other seats, places.
-type Holds = (u32, u32, u32);
+pub type Holds = (u32, u32, u32);
 
 /// Wordings by number, what they hold and their place in `HOUSE_SEATS`. The seat 52 is of another session.
 const SHAPES: [(&str, Holds, usize); 58] = [
@@ -297,7 +297,7 @@ fn booked() -> Session {
     desk.session("house: booked", 0)
 }
 
-fn at_each(desk: &mut Desk, live: &[(Holds, Window)], mark: &'static str) {
+pub fn at_each(desk: &mut Desk, live: &[(Holds, Window)], mark: &'static str) {
     for minute in 0..11 {
         desk.script(&format!("tally,7,{minute}"), &figures(live, minute), mark);
     }
@@ -341,7 +341,10 @@ pub fn tallied(model: &Model, session: u32, minute: u32) -> Vec<&'static str> {
 /// A plain wording of seats, places and tokens, with many ⟨K⟩.
 fn plain(rng: &mut Rng, world: &World, depth: u32) -> Part {
     match rng.below(if depth == 0 { 4 } else { 9 }) {
-        0..=2 => atom(1, rng.pick(&world.sessions[..2])),
+        0..=2 => {
+            let session = rng.pick(&world.sessions[..2]);
+            world.some_atom(rng, 1, session)
+        }
         3 => atom(rng.pick(&[2, 9]), rng.pick(&world.sessions)),
         4 | 5 => tensor(&plain(rng, world, depth - 1), &plain(rng, world, depth - 1)),
         _ => says(principal(rng, world), &plain(rng, world, depth - 1)),

@@ -3,6 +3,7 @@
 use super::booking::{holds_for, Booking, Seen};
 use super::breaks::breaks;
 use super::derivation::{bl, left, Deriv};
+use super::follow::{at_first, first_wrong};
 use super::form::Kind;
 use super::grow::Grower;
 use super::midday::misfits;
@@ -13,14 +14,16 @@ use super::wording::*;
 use super::world::minutes_of;
 use super::write::{Hold, Script, StepLine};
 
-pub const LATE: [&str; 23] = [
+pub const LATE: [&str; 28] = [
     "tr: label moved left", "tr: label moved right", "ll: label moved to the share",
     "ll: label moved to the rest", "ax: unused single", "or: unused single", "br: unused single",
     "gr: unused single", "42: a step missing", "42: cut short", "42: a step too many",
     "42: many steps too many", "40 where label 64 is wanted", "missing single",
     "42: cut after a first premise", "ax: single of a session alike", "ax: single with a break in the goal's minutes",
     "30: first minute of the break", "30: last minute of the break", "30: before the window", "30: behind the window",
-    "43: in a booking's head", "43: in a booking's step",
+    "43: in a booking's head", "43: in a booking's step", "al: another holder, found by an ax",
+    "al: another holder, looked at by none", "ax: single of another holder", "ax: single in a holder's name",
+    "ax: single in no holder's name",
 ];
 
 fn late(text: &str) -> &'static str {
@@ -102,14 +105,20 @@ pub fn missing_single(b: &Booking, desk: &mut Desk) {
     desk.expect(&sheet, Answer::Refused(40, used), &[late("missing single")]);
 }
 
+/// The places of the holds that are single atoms.
+fn bare(b: &Booking) -> Vec<usize> {
+    let bare = |i: &usize| !b.holds[*i].standing && b.holds[*i].wording.atomic().is_some();
+    (0..b.holds.len()).filter(bare).collect()
+}
+
 /// For one of the atoms held, that of a session alike: the step that closes with it is wrong.
 pub fn alike_single(b: &Booking, desk: &mut Desk, rng: &mut Rng) {
-    let bare = |i: &usize| !b.holds[*i].standing && b.holds[*i].wording.letter() == 'a';
-    let mut bare: Vec<usize> = (0..b.holds.len()).filter(bare).collect();
+    let mut bare = bare(b);
     rng.shuffle(&mut bare);
     let Some(place) = bare.pop() else { return };
-    let Wording::Atom(predicate, session) = &*b.holds[place].wording else { return };
-    let other = atom(*predicate, rng.alike(*session));
+    let wording = &b.holds[place].wording;
+    let alike = rng.alike(wording.atomic().expect("an atom").1);
+    let other = wording.renumbered(&|_| alike);
     if desk.missing(std::slice::from_ref(&other)) + desk.model.lines.len() > 200 {
         return;
     }
@@ -125,9 +134,8 @@ pub fn alike_single(b: &Booking, desk: &mut Desk, rng: &mut Rng) {
 
 /// For one of the atoms held, the same with a break in minutes that its step needs.
 pub fn broken_single(b: &Booking, desk: &mut Desk, rng: &mut Rng) {
-    let bare = |i: &usize| !b.holds[*i].standing && b.holds[*i].wording.letter() == 'a';
     let mut all = vec![];
-    for place in (0..b.holds.len()).filter(bare) {
+    for place in bare(b) {
         let closes = |l: &StepLine| l.letters == "ax" && l.label == Some(place as u32);
         let step = b.script.lines.iter().position(closes).expect("every single is used");
         let (outer, inner) = (b.holds[place].window, b.script.scenes[step].goal.window);
@@ -141,6 +149,63 @@ pub fn broken_single(b: &Booking, desk: &mut Desk, rng: &mut Rng) {
     serials[place] = serial;
     let mark = late("ax: single with a break in the goal's minutes");
     desk.expect(&b.sheet(&serials, &b.texts()), Answer::Refused(40, step), &[mark]);
+    desk.expect(format!("withdraw,{serial}\n").as_bytes(), Answer::Done(serial), &["withdraw single"]);
+}
+
+/// An `al` at another holder. Where no `ax` looks at what comes of it, the sheet is right; it is played where it holds
+/// no single, which it would remove.
+pub fn other_holder(b: &Booking, desk: &mut Desk, rng: &mut Rng, how_many: usize) {
+    let lines = &b.script.lines;
+    let mut all: Vec<(usize, u32)> = vec![];
+    for (i, own) in lines.iter().enumerate().filter_map(|(i, l)| l.holder.map(|own| (i, own))) {
+        let near = [own + 1, own.wrapping_sub(1), rng.alike(own), rng.between(1, LAST_HOLDER)];
+        let other = near.into_iter().filter(|h| *h != own && (1..=LAST_HOLDER).contains(h));
+        all.extend(other.map(|holder| (i, holder)));
+    }
+    rng.shuffle(&mut all);
+    for (i, holder) in all.into_iter().take(how_many) {
+        let wrong = first_wrong(&b.deriv, &at_first(&b.deriv), Some((i, holder)));
+        let mut texts = b.texts();
+        texts[i] = StepLine { holder: Some(holder), ..lines[i].clone() }.text();
+        match wrong {
+            Some(step) => {
+                let mark = late("al: another holder, found by an ax");
+                desk.expect(&b.sheet(&b.serials, &texts), Answer::Refused(40, step), &[mark]);
+            }
+            None if b.holds.iter().all(|h| h.standing) => {
+                let next = desk.model.given + 1;
+                let mark = late("al: another holder, looked at by none");
+                desk.expect(&b.sheet(&b.serials, &texts), Answer::Done(next), &[mark]);
+            }
+            None => {}
+        }
+    }
+}
+
+/// For one of the atoms held, the same in another holder's name, in a holder's or in nobody's.
+pub fn renamed_single(b: &Booking, desk: &mut Desk, rng: &mut Rng) {
+    let mut bare = bare(b);
+    rng.shuffle(&mut bare);
+    let Some(place) = bare.pop() else { return };
+    let some = rng.between(1, LAST_HOLDER);
+    let (other, name) = match *b.holds[place].wording {
+        Wording::Named(p, s, h) if rng.chance(1, 2) => {
+            (named(p, s, h % LAST_HOLDER + 1), "ax: single of another holder")
+        }
+        Wording::Named(p, s, _) => (atom(p, s), "ax: single in no holder's name"),
+        Wording::Atom(p, s) => (named(p, s, some), "ax: single in a holder's name"),
+        _ => return,
+    };
+    if desk.missing(std::slice::from_ref(&other)) + desk.model.lines.len() > 200 {
+        return;
+    }
+    let mut says = at_first(&b.deriv);
+    b.holds[place].ids.iter().for_each(|id| drop(says.insert(*id, other.clone())));
+    let step = first_wrong(&b.deriv, &says, None).expect("every single is used");
+    let serial = desk.issue(Kind::Single, &other, b.holds[place].window);
+    let mut serials = b.serials.clone();
+    serials[place] = serial;
+    desk.expect(&b.sheet(&serials, &b.texts()), Answer::Refused(40, step), &[late(name)]);
     desk.expect(format!("withdraw,{serial}\n").as_bytes(), Answer::Done(serial), &["withdraw single"]);
 }
 
@@ -227,13 +292,13 @@ pub fn burn(g: &mut Grower, deriv: Deriv, labels: usize, w: Window) -> Deriv {
     a
 }
 
-pub const WANTS_64: [&str; 22] = [
+pub const WANTS_64: [&str; 24] = [
     "41 at cp", "41 at tl, none left", "41 at tl, one left", "41 at w1", "41 at w2", "41 at pl, first",
     "41 at bl", "41 at hl", "41 at sl", "41 at pl, second", "41 at ll, second", "41 at ul, second",
     "41 at pl, second, no line left", "41 at ll, second, no line left", "41 at ul, second, no line left",
     "41 at cp, no line left", "41 at tl, one left, no line left", "41 at w1, no line left",
     "41 at pl, first, no line left", "41 at bl, no line left", "41 at sl, no line left",
-    "41 at hl, no line left",
+    "41 at hl, no line left", "41 at al", "41 at al, no line left",
 ];
 
 /// The name of the way in which the script comes to want label 64.

@@ -22,7 +22,10 @@ pub const LIFE: [&str; 11] = [
 fn plain(rng: &mut Rng, world: &World, depth: u32) -> Part {
     match rng.below(if depth == 0 { 2 } else { 5 }) {
         0 => world.weighty_atom(rng, world.sessions[0]),
-        1 => atom(rng.pick(&[1, 2, 9]), rng.pick(&world.sessions)),
+        1 => {
+            let (predicate, session) = (rng.pick(&[1, 2, 9]), rng.pick(&world.sessions));
+            world.some_atom(rng, predicate, session)
+        }
         2 | 3 => tensor(&plain(rng, world, depth - 1), &plain(rng, world, depth - 1)),
         _ => says(rng.pick(&world.principals), &plain(rng, world, depth - 1)),
     }

@@ -9,7 +9,7 @@ const LAST: u32 = 999_999;
 
 /// 511 coupons that stay and one that is booked on and on until the last serial is given.
 fn up_to_last(desk: &mut Desk) {
-    desk.words(&["a,1,7", "o", "a,9,7"]);
+    desk.words(&["a,1,7", "o", "a,9,7", "n,9,7,0"]);
     desk.script("issue,r,2,0,9,0,0", "ok,1", "");
     for serial in 2..=512 {
         desk.script("issue,s,0,0,9,0,0", &format!("ok,{serial}"), "");
@@ -38,7 +38,8 @@ pub fn session() -> Session {
         ("issue,s,0,0,09,0,0", "no,2,0"), ("issue,s,0,9,0,0,0", "no,3,0"), ("issue,s,9,0,9,0,0", "no,10,0"),
         ("issue,s,0,0,9,5,9", "no,43,0"), ("book,5,0,0,9,0,5,1,1|hold,2|ax,0", "no,43,0"),
         ("book,5,0,0,9,5,5,1,1|hold,2|ax,0", "no,30,0"),
-        ("issue,s,1,0,9,0,0", "no,20,0"), ("issue,r,0,0,9,0,0", "no,21,0"),
+        ("issue,s,1,0,9,0,0", "no,20,0"), ("issue,r,0,0,9,0,0", "no,21,0"), ("issue,s,3,0,9,0,0", "no,53,0"),
+        ("issue,r,3,0,9,0,0", "no,53,0"), ("book,5,3,0,9,0,0,1,1|hold,2|ax,0", "no,53,0"),
         ("book,5,0,9,0,0,0,1,1|hold,2|ax,0", "no,3,0"),
         ("book,5,9,0,9,0,0,1,1|hold,2|ax,0", "no,10,0"), ("book,5,1,0,9,0,0,1,1|hold,2|ax,0", "no,20,0"),
         ("book,10,0,0,9,0,0,1,1|hold,2|ax,0", "no,30,0"), ("book,5,0,0,9,0,0,1,1|hold,999|ax,0", "no,24,0"),
@@ -50,7 +51,7 @@ pub fn session() -> Session {
     }
     let copies = "|cp,0".repeat(64);
     desk.script(&format!("book,5,2,0,9,0,0,1,64|hold,1{copies}"), "no,41,64", "23 after all others");
-    desk.script("word,a,5,5", "ok,3", "");
+    desk.script("word,a,5,5", "ok,4", "");
     desk.script("withdraw,2", "ok,2", "");
     desk.tally(7, 10);
     desk.session("long", 0)

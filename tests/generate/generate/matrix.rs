@@ -1,6 +1,7 @@
 //! Every step letter on every connective, the fitting one and all others; and what is read of a label
 //! that was never taken.
 
+use super::booking::LETTERS;
 use super::breaks::{LEFTS, RIGHTS};
 use super::session::{Desk, Session};
 
@@ -10,12 +11,12 @@ pub const MATRIX: [&str; 7] = [
     "matrix: br keeps R",
 ];
 
-/// A wording of each connective, in the order of `LETTERS`; 0 is an atom, and 11 another.
-const WORDS: [&str; 12] = [
+/// A wording of each connective, in the order of `LETTERS`; 0 is an atom, and `OTHER` another.
+const WORDS: [&str; 14] = [
     "a,9,7", "o", "t,0,0", "w,0,0", "p,0,0", "l,0,0", "u,0,0", "b,0", "h,0,0,9,0,0", "s,1,0", "g,0,9,0,0,0,9,0,0",
-    "a,8,7",
+    "n,9,7,5", "q,11", "a,8,7",
 ];
-const LETTERS: &str = "aotwplubhsg";
+const OTHER: usize = 13;
 const EMPTY: &str = "0000000000000000";
 
 /// The wordings, each as a standing coupon: serial n + 1 for wording n.
@@ -28,10 +29,10 @@ fn desk() -> Desk {
     desk
 }
 
-/// The offer of wording 11 for this one, as a standing coupon.
+/// The offer of `OTHER` for this one, as a standing coupon.
 fn offer(desk: &mut Desk, wording: usize) -> u32 {
     let (line, serial) = (desk.model.lines.len(), desk.model.given + 1);
-    desk.words(&[&format!("l,{wording},11")]);
+    desk.words(&[&format!("l,{wording},{OTHER}")]);
     desk.script(&format!("issue,r,{line},0,9,0,0"), &format!("ok,{serial}"), "");
     serial
 }
@@ -47,6 +48,7 @@ fn left_line(letters: &str, label: u32) -> String {
     match letters {
         "ll" => format!("ll,{label},{EMPTY},0,9,0,0"),
         "ul" => format!("ul,{label},0,9,0,0"),
+        "al" => format!("al,{label},6"),
         _ => format!("{letters},{label}"),
     }
 }
@@ -73,18 +75,18 @@ fn rights() -> Session {
     for (n, letter) in LETTERS.chars().enumerate() {
         let serial = offer(&mut desk, n);
         let start = format!("cp,0|ll,1,{EMPTY},0,9,0,0");
-        let head = format!("book,5,11,0,9,0,0,1,{{}}|hold,{serial}|{{S}}");
+        let head = format!("book,5,{OTHER},0,9,0,0,1,{{}}|hold,{serial}|{{S}}");
         for (letters, own) in RIGHTS {
             let line = if letters == "tr" { format!("tr,{EMPTY}") } else { letters.to_string() };
             end_with(&mut desk, &head, &format!("{start}|{line}"), letter == own, MATRIX[2]);
         }
-        let head = format!("book,5,11,0,9,0,0,2,{{}}|hold,{serial}|hold,{}|{{S}}", n + 1);
+        let head = format!("book,5,{OTHER},0,9,0,0,2,{{}}|hold,{serial}|hold,{}|{{S}}", n + 1);
         let steps = "cp,0|cp,1|ll,2,0000000000000008,0,9,0,0|ax,3";
-        end_with(&mut desk, &head, steps, letter == 'a', MATRIX[4]);
+        end_with(&mut desk, &head, steps, matches!(letter, 'a' | 'n'), MATRIX[4]);
         if letter == 'b' {
             let (holds, next) = (format!("hold,{serial}|hold,1"), desk.model.given + 1);
             let steps = format!("cp,0|ll,2,{EMPTY},0,9,0,0|br|cp,1|ax,3|ax,4");
-            desk.script(&format!("book,5,11,0,9,0,0,2,6|{holds}|{steps}"), &format!("ok,{next}"), MATRIX[6]);
+            desk.script(&format!("book,5,{OTHER},0,9,0,0,2,6|{holds}|{steps}"), &format!("ok,{next}"), MATRIX[6]);
         }
     }
     desk.session("matrix: right steps", 0)
@@ -99,13 +101,13 @@ fn affirming() -> Session {
             desk.words(&[&format!("s,1,{n}")]);
         }
         let serial = offer(&mut desk, if n > 0 { said } else { 9 });
-        let head = format!("book,5,11,0,9,0,0,1,{{}}|hold,{serial}|{{S}}");
+        let head = format!("book,5,{OTHER},0,9,0,0,1,{{}}|hold,{serial}|{{S}}");
         for (letters, _) in RIGHTS {
             let line = if letters == "tr" { format!("tr,{EMPTY}") } else { letters.to_string() };
             let steps = format!("cp,0|ll,1,{EMPTY},0,9,0,0|sr|{line}");
             end_with(&mut desk, &head, &steps, false, MATRIX[3]);
         }
-        let head = format!("book,5,11,0,9,0,0,2,{{}}|hold,{serial}|hold,{}|{{S}}", n + 1);
+        let head = format!("book,5,{OTHER},0,9,0,0,2,{{}}|hold,{serial}|hold,{}|{{S}}", n + 1);
         let steps = "cp,0|cp,1|ll,2,0000000000000008,0,9,0,0|sr|ax,3";
         end_with(&mut desk, &head, steps, false, MATRIX[3]);
         end_with(&mut desk, &head, "cp,0|cp,1|ll,2,0000000000000008,0,9,0,0|sr|af", true, "");

@@ -99,6 +99,13 @@ impl Model {
         self.wordings.get(n as usize).cloned().ok_or(10)
     }
 
+    /// The wording of an issue or a booking: 10, then 53.
+    fn usable(&self, n: u32) -> Check<Part> {
+        let wording = self.named(n)?;
+        ensure(!wording.loose(), 53)?;
+        Ok(wording)
+    }
+
     fn tree(&self, line: &WordingLine) -> Check<Part> {
         let p: Vec<Part> = line.refs.iter().map(|n| self.named(*n)).collect::<Check<_>>()?;
         Ok(match line.letter {
@@ -112,12 +119,15 @@ impl Model {
             'b' => bang(&p[0]),
             'h' => at(&p[0], line.windows[0]),
             's' => says(line.numbers[0], &p[0]),
+            'n' => named(line.numbers[0], line.numbers[1], line.numbers[2]),
+            'q' => for_all(&p[0]),
             _ => covers(line.windows[0], line.windows[1]),
         })
     }
 
     pub fn word(&mut self, line: &WordingLine) -> Check<Answer> {
         let tree = self.tree(line)?;
+        ensure(!tree.q_within_q(), 53)?;
         ensure(tree.size() <= 64, 12)?;
         ensure(!self.lines.contains(&line.text), 13)?;
         ensure(self.lines.len() < 200, 14)?;
@@ -137,7 +147,7 @@ impl Model {
     }
 
     pub fn issue(&mut self, kind: Kind, n: u32, window: Window) -> Check<Answer> {
-        let wording = self.named(n)?;
+        let wording = self.usable(n)?;
         match kind {
             Kind::Single => ensure(wording.plain(), 20)?,
             Kind::Standing => ensure(wording.balanced(), 21)?,
@@ -184,7 +194,7 @@ impl Model {
     }
 
     fn before_steps(&self, head: &BookHead) -> Check<Part> {
-        let goal = self.named(head.wording)?;
+        let goal = self.usable(head.wording)?;
         ensure(goal.plain(), 20)?;
         ensure(head.window.has(head.now), 30)?;
         ensure(head.holds.iter().all(|s| self.coupon(*s).is_some()), 24)?;

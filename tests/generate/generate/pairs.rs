@@ -20,7 +20,9 @@ struct Pieces {
 }
 
 /// The orders of checks for a booking, save the one for a full till.
-const BOOK: [u32; 12] = [1, 2, 3, 43, 10, 20, 30, 24, 31, 40, 41, 42];
+const BOOK: [u32; 13] = [1, 2, 3, 43, 10, 53, 20, 30, 24, 31, 40, 41, 42];
+/// Goals: 0 is right, 1 not plain, 2 has holder 0 outside `q`, and 3 both.
+const GOALS: [&str; 4] = ["a,9,7", "o", "n,9,7,0", "t,1,2"];
 /// Breaks that fit neither 0..9 nor 9..8.
 const BAD_BREAKS: [(u32, u32); 6] = [(0, 5), (5, 0), (6, 5), (4, 9), (9, 9), (12, 13)];
 
@@ -55,6 +57,7 @@ impl Pieces {
             43 => (self.window.first, self.window.last) = rng.pick(&BAD_BREAKS),
             10 => self.goal = 999,
             20 => self.goal = 1,
+            53 => self.goal += 2,
             30 if !self.window.has_break() && rng.chance(1, 2) => {
                 (self.window.first, self.window.last) = (4, 6);
                 self.now = rng.between(4, 6);
@@ -96,8 +99,8 @@ impl Pieces {
     }
 }
 
-pub const BOOK_PAIRS: [&str; 13] = [
-    "pair: book 1", "pair: book 2", "pair: book 3", "pair: book 43", "pair: book 10", "pair: book 20",
+pub const BOOK_PAIRS: [&str; 14] = [
+    "pair: book 1", "pair: book 2", "pair: book 3", "pair: book 43", "pair: book 10", "pair: book 53", "pair: book 20",
     "pair: book 30", "pair: book 24", "pair: book 31", "pair: book 40", "pair: book 41", "pair: book 42",
     "pair: book 22",
 ];
@@ -117,14 +120,15 @@ fn answer_of(number: u32, pieces: &Pieces, both: &[u32]) -> Answer {
 fn bookings(seed: u64, full: bool) -> Session {
     let mut rng = Rng::new(seed);
     let mut desk = Desk::new();
-    desk.words(&["a,9,7", "o"]);
+    desk.words(&GOALS);
     let standing = desk.issue(Kind::Standing, &atom(9, 7), window(0, 9));
     while full && desk.model.live.len() < 512 {
         desk.issue(Kind::Single, &atom(9, 7), window(0, 9));
     }
     for (i, first) in BOOK.iter().enumerate() {
         for second in BOOK[i..].iter() {
-            if (*first, *second) == (10, 20) || (*first == 41 && *second == 42) {
+            // Of a wording that is not there no other check can tell.
+            if (*first == 10 && matches!(second, 53 | 20)) || (*first == 41 && *second == 42) {
                 continue;
             }
             for _ in 0..2 {
@@ -194,18 +198,20 @@ pub const STEP_ORDER: [&str; 17] = [
     "standing held twice", "single held twice", "held twice, another between", "pair: 2 and 3, a line too many",
     "pair: 43 after the close", "pair: 43, then 3 after the close", "pair: 2 and 43, a line too many",
 ];
-pub const CALL_PAIRS: [&str; 21] = [
+pub const CALL_PAIRS: [&str; 28] = [
     "pair: word 2 and 3", "pair: word 2 and 10", "pair: word 2 and 13", "pair: word 3 and 10",
     "pair: word 3 and 12", "pair: word 10 and 12", "pair: word 3 and 14", "pair: word 10 and 14",
     "pair: word 12 and 14", "pair: word 13 and 14", "pair: issue", "pair: withdraw 2 and 24",
     "pair: overlong", "pair: word 2 and 14", "pair: word 2 and 43", "pair: word 3 and 43", "pair: word 43 and 10",
     "pair: word 43 and 12", "pair: word 43 and 14", "pair: issue 43", "pair: issue 43, full till",
+    "pair: word 2 and 53", "pair: word 10 and 53", "pair: word 53 and 12", "pair: word 53 and 13",
+    "pair: word 53 and 14", "pair: issue 53", "pair: issue 53, full till",
 ];
 
 fn words(desk: &mut Desk) {
     let long = ",".repeat(16_400);
     desk.words(&["a,9,7", "t,0,0", "t,1,1", "t,2,2", "t,3,3", "t,4,4", "s,1,5", "h,0,0,9,0,0"]);
-    desk.words(&["a,1,7", "o", "l,8,9"]);
+    desk.words(&["a,1,7", "o", "l,8,9", "n,9,7,0", "t,11,9", "n,1,7,0", "l,13,9", "q,0", "q,4", "t,16,4"]);
     desk.script("word,h,0,9,8,0,0,", "no,2,0", "pair: word 2 and 3");
     desk.script("word,h,0,09,8,0,0", "no,2,0", "pair: word 2 and 3");
     desk.script("word,h,0,9,8,0,0|o", "no,2,0", "pair: word 2 and 3");
@@ -227,11 +233,24 @@ fn words(desk: &mut Desk) {
     desk.script("word,h,6,9,8,0,0", "no,3,0", "pair: word 3 and 12");
     desk.script("word,t,6,999", "no,10,0", "pair: word 10 and 12");
     desk.script("word,t,999,6", "no,10,0", "pair: word 10 and 12");
+    for line in ["q,15,", "q,015", "q,15,0", "q, 15", "q,15|o"] {
+        desk.script(&format!("word,{line}"), "no,2,0", "pair: word 2 and 53");
+    }
+    // Its own number would be a `q`.
+    desk.script("word,q,18", "no,10,0", "pair: word 10 and 53");
+    desk.script("word,q,17", "no,53,0", "pair: word 53 and 12");
+    [1, 2].iter().for_each(|_| desk.script("word,q,15", "no,53,0", "pair: word 53 and 13"));
     desk.script(&format!("word,a,9,7{long}"), "no,1,0", "pair: overlong");
     desk.script(&format!("word,h,999,9,8,0,0{long}"), "no,1,0", "pair: overlong");
-    for n in 11..200 {
+    for n in 18..200 {
         desk.words(&[&format!("a,10,{n}")]);
     }
+    full_of_words(desk);
+}
+
+/// The same where 200 wordings are there.
+fn full_of_words(desk: &mut Desk) {
+    let long = ",".repeat(16_400);
     desk.script("word,a,300,0", "no,2,0", "pair: word 2 and 14");
     desk.script("word,a,0,65536", "no,2,0", "pair: word 2 and 14");
     desk.script("word,h,0,9,8,0,0", "no,3,0", "pair: word 3 and 14");
@@ -240,6 +259,10 @@ fn words(desk: &mut Desk) {
     desk.script("word,g,0,9,1,8,0,9,8,1", "no,43,0", "pair: word 43 and 14");
     desk.script("word,t,0,200", "no,10,0", "pair: word 10 and 14");
     desk.script("word,t,999,0", "no,10,0", "pair: word 10 and 14");
+    desk.script("word,q,200", "no,10,0", "pair: word 10 and 53");
+    desk.script("word,q,15", "no,53,0", "pair: word 53 and 14");
+    desk.script("word,q,17", "no,53,0", "pair: word 53 and 14");
+    desk.script("word,q,8", "no,14,0", "200 wordings there");
     desk.script("word,s,1,6", "no,12,0", "pair: word 12 and 14");
     desk.script("word,t,5,5", "no,12,0", "pair: word 12 and 14");
     desk.script("word,t,4,4", "no,13,0", "pair: word 13 and 14");
@@ -249,8 +272,9 @@ fn words(desk: &mut Desk) {
     desk.script(&format!("word,t,4,4{long}"), "no,1,0", "pair: overlong");
 }
 
-/// Wording 0 is plain and balanced, 7 is not plain, 8 not balanced, 10 neither.
-const ISSUES: [(&str, &str); 31] = [
+/// Wording 0 is plain and balanced, 7 is not plain, 8 not balanced, 10 neither; 11 to 14 are the same with holder 0
+/// outside `q`, and 15 is a `q`.
+const ISSUES: [(&str, &str); 45] = [
     ("issue,s,999,9,8,0,0", "no,3,0"), ("issue,r,999,9,8,0,0", "no,3,0"), ("issue,s,7,9,8,0,0", "no,3,0"),
     ("issue,s,999,09,8,0,0", "no,2,0"), ("issue,x,999,0,8,0,0", "no,2,0"), ("issue,s,7,9,8,0,0,", "no,2,0"),
     ("issue,s,0,9,8,0,0", "no,3,0"), ("issue,r,0,9,8,0,0", "no,3,0"), ("issue,s,0,0,9,0,0,", "no,2,0"),
@@ -261,7 +285,11 @@ const ISSUES: [(&str, &str); 31] = [
     ("issue,s,999,0,9,0,5", "no,43,0"), ("issue,r,999,0,9,5,0", "no,43,0"), ("issue,s,7,0,9,9,9", "no,43,0"),
     ("issue,r,8,0,9,6,5", "no,43,0"), ("issue,s,0,0,9,4,12", "no,43,0"), ("issue,r,0,0,9,12,13", "no,43,0"),
     ("issue,s,0,0,9,0,05", "no,2,0"), ("issue,s,0,0,9,5", "no,2,0"), ("issue,s,0,0,9,0,5|o", "no,2,0"),
-    ("issue,s,999,9,8,5,0", "no,3,0"),
+    ("issue,s,999,9,8,5,0", "no,3,0"), ("issue,s,11,0,9,0,0", "no,53,0"), ("issue,r,11,0,9,0,0", "no,53,0"),
+    ("issue,s,12,0,9,0,0", "no,53,0"), ("issue,r,12,0,9,0,0", "no,53,0"), ("issue,s,13,0,9,0,0", "no,53,0"),
+    ("issue,r,13,0,9,0,0", "no,53,0"), ("issue,s,14,0,9,0,0", "no,53,0"), ("issue,r,14,0,9,0,0", "no,53,0"),
+    ("issue,s,11,9,8,0,0", "no,3,0"), ("issue,r,13,0,9,0,5", "no,43,0"), ("issue,s,12,0,9,9,9", "no,43,0"),
+    ("issue,s,011,0,9,0,0", "no,2,0"), ("issue,r,11,0,9,0,0,", "no,2,0"), ("issue,s,15,0,9,0,0", "no,20,0"),
 ];
 
 fn other_calls(desk: &mut Desk) {
@@ -271,6 +299,8 @@ fn other_calls(desk: &mut Desk) {
         let mark = match (answer, full) {
             ("no,43,0", true) => "pair: issue 43, full till",
             ("no,43,0", false) => "pair: issue 43",
+            ("no,53,0", true) => "pair: issue 53, full till",
+            ("no,53,0", false) => "pair: issue 53",
             _ => "pair: issue",
         };
         desk.script(text, answer, mark);

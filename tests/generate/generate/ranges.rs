@@ -56,6 +56,11 @@ fn wording_fields(desk: &mut Desk) {
     for predicate in [1, 2, 9] {
         field(desk, &format!("word,a,{predicate},{{}}"), 0, LAST_SESSION, no);
     }
+    field(desk, "word,n,{},7,5", 0, 255, no);
+    field(desk, "word,n,9,{},5", 0, LAST_SESSION, no);
+    for predicate in [1, 2, 9] {
+        field(desk, &format!("word,n,{predicate},8,{{}}"), 0, LAST_HOLDER, no);
+    }
     for letter in ["t", "w", "p", "l", "u"] {
         field(desk, &format!("word,{letter},{{}},1"), 0, 999, no);
         field(desk, &format!("word,{letter},2,{{}}"), 0, 999, no);
@@ -65,6 +70,7 @@ fn wording_fields(desk: &mut Desk) {
         desk.script(&format!("word,{letter},{},0", next + 1), "no,10,0", "range: first wording not there");
     }
     field(desk, "word,b,{}", 0, 999, no);
+    field(desk, "word,q,{}", 0, 999, no);
     field(desk, "word,h,{},0,9,0,0", 0, 999, no);
     field(desk, "word,h,1,{},9999999,0,0", 0, LAST_MINUTE, no);
     field(desk, "word,h,1,0,{},0,0", 0, LAST_MINUTE, no);
@@ -77,7 +83,7 @@ fn wording_fields(desk: &mut Desk) {
     field(desk, "word,g,3,4,0,0,0,{},0,0", 0, LAST_MINUTE, no);
     break_fields(desk, "word,g,{},3,4,0,0", no);
     break_fields(desk, "word,g,3,4,0,0,{}", no);
-    for line in ["b,99", "h,99,0,9,0,0", "s,1,99"] {
+    for line in ["b,99", "h,99,0,9,0,0", "s,1,99", "q,99"] {
         desk.script(&format!("word,{line}"), "no,10,0", "range: first wording not there");
     }
 }
@@ -150,6 +156,8 @@ fn step_fields(desk: &mut Desk) {
     field(desk, &format!("{head}|ul,0,0,{{}},0,0|cp,0|ax,1"), 0, LAST_MINUTE, stop);
     break_fields(desk, &format!("{head}|ll,0,0000000000000000,{{}}|cp,0|ax,1"), stop);
     break_fields(desk, &format!("{head}|ul,0,{{}}|cp,0|ax,1"), stop);
+    field(desk, &format!("{head}|al,{{}},5|cp,0|ax,1"), 0, 63, stop);
+    field(desk, &format!("{head}|al,0,{{}}|cp,0|ax,1"), 1, LAST_HOLDER, stop);
     for step in ["tr,{}", "ll,0,{},0,9,0,0"] {
         let line = format!("{head}|{step}|cp,0|ax,1");
         for (share, answer, name) in SHARES {

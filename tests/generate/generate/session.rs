@@ -165,7 +165,8 @@ impl Desk {
             Wording::One => "o".to_string(),
             Wording::At(a, w) => format!("h,{},{}", number(a), w.text()),
             Wording::Says(k, a) => format!("s,{k},{}", number(a)),
-            Wording::Bang(a) => format!("b,{}", number(a)),
+            Wording::Named(p, s, h) => format!("n,{p},{s},{h}"),
+            Wording::Bang(a) | Wording::ForAll(a) => format!("{},{}", part.letter(), number(a)),
             Wording::Covers(o, i) => format!("g,{},{}", o.text(), i.text()),
             other => {
                 let p = other.parts();

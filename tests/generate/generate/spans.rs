@@ -12,16 +12,16 @@ macro_rules! spans {
         spans!(@ $clause; "ax" "sl" "ll" "ul" "gr" "left part of ll at J" "right part of ll at J"
             "right part of ul at J" "hl gives J" "hr gives J" "left part of ul at J" "part of bl" "left part of tl"
             "right part of tl" "w1" "w2" "first arm of pl" "second arm of pl" "part of sl" "left part of tr"
-            "right part of tr" "sr and af" "first arm of wr" "second arm of wr" "p1" "p2" "part of br")
+            "right part of tr" "sr and af" "first arm of wr" "second arm of wr" "p1" "p2" "part of br" "part of al")
     };
     (@ $clause:literal; $($name:literal)*) => { [$(concat!("span: ", $name, $clause)),*] };
 }
 
-pub const SPANS: [&str; 27] = spans!("");
+pub const SPANS: [&str; 28] = spans!("");
 /// W ⊇ I for the sake of I's break alone: I without its break would not lie in W.
-pub const RIGHT_BY_BREAK: [&str; 27] = spans!(", right only by a break");
+pub const RIGHT_BY_BREAK: [&str; 28] = spans!(", right only by a break");
 /// W without its break would contain I.
-pub const WRONG_BY_BREAK: [&str; 27] = spans!(", wrong only by a break");
+pub const WRONG_BY_BREAK: [&str; 28] = spans!(", wrong only by a break");
 pub const NEW_COUPON: [&str; 3] =
     ["span: new coupon", "span: new coupon, without its break", "span: new coupon, its break shorter"];
 
@@ -74,8 +74,9 @@ type Case = (&'static [&'static str], u32, &'static str, u32);
 
 /// Wordings: 0 a, 1 b, 2 ⟨1⟩a, 3 1, 4 b⊸a, 5 1⊃a, 6 1⊸a, 7 a@I, 8 (a@I)⊸b, 9 b⊃a, 10 !a, 11 a⊗1, 12 1⊗a,
 /// 13 a&b, 14 b&a, 15 a⊕a, 16 (a@I)⊕a, 17 a⊸b, 18 ⟨1⟩b, 19 a⊗b, 20 b⊗a, 21 a&a, 22 (a&a)⊸b, 23 a⊕b, 24 (a⊕b)⊸b,
-/// 25 b⊕a, 26 (b⊕a)⊸b, 27 !a⊸b; and for each w: `{G}` (w ⊇ i)⊸a, `{H}` a@w, `{K}` (a@w & a)⊸b.
-const CASES: [Case; 27] = [
+/// 25 b⊕a, 26 (b⊕a)⊸b, 27 !a⊸b, 29 for every holder an atom in that name, 30 the one of holder 5; and for each w:
+/// `{G}` (w ⊇ i)⊸a, `{H}` a@w, `{K}` (a@w & a)⊸b.
+const CASES: [Case; 28] = [
     (&["s,0,{W}"], 0, "ax,0", 1),
     (&["s,2,{W}"], 2, "sr|sl,0|af|ax,1", 2),
     (&["r,4,{W}", "s,1,{A}"], 0, "cp,0|ll,2,0000000000000002,{I}|ax,1|ax,3", 2),
@@ -103,9 +104,11 @@ const CASES: [Case; 27] = [
     (&["r,24,{A}", "s,0,{W}"], 1, "cp,0|ll,2,0000000000000002,{I}|p1|ax,1|ax,3", 4),
     (&["r,26,{A}", "s,0,{W}"], 1, "cp,0|ll,2,0000000000000002,{I}|p2|ax,1|ax,3", 4),
     (&["r,27,{A}", "r,0,{W}"], 1, "cp,0|ll,2,0000000000000000,{I}|br|cp,1|ax,3|ax,4", 5),
+    (&["r,29,{W}"], 30, "cp,0|al,1,5|ax,2", 3),
 ];
 
-fn enter(desk: &mut Desk, line: &str) -> u32 {
+/// The line's number, entered first where it is not there.
+pub fn enter(desk: &mut Desk, line: &str) -> u32 {
     if let Some(n) = desk.model.lines.iter().position(|l| l == line) {
         return n as u32;
     }
@@ -207,7 +210,7 @@ fn session(seed: u64, part: usize, sort: usize) -> Session {
     let at_i = format!("h,0,{}", i.text());
     desk.words(&["a,9,7", "a,8,7", "s,1,0", "o", "l,1,0", "u,3,0", "l,3,0", &at_i, "l,7,1", "u,1,0", "b,0"]);
     desk.words(&["t,0,3", "t,3,0", "w,0,1", "w,1,0", "p,0,0", "p,7,0", "l,0,1", "s,1,1", "t,0,1", "t,1,0"]);
-    desk.words(&["w,0,0", "l,21,1", "p,0,1", "l,23,1", "p,1,0", "l,25,1", "l,10,1"]);
+    desk.words(&["w,0,0", "l,21,1", "p,0,1", "l,23,1", "p,1,0", "l,25,1", "l,10,1", "n,9,7,0", "q,28", "n,9,7,5"]);
     for w in outer {
         for rule in part * 7..CASES.len().min(part * 7 + 7) {
             try_one(&mut desk, rule, w, i, minute_by_minute(w, i));

@@ -4,9 +4,9 @@ use super::damage::{all_broken, byte_edits};
 use super::ranges::beyond;
 use super::rng::Rng;
 use super::session::{sheet_of, Desk, Session};
-use super::wording::{LAST_MINUTE, LAST_SESSION};
+use super::wording::{LAST_HOLDER, LAST_MINUTE, LAST_SESSION};
 
-pub const FORM: [&str; 37] = [
+pub const FORM: [&str; 38] = [
     "50: no bytes", "50: a line end alone", "50: no first line", "50: first word", "50: edition",
     "50: fields of the first line", "50: next 0", "50: next over 1,000,000", "50: 201 wordings", "50: 513 coupons",
     "50: a wording too few", "50: a wording too many", "50: a coupon too few", "50: a coupon too many",
@@ -15,7 +15,7 @@ pub const FORM: [&str; 37] = [
     "50: wording 1000", "50: serial 0", "50: serial 1,000,000", "50: a line of the old length",
     "50: a sheet's word before a line", "50: coupons before wordings", "50: lines in another place",
     "50: an empty line between", "50: bytes after the text", "50: a line of a later ask", "50: a letter that is none",
-    "50: a long text", "50: bytes at random", "50: fields at random", "50: every truncation",
+    "50: a long text", "50: bytes at random", "50: fields at random", "50: every truncation", "50: fields of n or q",
 ];
 /// Ends of the ranges, in texts.
 pub const ENDS: [&str; 5] = [
@@ -29,8 +29,8 @@ fn mark_of(name: &str) -> &'static str {
 }
 
 /// A text with every sort of line.
-pub const GOOD: &str = "till,1,30,12,3|a,1,7|a,9,65535|o|t,0,1|w,0,0|p,0,0|l,0,0|u,1,1|b,1|h,1,10,40,20,30|s,12,0\
-    |g,10,40,0,0,12,38,20,30|1,s,0,0,99,0,0|12,r,6,10,60,20,50|29,s,10,5,9999,0,0";
+pub const GOOD: &str = "till,1,30,14,3|a,1,7|a,9,65535|o|t,0,1|w,0,0|p,0,0|l,0,0|u,1,1|b,1|h,1,10,40,20,30|s,12,0\
+    |g,10,40,0,0,12,38,20,30|n,9,7,0|q,12|1,s,0,0,99,0,0|12,r,6,10,60,20,50|29,s,10,5,9999,0,0";
 
 /// A till that is none of the texts here, with a house seat, a place and an offer.
 pub fn own_till() -> Desk {
@@ -68,29 +68,29 @@ fn first_line(desk: &mut Desk) {
     let (first, rest) = GOOD.split_once('|').expect("lines");
     no(rest, "no first line");
     for word in ["", "Till", "TILL", "tills", "til", "word", "1", " till", "till ", "tally", "book"] {
-        no(&format!("{word},1,30,12,3|{rest}"), "first word");
+        no(&format!("{word},1,30,14,3|{rest}"), "first word");
     }
     for edition in [
         "0", "2", "3", "9", "10", "11", "12", "01", "001", "1.0", "+1", "-1", "", " 1", "1 ", "x", "256", "257",
         "65537", "4294967297", "18446744073709551617",
     ] {
-        no(&format!("till,{edition},30,12,3|{rest}"), "edition");
+        no(&format!("till,{edition},30,14,3|{rest}"), "edition");
         no(&format!("till,{edition},1,0,0"), "edition");
     }
     for line in [
-        "till", "till,1", "till,1,30", "till,1,30,12", "till,1,30,12,3,0", "till,1,30,12,3,", "till,1,30,12,3,1",
-        "till,30,12,3", "1,30,12,3", "till,1,12,3", "till1,30,12,3", "till;1;30;12;3", "till,1,,12,3", "till,1,30,,3",
-        "till,1,30,12,", ",till,1,30,12,3",
+        "till", "till,1", "till,1,30", "till,1,30,14", "till,1,30,14,3,0", "till,1,30,14,3,", "till,1,30,14,3,1",
+        "till,30,14,3", "1,30,14,3", "till,1,14,3", "till1,30,14,3", "till;1;30;14;3", "till,1,,14,3", "till,1,30,,3",
+        "till,1,30,14,", ",till,1,30,14,3",
     ] {
         no(&format!("{line}|{rest}"), "fields of the first line");
         no(line, "fields of the first line");
     }
     for next in ["0", "00", "-1"] {
-        no(&format!("till,1,{next},12,3|{rest}"), "next 0");
+        no(&format!("till,1,{next},14,3|{rest}"), "next 0");
         no(&format!("till,1,{next},0,0"), "next 0");
     }
     for next in beyond(1_000_000) {
-        no(&format!("till,1,{next},12,3|{rest}"), "next over 1,000,000");
+        no(&format!("till,1,{next},14,3|{rest}"), "next over 1,000,000");
         no(&format!("till,1,{next},0,0"), "next over 1,000,000");
     }
     for text in [&format!("{first}|{first}|{rest}"), &format!("{GOOD}|{GOOD}"), "till,1,1,0,0|till,1,1,0,0"] {
@@ -104,19 +104,19 @@ fn counts(desk: &mut Desk) {
     let rest = GOOD.split_once('|').expect("lines").1;
     let lines: Vec<&str> = rest.split('|').collect();
     let without = |place: usize| {
-        let kept: Vec<&str> = (0..15).filter(|n| *n != place).map(|n| lines[n]).collect();
-        format!("till,1,30,12,3|{}", kept.join("|"))
+        let kept: Vec<&str> = (0..17).filter(|n| *n != place).map(|n| lines[n]).collect();
+        format!("till,1,30,14,3|{}", kept.join("|"))
     };
     let with = |place: usize, line: &str| {
         let mut more = lines.clone();
         more.insert(place, line);
-        format!("till,1,30,12,3|{}", more.join("|"))
+        format!("till,1,30,14,3|{}", more.join("|"))
     };
-    (0..12).for_each(|n| no(&without(n), "a wording too few"));
-    (12..15).for_each(|n| no(&without(n), "a coupon too few"));
-    (0..=12).for_each(|n| no(&with(n, "a,3,4"), "a wording too many"));
-    for (place, line) in [(12, "0,s,0,0,9,0,0"), (12, "1,s,0,0,9,0,0"), (13, "5,s,0,0,9,0,0"), (15, "28,s,0,0,9,0,0"),
-        (15, "30,s,0,0,9,0,0"), (14, "13,r,6,0,9,0,0")] {
+    (0..14).for_each(|n| no(&without(n), "a wording too few"));
+    (14..17).for_each(|n| no(&without(n), "a coupon too few"));
+    (0..=14).for_each(|n| no(&with(n, "a,3,4"), "a wording too many"));
+    for (place, line) in [(14, "0,s,0,0,9,0,0"), (14, "1,s,0,0,9,0,0"), (15, "5,s,0,0,9,0,0"), (17, "28,s,0,0,9,0,0"),
+        (17, "30,s,0,0,9,0,0"), (16, "13,r,6,0,9,0,0")] {
         no(&with(place, line), "a coupon too many");
     }
 }
@@ -126,23 +126,23 @@ fn counted_otherwise(desk: &mut Desk) {
     let mut no = |text: &str, name: &str| refuse(desk, &sheet_of(text), 50, mark_of(name));
     let rest = GOOD.split_once('|').expect("lines").1;
     let counted = |wordings: usize, coupons: usize| format!("till,1,30,{wordings},{coupons}|{rest}");
-    no(&counted(13, 3), "a wording too few");
-    no(&counted(11, 3), "a wording too many");
-    no(&counted(12, 4), "a coupon too few");
-    no(&counted(12, 2), "a coupon too many");
-    no(&counted(11, 4), "a wording counted as a coupon");
-    no(&counted(0, 15), "a wording counted as a coupon");
-    no(&counted(13, 2), "a coupon counted as a wording");
-    no(&counted(15, 0), "a coupon counted as a wording");
-    for (wordings, coupons) in [(0, 0), (3, 12), (200, 512), (200, 3), (12, 512), (12, 0), (0, 3)] {
+    no(&counted(15, 3), "a wording too few");
+    no(&counted(13, 3), "a wording too many");
+    no(&counted(14, 4), "a coupon too few");
+    no(&counted(14, 2), "a coupon too many");
+    no(&counted(13, 4), "a wording counted as a coupon");
+    no(&counted(0, 17), "a wording counted as a coupon");
+    no(&counted(15, 2), "a coupon counted as a wording");
+    no(&counted(17, 0), "a coupon counted as a wording");
+    for (wordings, coupons) in [(0, 0), (3, 14), (200, 512), (200, 3), (14, 512), (14, 0), (0, 3)] {
         no(&counted(wordings, coupons), "a count far off");
     }
-    no("till,1,30,12,3", "a count far off");
-    for count in beyond(200).into_iter().chain(["268", "65548", "4294967308"].map(String::from)) {
+    no("till,1,30,14,3", "a count far off");
+    for count in beyond(200).into_iter().chain(["270", "65550", "4294967310"].map(String::from)) {
         no(&format!("till,1,30,{count},3|{rest}"), "a count far off");
     }
     for count in beyond(512).into_iter().chain(["259", "515", "65539", "4294967299"].map(String::from)) {
-        no(&format!("till,1,30,12,{count}|{rest}"), "a count far off");
+        no(&format!("till,1,30,14,{count}|{rest}"), "a count far off");
     }
 }
 
@@ -226,18 +226,29 @@ fn wording_lines(desk: &mut Desk) {
     for line in ["h,0,0,9", "g,0,9,0,9", "g,0,9,0,0,0,9", "g,0,9,0,9,0,0"] {
         no(&worded(line), "a line of the old length");
     }
+    for line in ["n", "n,9", "n,9,7", "n,9,7,5,0", "n,9,7,5,", "n,9,7,", "q", "q,", "q,0,0", "q,0,", "q,9,7,0"] {
+        no(&worded(line), "fields of n or q");
+    }
     for line in ["word,a,2,7", "word,o", "2,a,2,7", "wording,a,2,7"] {
         no(&worded(line), "a sheet's word before a line");
     }
-    for line in ["x", "A,2,7", "O", "z,0", "c,0,0", "d,0", "e", "aa,2,7", "", "1", "k,1,0", "i,0,0"] {
+    let none = ["x", "A,2,7", "O", "z,0", "c,0,0", "d,0", "e", "aa,2,7", "", "1", "k,1,0", "i,0,0", "N,9,7,5", "Q,0"];
+    for line in none {
         no(&worded(line), "a letter that is none");
     }
     let first = GOOD.split_once('|').expect("lines").0;
     for text in [
-        worded("n,1,7,5"), worded("n,2,7,0"), worded("q,0"), format!("{GOOD}|after,1,2"),
+        format!("{GOOD}|after,1,2"),
         "till,1,1,0,0|after,1,2".to_string(), GOOD.replace(first, &format!("{first},1")) + "|after,1,12",
     ] {
         no(&text, "a line of a later ask");
+    }
+}
+
+/// Lines of ask 7 that are read.
+fn named_lines(desk: &mut Desk) {
+    for line in ["n,9,7,5", "n,9,7,0", "n,1,7,65535", "q,0", "q,1"] {
+        accept(desk, &sheet_of(&format!("till,1,30,3,0|a,1,7|l,0,0|{line}")), "");
     }
 }
 
@@ -246,14 +257,14 @@ fn lines(desk: &mut Desk) {
     let mut no = |text: &str, name: &str| refuse(desk, &sheet_of(text), 50, mark_of(name));
     let (first, rest) = GOOD.split_once('|').expect("lines");
     let lines: Vec<&str> = rest.split('|').collect();
-    no(&format!("{first}|{}|{}", lines[12..].join("|"), lines[..12].join("|")), "coupons before wordings");
-    for (a, b) in [(0, 12), (11, 12), (11, 14), (5, 13)] {
+    no(&format!("{first}|{}|{}", lines[14..].join("|"), lines[..14].join("|")), "coupons before wordings");
+    for (a, b) in [(0, 14), (13, 14), (13, 16), (5, 15)] {
         let mut moved = lines.clone();
         moved.swap(a, b);
         no(&format!("{first}|{}", moved.join("|")), "lines in another place");
     }
     no(&format!("{rest}|{first}"), "lines in another place");
-    for place in 0..15 {
+    for place in 0..17 {
         let mut more = lines.clone();
         more.insert(place, "");
         no(&format!("{first}|{}", more.join("|")), "an empty line between");
@@ -320,7 +331,12 @@ fn wording_fields(desk: &mut Desk) {
         refuse(desk, &sheet_of(&with(&format!("{letter},0,1000"))), 50, mark_of("wording 1000"));
         refuse(desk, &sheet_of(&with(&format!("{letter},1000,0"))), 50, mark_of("wording 1000"));
     }
-    for line in ["b,{}", "h,{},0,9,0,0", "s,5,{}"] {
+    field(desk, &with("n,{},65535,65535"), (0, 0), (255, 0));
+    field(desk, &with("n,9,{},5"), (0, 0), (LAST_SESSION, 0));
+    for predicate in [0, 1, 2, 255] {
+        field(desk, &with(&format!("n,{predicate},7,{{}}")), (0, 0), (LAST_HOLDER, 0));
+    }
+    for line in ["b,{}", "h,{},0,9,0,0", "s,5,{}", "q,{}"] {
         field(desk, &with(line), (0, 0), (999, 51));
         refuse(desk, &sheet_of(&with(&line.replace("{}", "1000"))), 50, mark_of("wording 1000"));
     }
@@ -383,7 +399,7 @@ fn noise(seed: u64) -> Session {
         let bytes: Vec<u8> = (0..length).map(|_| rng.next() as u8).collect();
         refuse(&mut desk, &bytes, 50, mark_of("bytes at random"));
     }
-    let fields = ["till", "1", "0", "2", "a", "s", "r", "t", "l", "h", "7", "9", "30", "512", "\n", "\n"];
+    let fields = ["till", "1", "0", "2", "a", "s", "r", "t", "l", "h", "n", "q", "7", "9", "30", "512", "\n", "\n"];
     for n in 0..400 {
         let mut text = String::from(if n % 2 == 0 { "" } else { "till,1,2,1,1\n" });
         for _ in 0..rng.below(40) {
@@ -410,11 +426,12 @@ fn noise(seed: u64) -> Session {
 type Fill = fn(&mut Desk);
 
 pub fn sessions(seed: u64) -> Vec<Session> {
-    let parts: [(Fill, &str); 11] = [
+    let parts: [(Fill, &str); 12] = [
         (first_line, "first line"), (counts, "counts"), (counted_otherwise, "counted otherwise"),
         (ends_of_counts, "ends of counts"), (serials, "serials"), (coupon_lines, "coupon lines"),
-        (wording_lines, "wording lines"), (lines, "lines"), (first_fields, "fields of the first line"),
-        (wording_fields, "fields of wordings"), (coupon_fields, "fields of coupons"),
+        (wording_lines, "wording lines"), (named_lines, "lines n and q"), (lines, "lines"),
+        (first_fields, "fields of the first line"), (wording_fields, "fields of wordings"),
+        (coupon_fields, "fields of coupons"),
     ];
     let played = |(fill, name): (Fill, &str)| {
         let mut desk = own_till();

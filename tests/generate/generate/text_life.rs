@@ -86,17 +86,18 @@ fn goes_on() -> Session {
     closes(&mut desk, GOOD, CLOSED[4]);
     desk.script("word,l,0,0", "no,13,0", AFTER[4]);
     desk.script("word,g,10,40,0,0,12,38,20,30", "no,13,0", AFTER[4]);
-    desk.script("word,s,1,12", "no,10,0", AFTER[3]);
-    desk.script("word,a,2,7", "ok,12", AFTER[5]);
-    desk.script("word,s,1,12", "ok,13", AFTER[1]);
-    desk.script("issue,s,14,0,9,0,0", "no,10,0", AFTER[3]);
+    desk.script("word,q,12", "no,13,0", AFTER[4]);
+    desk.script("word,s,1,14", "no,10,0", AFTER[3]);
+    desk.script("word,a,2,7", "ok,14", AFTER[5]);
+    desk.script("word,s,1,14", "ok,15", AFTER[1]);
+    desk.script("issue,s,16,0,9,0,0", "no,10,0", AFTER[3]);
     desk.script("issue,s,2,0,9,0,0", "no,20,0", AFTER[17]);
     desk.script("issue,r,0,0,9,0,0", "no,21,0", AFTER[17]);
     for serial in [2, 4, 11, 13, 28, 30, 999_999] {
         let mark = if serial < 5 { AFTER[10] } else { AFTER[11] };
         desk.script(&format!("withdraw,{serial}"), "no,24,0", mark);
     }
-    desk.script("issue,s,13,0,99,40,60", "ok,30", AFTER[2]);
+    desk.script("issue,s,15,0,99,40,60", "ok,30", AFTER[2]);
     desk.script("tally,7,10", "ok,0,2,1", "");
     desk.script("book,10,0,10,20,0,0,1,1|hold,1|ax,0", "ok,31", AFTER[2]);
     let offer = |from: u32, to: u32| {
@@ -108,11 +109,11 @@ fn goes_on() -> Session {
     desk.script("withdraw,29", "ok,29", AFTER[12]);
     desk.script("withdraw,12", "ok,12", AFTER[13]);
     let rest = &GOOD[GOOD.find('|').expect("lines")..GOOD.find("|1,s").expect("coupons")];
-    closes(&mut desk, &format!("till,1,33,14,2{rest}|a,2,7|s,1,12|30,s,13,0,99,40,60|32,s,0,11,19,0,0"), CLOSED[5]);
+    closes(&mut desk, &format!("till,1,33,16,2{rest}|a,2,7|s,1,14|30,s,15,0,99,40,60|32,s,0,11,19,0,0"), CLOSED[5]);
     desk.reopen(OPENED[0]);
     desk.script("withdraw,30", "ok,30", AFTER[12]);
     desk.script("withdraw,32", "ok,32", AFTER[14]);
-    closes(&mut desk, &format!("till,1,33,14,0{rest}|a,2,7|s,1,12"), CLOSED[6]);
+    closes(&mut desk, &format!("till,1,33,16,0{rest}|a,2,7|s,1,14"), CLOSED[6]);
     desk.reopen(OPENED[0]);
     desk.script("issue,s,0,0,9,0,0", "ok,33", AFTER[2]);
     desk.script("tally,7,5", "ok,0,1,0", "");

@@ -4,6 +4,7 @@
 use super::balance;
 use super::capacity;
 use super::form::read;
+use super::holders;
 use super::midday;
 use super::model::{Answer, Steps};
 use super::pairs;
@@ -12,17 +13,17 @@ use super::text_form::{accept, large, own_till, refuse, GOOD};
 use super::tour;
 use super::wording::window;
 
-pub const RULES: [&str; 19] = [
+pub const RULES: [&str; 21] = [
     "51: 3 in h", "51: 3 in g, first window", "51: 3 in g, second window", "51: 3 in a coupon", "51: 43 in h",
     "51: 43 in g, first window", "51: 43 in g, second window", "51: 43 in a coupon", "51: 10, its own number",
     "51: 10, a later line", "51: 10, past the last line", "51: 10 in a coupon", "51: 12", "51: 13, next to it",
     "51: 13, far apart", "51: serial is next", "51: serial above next", "51: in the first line that can",
-    "51: in the last line",
+    "51: in the last line", "51: 53, q within q", "51: 53 in a coupon",
 ];
 /// What word and issue answer to a line, and opening to a text with that line.
-pub const ASKED: [&str; 12] = [
+pub const ASKED: [&str; 13] = [
     "asked: 2", "asked: 3", "asked: 43", "asked: 10", "asked: 12", "asked: 13", "asked: 14", "asked: 20", "asked: 21",
-    "asked: 22", "asked: a wording", "asked: a coupon",
+    "asked: 22", "asked: a wording", "asked: a coupon", "asked: 53",
 ];
 pub const BOTH: [&str; 4] =
     ["50 before 51: 51 stands first", "50 before 51: 50 stands first", "50 before 51: in one line", "51 alone, late"];
@@ -68,7 +69,7 @@ fn windows(desk: &mut Desk) {
 fn names(desk: &mut Desk) {
     let lines = [
         "t,{},0", "t,0,{}", "w,{},0", "w,0,{}", "p,{},0", "p,0,{}", "l,{},0", "l,0,{}", "u,{},0", "u,0,{}", "b,{}",
-        "h,{},0,9,0,0", "s,1,{}",
+        "h,{},0,9,0,0", "s,1,{}", "q,{}",
     ];
     for line in lines {
         let text = |name: u32| format!("till,1,9,4,0|a,9,7|a,9,8|{}|a,9,9", line.replace("{}", &name.to_string()));
@@ -92,7 +93,7 @@ fn names(desk: &mut Desk) {
 /// Sizes about 64: 0 to 5 are 1, 3, 7, 15, 31 and 63, the sixth line 64 and the seventh one more.
 fn sizes(desk: &mut Desk) {
     let lines = "a,9,7|t,0,0|t,1,1|t,2,2|t,3,3|t,4,4";
-    for line in ["b,5", "h,5,0,9,0,0", "s,1,5"] {
+    for line in ["b,5", "h,5,0,9,0,0", "s,1,5", "q,5"] {
         accept(desk, &sheet_of(&format!("till,1,9,7,0|{lines}|{line}")), "");
         for more in ["b,6", "h,6,0,9,0,0", "s,1,6", "t,6,0", "t,0,6", "w,5,0", "p,0,5", "l,5,1", "u,5,5", "t,6,6"] {
             no(desk, &format!("till,1,9,8,0|{lines}|{line}|{more}"), "12");
@@ -115,21 +116,45 @@ fn sizes(desk: &mut Desk) {
 /// Two lines that are equal, of every letter.
 fn equal(desk: &mut Desk) {
     let lines = ["a,9,8", "o", "t,0,1", "w,0,1", "p,0,1", "l,0,1", "u,0,1", "b,0", "h,0,1,9,3,4", "s,1,0",
-        "g,1,9,3,4,0,9,0,0"];
+        "g,1,9,3,4,0,9,0,0", "n,9,7,5", "n,9,7,0", "q,0"];
     let all = lines.join("|");
-    accept(desk, &sheet_of(&format!("till,1,9,13,0|a,9,7|a,1,7|{all}")), "");
+    accept(desk, &sheet_of(&format!("till,1,9,16,0|a,9,7|a,1,7|{all}")), "");
     for line in lines {
         no(desk, &format!("till,1,9,4,0|a,9,7|a,1,7|{line}|{line}"), "13, next to it");
-        no(desk, &format!("till,1,9,14,0|a,9,7|a,1,7|{all}|{line}"), "13, far apart");
+        no(desk, &format!("till,1,9,17,0|a,9,7|a,1,7|{all}|{line}"), "13, far apart");
     }
-    no(desk, &format!("till,1,9,14,0|a,9,7|a,1,7|{all}|a,9,7"), "13, far apart");
-    for more in ["h,0,1,9,0,0", "h,0,1,9,3,3", "g,1,9,3,4,0,9,3,4", "t,1,0", "s,2,0", "a,9,264", "a,8,9"] {
-        accept(desk, &sheet_of(&format!("till,1,9,14,0|a,9,7|a,1,7|{all}|{more}")), "");
+    no(desk, &format!("till,1,9,17,0|a,9,7|a,1,7|{all}|a,9,7"), "13, far apart");
+    for more in ["h,0,1,9,0,0", "h,0,1,9,3,3", "g,1,9,3,4,0,9,3,4", "t,1,0", "s,2,0", "a,9,264", "a,8,9",
+        "n,9,7,261", "n,9,5,7", "q,1"] {
+        accept(desk, &sheet_of(&format!("till,1,9,17,0|a,9,7|a,1,7|{all}|{more}")), "");
     }
     let text = large(200, 3);
     let last = text.replace("|a,2,199|", "|a,1,0|");
     assert_ne!(text, last);
     no(desk, &last, "13, far apart");
+}
+
+/// `q` within `q`, next to it and further up; and coupons with holder 0 outside `q`.
+fn of_holders(desk: &mut Desk) {
+    let text = |lines: &str| format!("till,1,9,{},0|n,9,7,0|q,0|a,9,7|{lines}", 3 + lines.split('|').count());
+    let ways = ["t,1,2", "t,2,1", "w,1,2", "w,2,1", "p,1,2", "p,2,1", "l,1,2", "l,2,1", "u,1,2", "u,2,1", "b,1",
+        "h,1,0,9,3,4", "s,1,1"];
+    no(desk, &text("q,1"), "53, q within q");
+    for way in ways {
+        accept(desk, &sheet_of(&text(way)), "");
+        no(desk, &text(&format!("{way}|q,3")), "53, q within q");
+        no(desk, &text(&format!("{way}|s,1,3|b,4|q,5|a,9,8")), "53, q within q");
+    }
+    ["q,2", "t,0,0|q,3", "t,1,1", "t,0,1", "l,0,2|q,3|t,4,1"].iter().for_each(|lines| {
+        accept(desk, &sheet_of(&text(lines)), "");
+    });
+    let lines = "n,9,7,0|q,0|n,9,7,5|t,0,2|t,1,0|t,2,2";
+    let coupon = |kind: &str, name: u32| format!("till,1,9,6,1|{lines}|5,{kind},{name},0,9,0,0");
+    for kind in ["s", "r"] {
+        [0, 3, 4].iter().for_each(|name| no(desk, &coupon(kind, *name), "53 in a coupon"));
+        [2, 5].iter().for_each(|name| accept(desk, &sheet_of(&coupon(kind, *name)), ""));
+    }
+    accept(desk, &sheet_of(&coupon("r", 1)), "");
 }
 
 /// Serials and next.
@@ -182,13 +207,14 @@ fn places(desk: &mut Desk) {
 }
 
 /// What breaks a rule in `GOOD`, and what breaks its form.
-const UNRULY: [(&str, &str); 11] = [
+const UNRULY: [(&str, &str); 15] = [
     ("|o|", "|b,2|"), ("|t,0,1|", "|t,3,1|"), ("|w,0,0|", "|w,0,11|"), ("|b,1|", "|t,0,1|"),
     ("|h,1,10,40,20,30|", "|h,1,40,10,0,0|"), ("|h,1,10,40,20,30|", "|h,1,10,40,20,40|"), ("|1,s,0,", "|1,s,6,"),
-    ("|1,s,0,", "|1,s,12,"), ("|12,r,6,", "|12,r,0,"), ("|29,s,10,5,", "|29,s,10,10000,"), ("till,1,30,", "till,1,29,"),
+    ("|1,s,0,", "|1,s,14,"), ("|12,r,6,", "|12,r,0,"), ("|29,s,10,5,", "|29,s,10,10000,"), ("till,1,30,", "till,1,29,"),
+    ("|1,s,0,", "|1,s,12,"), ("|12,r,6,", "|12,r,12,"), ("|n,9,7,0|", "|q,0|"), ("|q,12|", "|q,13|"),
 ];
 const BROKEN: [(&str, &str); 20] = [
-    ("till,1,", "till,2,"), ("till,1,", "till,01,"), (",12,3|", ",12,4|"), (",12,3|", ",13,3|"), (",12,3|", ",12,2|"),
+    ("till,1,", "till,2,"), ("till,1,", "till,01,"), (",14,3|", ",14,4|"), (",14,3|", ",15,3|"), (",14,3|", ",14,2|"),
     ("|a,1,7|", "|a,1,07|"), ("|a,1,7|", "|a,256,7|"), ("|a,1,7|", "|word,a,1,7|"), ("|p,0,0|", "|p,0,1000|"),
     ("|u,1,1|", "|u,1|"), ("|s,12,0|", "|s,256,0|"), ("|12,r", "|1,r"), ("|12,r", "|30,r"), ("|12,r", "|12,x"),
     (",99,0,0|", ",99,0|"), (",60,20,50", ",60,20,10000000"), (",9999,0,0", ",9999,0,00"), (",9999,0,0", ",9999,0,0|"),
@@ -229,6 +255,7 @@ fn due(answer: Answer) -> (u32, &'static str) {
         Answer::Refused(20, _) => (51, ASKED[7]),
         Answer::Refused(21, _) => (51, ASKED[8]),
         Answer::Refused(22, _) => (50, ASKED[9]),
+        Answer::Refused(53, _) => (51, ASKED[12]),
         other => panic!("no answer to word or issue: {other:?}"),
     }
 }
@@ -277,9 +304,9 @@ fn asked(session: &Session) -> Session {
 type Fill = fn(&mut Desk);
 
 pub fn sessions(seed: u64) -> Vec<Session> {
-    let parts: [(Fill, &str); 7] = [
+    let parts: [(Fill, &str); 8] = [
         (windows, "windows"), (names, "wordings not there"), (sizes, "sizes"), (equal, "equal lines"),
-        (below_next, "next"), (places, "places"), (both, "50 before 51"),
+        (of_holders, "holders"), (below_next, "next"), (places, "places"), (both, "50 before 51"),
     ];
     let played = |(fill, name): (Fill, &str)| {
         let mut desk = own_till();
@@ -292,6 +319,7 @@ pub fn sessions(seed: u64) -> Vec<Session> {
     others.extend(capacity::sessions(seed));
     others.extend(pairs::sessions(seed));
     others.extend(tour::sessions().into_iter().filter(|session| !session.name.contains("straight through")));
+    others.extend(holders::sessions(seed));
     all.extend(others.iter().map(asked));
     all
 }

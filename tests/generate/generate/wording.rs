@@ -1,11 +1,14 @@
 //! Wordings as trees: size, plainness, weight and balance by plain recursion.
 
+use super::rng::Rng;
 use std::collections::BTreeSet;
 use std::rc::Rc;
 
 pub const LAST_MINUTE: u32 = 9_999_999;
 /// The last session number, in atoms and in tally; predicates and principals end at 255.
 pub const LAST_SESSION: u32 = 65_535;
+/// The last holder number. 0 stands for the holder that a `q` binds.
+pub const LAST_HOLDER: u32 = 65_535;
 
 /// The principal of the house: open counts the seats whose nearest ⟨K⟩ is this one's, and no others.
 pub const HOUSE: u32 = 1;
@@ -85,12 +88,22 @@ pub enum Wording {
     At(Part, Window),
     Says(u32, Part),
     Covers(Window, Window),
+    /// An atom in a holder's name: predicate, session, holder.
+    Named(u32, u32, u32),
+    /// For every holder: holder 0 within stands for it.
+    ForAll(Part),
 }
 
 use Wording::*;
 
 pub fn atom(predicate: u32, session: u32) -> Part {
     Rc::new(Atom(predicate, session))
+}
+pub fn named(predicate: u32, session: u32, holder: u32) -> Part {
+    Rc::new(Named(predicate, session, holder))
+}
+pub fn for_all(a: &Part) -> Part {
+    Rc::new(ForAll(a.clone()))
 }
 pub fn one() -> Part {
     Rc::new(One)
@@ -138,16 +151,31 @@ impl Wording {
             At(..) => 'h',
             Says(..) => 's',
             Covers(..) => 'g',
+            Named(..) => 'n',
+            ForAll(..) => 'q',
         }
+    }
+
+    /// Predicate and session of an atom, with a holder or without.
+    pub fn atomic(&self) -> Option<(u32, u32)> {
+        match self {
+            Atom(predicate, session) | Named(predicate, session, _) => Some((*predicate, *session)),
+            _ => None,
+        }
+    }
+
+    /// The session of a seat or place that is the whole wording.
+    fn weighty(&self) -> Option<u32> {
+        self.atomic().filter(|(predicate, _)| matches!(predicate, 1 | 2)).map(|(_, session)| session)
     }
 
     pub fn parts(&self) -> Vec<Part> {
         match self {
-            Atom(..) | One | Covers(..) => vec![],
+            Atom(..) | Named(..) | One | Covers(..) => vec![],
             Tensor(a, b) | With(a, b) | Plus(a, b) | Lolli(a, b) | Implies(a, b) => {
                 vec![a.clone(), b.clone()]
             }
-            Bang(a) | At(a, _) | Says(_, a) => vec![a.clone()],
+            Bang(a) | At(a, _) | Says(_, a) | ForAll(a) => vec![a.clone()],
         }
     }
 
@@ -156,19 +184,47 @@ impl Wording {
     }
 
     pub fn plain(&self) -> bool {
-        matches!(self.letter(), 'a' | 't' | 's') && self.parts().iter().all(|p| p.plain())
+        matches!(self.letter(), 'a' | 'n' | 't' | 's') && self.parts().iter().all(|p| p.plain())
     }
 
-    /// How often the atom stands in the wording.
+    /// The wording has a `q`.
+    pub fn has_q(&self) -> bool {
+        self.letter() == 'q' || self.parts().iter().any(|p| p.has_q())
+    }
+
+    /// Check 53 of word: a `q` within a `q`.
+    pub fn q_within_q(&self) -> bool {
+        let here = self.letter() == 'q' && self.parts().iter().any(|p| p.has_q());
+        here || self.parts().iter().any(|p| p.q_within_q())
+    }
+
+    /// Check 53 of issue and book: holder 0 outside `q`, wherever it stands.
+    pub fn loose(&self) -> bool {
+        match self {
+            Named(_, _, holder) => *holder == 0,
+            ForAll(_) => false,
+            _ => self.parts().iter().any(|p| p.loose()),
+        }
+    }
+
+    /// The holders that are named, 0 among them where it stands.
+    pub fn holders(&self) -> BTreeSet<u32> {
+        match self {
+            Named(_, _, holder) => [*holder].into(),
+            _ => self.parts().iter().flat_map(|p| p.holders()).collect(),
+        }
+    }
+
+    /// How often an atom of the predicate and session stands in the wording, with a holder or without.
     pub fn count(&self, predicate: u32, session: u32) -> u32 {
-        let here = u32::from(*self == Atom(predicate, session));
+        let here = u32::from(self.atomic() == Some((predicate, session)));
         here + self.parts().iter().map(|p| p.count(predicate, session)).sum::<u32>()
     }
 
     /// The house's seats of the session, where this principal's ⟨K⟩ is the nearest above the whole wording.
     pub fn house_seats(&self, session: u32, above: Option<u32>) -> u32 {
         match self {
-            Atom(..) => u32::from(*self == Atom(1, session) && above == Some(HOUSE)),
+            Atom(..) | Named(..) => u32::from(self.atomic() == Some((1, session)) && above == Some(HOUSE)),
             Says(k, a) => a.house_seats(session, Some(*k)),
             _ => self.parts().iter().map(|p| p.house_seats(session, above)).sum(),
         }
@@ -177,7 +233,7 @@ impl Wording {
     /// For each seat of the session the principals of the ⟨K⟩ above it, the outermost first.
     pub fn above_seats(&self, session: u32) -> Vec<Vec<u32>> {
         match self {
-            Atom(..) => vec![vec![]; self.count(1, session) as usize],
+            Atom(..) | Named(..) => vec![vec![]; self.count(1, session) as usize],
             Says(k, a) => a.above_seats(session).iter().map(|above| [&[*k], above.as_slice()].concat()).collect(),
             _ => self.parts().iter().flat_map(|p| p.above_seats(session)).collect(),
         }
@@ -185,22 +241,20 @@ impl Wording {
 
     pub fn weight(&self, session: u32) -> i64 {
         match self {
-            Atom(predicate, s) => i64::from((*predicate == 1 || *predicate == 2) && *s == session),
+            Atom(..) | Named(..) => i64::from(self.weighty() == Some(session)),
             One | Covers(..) => 0,
             Tensor(a, b) => a.weight(session) + b.weight(session),
             With(a, _) | Plus(a, _) => a.weight(session),
             Lolli(a, b) => b.weight(session) - a.weight(session),
             Implies(_, b) => b.weight(session),
-            Bang(a) | At(a, _) | Says(_, a) => a.weight(session),
+            Bang(a) | At(a, _) | Says(_, a) | ForAll(a) => a.weight(session),
         }
     }
 
     /// All sessions named by a seat or a place.
     pub fn sessions(&self) -> BTreeSet<u32> {
         let mut all: BTreeSet<u32> = self.parts().iter().flat_map(|p| p.sessions()).collect();
-        if let Atom(1 | 2, session) = self {
-            all.insert(*session);
-        }
+        all.extend(self.weighty());
         all
     }
 
@@ -210,12 +264,10 @@ impl Wording {
         all.iter().any(|s| all.iter().any(|t| alike(*s, *t)))
     }
 
-    /// The wording with every session number exchanged for another.
-    pub fn renumbered(&self, of: &dyn Fn(u32) -> u32) -> Part {
-        let go = |p: &Part| p.renumbered(of);
+    /// The wording with each of its parts exchanged for another.
+    pub fn rebuilt(&self, go: &mut dyn FnMut(&Part) -> Part) -> Part {
         match self {
-            Atom(predicate, session) => atom(*predicate, of(*session)),
-            One => one(),
+            Atom(..) | Named(..) | One | Covers(..) => Rc::new(self.clone()),
             Tensor(a, b) => tensor(&go(a), &go(b)),
             With(a, b) => with(&go(a), &go(b)),
             Plus(a, b) => plus(&go(a), &go(b)),
@@ -224,7 +276,32 @@ impl Wording {
             Bang(a) => bang(&go(a)),
             At(a, w) => at(&go(a), *w),
             Says(k, a) => says(*k, &go(a)),
-            Covers(outer, inner) => covers(*outer, *inner),
+            ForAll(a) => for_all(&go(a)),
+        }
+    }
+
+    /// The wording with every session number exchanged for another.
+    pub fn renumbered(&self, of: &dyn Fn(u32) -> u32) -> Part {
+        match self {
+            Atom(predicate, session) => atom(*predicate, of(*session)),
+            Named(predicate, session, holder) => named(*predicate, of(*session), *holder),
+            _ => self.rebuilt(&mut |p| p.renumbered(of)),
+        }
+    }
+
+    /// The part of a `q` with the holder put in, in the place of every 0.
+    pub fn put(&self, holder: u32) -> Part {
+        match self {
+            Named(predicate, session, 0) => named(*predicate, *session, holder),
+            _ => self.rebuilt(&mut |p| p.put(holder)),
+        }
+    }
+
+    /// The wording with 0 in some of the places of the holder: putting the holder in gives the wording again.
+    pub fn bound(&self, rng: &mut Rng, holder: u32) -> Part {
+        match self {
+            Named(predicate, session, h) if *h == holder && rng.chance(3, 4) => named(*predicate, *session, 0),
+            _ => self.rebuilt(&mut |p| p.bound(rng, holder)),
         }
     }
 

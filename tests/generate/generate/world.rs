@@ -11,6 +11,8 @@ pub struct World {
     pub principals: Vec<u32>,
     /// Predicates other than seat and place.
     pub free: Vec<u32>,
+    /// Three holders, of which a byte does not tell the first two apart.
+    pub holders: Vec<u32>,
     pub windows: Vec<Window>,
 }
 
@@ -109,6 +111,7 @@ impl World {
             sessions: World::sessions(rng),
             principals: [vec![HOUSE], pair(rng)].concat(),
             free: vec![rng.pick(&[0, 3, 255]), rng.between(3, 254)],
+            holders: World::holders(rng),
             windows,
         }
     }
@@ -119,6 +122,11 @@ impl World {
         let first = rng.pick(&[small, small, large, 0, 7, 255, LAST_SESSION]);
         let end = rng.pick(&[0, 7, 255, 256, LAST_SESSION, large]);
         vec![first, rng.alike(first), end]
+    }
+
+    fn holders(rng: &mut Rng) -> Vec<u32> {
+        let first = rng.pick(&[1, 7, 255, rng.clone().between(1, 255)]);
+        vec![first, rng.alike(first), rng.pick(&[1, 2, 256, LAST_HOLDER, rng.clone().between(256, LAST_HOLDER)])]
     }
 
     /// The session of the stock that is alike, or else the nearest that is.
@@ -143,13 +151,28 @@ impl World {
         rng.pick(&good)
     }
 
+    /// The atom, sometimes in a holder's name.
+    pub fn some_atom(&self, rng: &mut Rng, predicate: u32, session: u32) -> Part {
+        if rng.chance(1, 3) { named(predicate, session, rng.pick(&self.holders)) } else { atom(predicate, session) }
+    }
+
     pub fn free_atom(&self, rng: &mut Rng) -> Part {
-        atom(rng.pick(&self.free), rng.pick(&self.sessions))
+        let (predicate, session) = (rng.pick(&self.free), rng.pick(&self.sessions));
+        self.some_atom(rng, predicate, session)
     }
 
     /// A seat or place of the session.
     pub fn weighty_atom(&self, rng: &mut Rng, session: u32) -> Part {
-        atom(rng.pick(&[1, 2]), session)
+        let predicate = rng.pick(&[1, 2]);
+        self.some_atom(rng, predicate, session)
+    }
+
+    /// `q` about the wording, with 0 for one of its holders in some places; none where it has a `q` already.
+    pub fn for_every(&self, rng: &mut Rng, part: &Part) -> Option<(Part, u32)> {
+        let mut some: Vec<u32> = part.holders().into_iter().collect();
+        some.push(rng.pick(&self.holders));
+        let holder = if rng.chance(1, 8) { rng.between(1, LAST_HOLDER) } else { rng.pick(&some) };
+        (!part.has_q()).then(|| (for_all(&part.bound(rng, holder)), holder))
     }
 
     /// Any wording with these weights (a session for each unit) that is even within.
@@ -158,7 +181,7 @@ impl World {
             return self.leaf(rng, want);
         }
         let fuel = fuel.saturating_sub(1);
-        let kind = if fuel == 0 { 't' } else { rng.pick(&['t', 't', 'w', 'p', 'l', 'u', 'b', 'h', 's']) };
+        let kind = if fuel == 0 { 't' } else { rng.pick(&['t', 't', 'w', 'p', 'l', 'u', 'b', 'h', 's', 'q']) };
         match kind {
             'w' => with(&self.wording(rng, want, fuel / 2), &self.wording(rng, want, fuel / 2)),
             'p' => plus(&self.wording(rng, want, fuel / 2), &self.wording(rng, want, fuel / 2)),
@@ -171,6 +194,10 @@ impl World {
             'b' if want.is_empty() => bang(&self.wording(rng, &[], fuel)),
             'h' => at(&self.wording(rng, want, fuel), self.any(rng)),
             's' => says(rng.pick(&self.principals), &self.wording(rng, want, fuel)),
+            'q' => {
+                let part = self.wording(rng, want, fuel);
+                self.for_every(rng, &part).map_or(part, |(wording, _)| wording)
+            }
             _ => {
                 let cut = rng.below(want.len() + 1);
                 let cut = if want.len() >= 2 { cut.clamp(1, want.len() - 1) } else { cut };

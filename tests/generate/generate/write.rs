@@ -4,11 +4,12 @@ use super::derivation::{Deriv, Goal, Hyp, Id, Node};
 use super::wording::{Part, Window};
 use std::collections::BTreeMap;
 
-/// A step line: letters, then label, share and window where it has them.
+/// A step line: letters, then label, holder, share and window where it has them.
 #[derive(Clone, PartialEq, Debug)]
 pub struct StepLine {
     pub letters: &'static str,
     pub label: Option<u32>,
+    pub holder: Option<u32>,
     pub share: Option<u64>,
     pub window: Option<Window>,
 }
@@ -18,6 +19,9 @@ impl StepLine {
         let mut text = self.letters.to_string();
         if let Some(label) = self.label {
             text += &format!(",{label}");
+        }
+        if let Some(holder) = self.holder {
+            text += &format!(",{holder}");
         }
         if let Some(share) = self.share {
             text += &format!(",{share:016x}");
@@ -120,6 +124,7 @@ impl Script {
         StepLine {
             letters: node.letters,
             label: node.l.map(|id| labels[&id]),
+            holder: node.holder,
             share: node.share.as_ref().map(|s| s.iter().map(bit).sum()),
             window: node.window,
         }
@@ -156,6 +161,11 @@ impl Script {
             "tr" | "ll" | "ul" => self.stuck(starts[1]),
             _ => self.stuck(starts[0]),
         }
+    }
+
+    /// The line behind the last of the premise that begins here.
+    pub fn end(&self, start: usize) -> usize {
+        self.scenes[start].starts.last().map_or(start + 1, |last| self.end(*last))
     }
 
     /// The first line from here on that names the label or has it in its share.

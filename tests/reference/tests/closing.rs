@@ -45,6 +45,7 @@ fn every_letter_is_written_as_it_was_worded() {
         "a,0,0", "a,1,7", "a,2,65535", "a,255,256", "o", "t,0,1", "t,1,0", "w,0,1", "p,0,1", "l,0,1", "u,0,1", "b,0",
         "h,0,0,0,0,0", "h,1,0,9999999,1,9999998", "h,10,3,9,4,5", "s,0,1", "s,255,0", "g,0,9,0,0,1,2,0,0",
         "g,1,2,0,0,0,9,0,0", "g,10,90,20,30,40,80,50,60", "g,0,9999999,1,9999998,9999997,9999999,9999998,9999998",
+        "n,0,0,0", "n,1,7,0", "n,2,65535,65535", "n,255,256,10", "q,0", "q,22", "q,10", "t,25,26",
     ];
     let mut till = Till::new();
     for (number, line) in lines.iter().enumerate() {
@@ -68,7 +69,11 @@ fn numbers_of_every_length_in_every_field() {
     for session in lengths(65_535) {
         opened(&text(1, &[&format!("a,1,{session}")], &[]));
     }
+    for holder in lengths(65_535) {
+        opened(&text(1, &[&format!("n,1,7,{holder}"), &format!("n,2,{holder},7"), "q,0", "q,1"], &[]));
+    }
     for number in lengths(255) {
+        opened(&text(1, &[&format!("n,{number},9,8")], &[]));
         opened(&text(1, &[&format!("a,{number},9"), &format!("s,{number},0")], &[]));
     }
     for minute in lengths(9_999_999) {
@@ -93,6 +98,16 @@ fn numbers_of_every_length_in_every_field() {
         let last = if count == 200 { Refused(14, 0) } else { Done(count as u32) };
         assert_eq!(ask(&mut till, &format!("word,s,7,{}", count - 1)), last);
         opened(&text_of(&till));
+    }
+}
+
+#[test]
+fn every_number_of_a_part_of_q() {
+    let words: Vec<String> = (0..199).map(|session| format!("a,3,{session}")).collect();
+    for part in 0..199 {
+        let line = format!("q,{part}");
+        let words: Vec<&str> = words.iter().map(String::as_str).chain([&line[..]]).collect();
+        opened(&text(1, &words, &[]));
     }
 }
 

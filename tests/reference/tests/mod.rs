@@ -7,6 +7,7 @@ use super::{Answer, Till};
 
 mod breaks;
 mod closing;
+mod holders;
 mod house;
 mod opening;
 mod ranges;
@@ -131,6 +132,10 @@ fn refusal_2_for_any_broken_form() {
         "word,a,,7", "word,a,1;7", "word,a,1,0x7", "word,\"a\",1,7", "word\na,1,7", "word,\na,1,7",
         "word,aa,1,7", "word,b,1,1", "word,t,0", "word,t,0,0,0", "word,h,0,1", "word,h,0,1,2,0",
         "word,h,0,1,2,0,0,0", "word,g,1,2,0,0,3,4,0", "word,g,1,2,0,0,3,4,0,0,5", "word,s,1",
+        "word,n", "word,n,", "word,n,1", "word,n,1,7", "word,n,1,7,", "word,n,1,7,5,", "word,n,1,7,5,6",
+        "word,n,1,7,05", "word,n,1,07,5", "word,n,01,7,5", "word,n,1,7, 5", "word,n,1,7,-5", "word,N,1,7,5",
+        "word,nn,1,7,5", "word,n,,7,5", "word,n,1,,5", "word,q", "word,q,", "word,q,0,", "word,q,0,0", "word,q,00",
+        "word,q0", "word,Q,0", "word,q,a",
         "issue,x,0,0,9,0,0", "issue,S,0,0,9,0,0", "issue,,0,0,9,0,0", "issue,sr,0,0,9,0,0", "issue,s,0,0",
         "issue,s,0,0,9,0", "issue,s,0,0,9,0,0,", "issue,s,0,0,9,0,0,0", "issue,s,0,0,9,0,,0",
         "issue,s,0,0,9,,0", "issue,s,0,0,9,00,0", "issue,s,0,0,9,0,00", "issue,s,0,0,9,03,4",
@@ -176,6 +181,8 @@ fn refusal_2_for_broken_step_lines_even_after_a_wrong_step() {
         "tl", "ol", "w1", "w2", "w3,0", "p3", "pl", "ll,0", "ll,0,0000000000000000,0", "ul,0,0",
         "ll,0,0000000000000000,0,0,0", "ll,0,0000000000000000,0,0,0,0,0", "ll,0,0,0,0,0,0", "ul,0,0,0,0",
         "ul,0,0,0,0,0,0", "bl", "hl", "sl", "AX,0", "a,0", "axx,0",
+        "al", "al,", "al,0", "al,0,", "al,0,5,", "al,0,5,6", "al,0,05", "al,00,5", "al,,5", "al,0,0", "al,5,00",
+        "AL,0,5", "al,0,-5", "al,0, 5", "al,0,5,6,0,0", "ar", "ar,5", "qr", "ql,0,5", "all,0,5",
     ];
     for step in broken {
         let sheet = booking("0,0,0,9,0,0", &[], &["or", step]);
@@ -217,7 +224,7 @@ fn refusal_3_comes_before_10() {
 #[test]
 fn refusal_10_for_every_named_formula() {
     let words = ["word,a,9,7"];
-    let parts = ["t,0,1", "t,1,0", "w,0,1", "p,1,0", "l,0,1", "u,1,0", "b,1", "s,0,1", "t,0,999"];
+    let parts = ["t,0,1", "t,1,0", "w,0,1", "p,1,0", "l,0,1", "u,1,0", "b,1", "s,0,1", "t,0,999", "q,1", "q,999"];
     for line in parts.into_iter().chain(["h,1,0,0,0,0", "h,1,0,9,3,4"]) {
         assert_eq!(after(&words, &format!("word,{line}")), Refused(10, 0), "{line}");
     }

@@ -3,9 +3,10 @@
 use super::{ask, opened, refusal_of, text, text_of, till_after, Done, Refused, Till};
 
 /// A text with every letter, both kinds, breaks, and numbers of one digit and of several.
-const WORDS: [&str; 14] = [
+const WORDS: [&str; 17] = [
     "a,1,7", "a,2,65535", "o", "t,0,1", "w,0,0", "p,1,1", "l,0,0", "u,2,6", "b,2", "h,2,0,9,0,0", "h,2,10,99,20,30",
     "s,255,0", "g,0,9,0,0,1,2,0,0", "g,0,100,10,20,5,90,6,89",
+    "n,2,7,0", "q,14", "n,255,65535,65535",
 ];
 const COUPONS: [&str; 4] = ["1,r,6,0,9,0,0", "12,s,3,5,60,10,20", "13,s,11,0,0,0,0", "200,r,13,7,9999999,8,9"];
 
@@ -85,7 +86,7 @@ fn refusal_50_if_counts_do_not_match() {
     let (wordings, coupons) = (WORDS.len(), COUPONS.len());
     let right = format!("{wordings},{coupons}");
     for count in 0..=25 {
-        for (wordings, coupons) in [(count, coupons), (wordings, count), (count, 18 - count.min(18))] {
+        for (wordings, coupons) in [(count, coupons), (wordings, count), (count, 21 - count.min(21))] {
             let changed = format!("{wordings},{coupons}");
             let due = if changed == right { 0 } else { 50 };
             assert_eq!(refusal_of(sample().replacen(&right, &changed, 1).as_bytes()), due, "{changed}");
@@ -191,7 +192,8 @@ fn refusal_50_for_a_field_more_or_less_and_for_old_windows() {
     let lines = [
         "a,1", "a,1,7,0", "a", "a,", "o,", "o,0", "t,0", "t,0,0,0", "w,0", "p,0", "l,0", "u,0", "b", "b,0,0", "s,1",
         "s,1,0,0", "h,0,0,9", "h,0,0,9,0", "h,0,0,9,0,0,0", "g,0,9,0,9", "g,0,9,0,0,1,2,0", "g,0,9,0,0,1,2,0,0,0",
-        "x,0,0", "", "A,1,7", "n,1,7,1", "q,0", "word,a,1,7", "0,a,1,7", "a;1,7", "aa,1,7", "a,1,7,",
+        "x,0,0", "", "A,1,7", "n,1,7", "n,1,7,1,0", "n", "q", "q,", "q,0,0", "N,1,7,1",
+        "Q,0", "x,0", "word,a,1,7", "0,a,1,7", "a;1,7", "aa,1,7", "a,1,7,",
     ];
     for line in lines {
         assert_eq!(refusal_of(text(1, &["a,3,0", line], &[]).as_bytes()), 50, "{line}");
@@ -210,6 +212,7 @@ fn refusal_50_for_a_field_more_or_less_and_for_old_windows() {
 #[test]
 fn refusal_50_for_a_number_out_of_range() {
     let lines = [
+        "n,256,0,0", "n,0,65536,0", "n,0,0,65536", "n,0,0,4294967296", "q,1000",
         "a,256,0", "a,0,65536", "s,256,0", "s,0,1000", "t,1000,0", "t,0,1000", "w,1000,0", "p,0,1000", "l,1000,0",
         "u,0,1000", "b,1000", "h,1000,0,9,0,0", "h,0,10000000,9,0,0", "h,0,0,10000000,0,0", "h,0,0,9,10000000,0",
         "h,0,0,9,0,10000000", "g,10000000,0,0,0,0,0,0,0", "g,0,0,0,0,0,10000000,0,0", "g,0,0,0,10000000,0,0,0,0",
@@ -261,7 +264,9 @@ fn refusal_51_for_a_serial_not_below_next() {
 }
 
 /// The wordings before the line that is tried.
-const BEFORE: [&str; 8] = ["a,9,7", "t,0,0", "t,1,1", "t,2,2", "t,3,3", "t,4,4", "o", "a,1,7"];
+const BEFORE: [&str; 12] = [
+    "a,9,7", "t,0,0", "t,1,1", "t,2,2", "t,3,3", "t,4,4", "o", "a,1,7", "n,9,7,0", "q,8", "t,9,8", "n,9,7,5",
+];
 
 /// The answer to a text that has the line behind some wordings, and to `word` with the line there.
 fn word_both_ways(line: &str) -> (u32, u32) {
@@ -270,7 +275,7 @@ fn word_both_ways(line: &str) -> (u32, u32) {
     let worded = match ask(&mut till, &format!("word,{line}")) {
         Refused(number, 0) => number,
         answer => {
-            assert_eq!(answer, Done(8));
+            assert_eq!(answer, Done(12));
             0
         }
     };
@@ -289,10 +294,12 @@ fn refusal_51_for_a_wording_that_word_refuses() {
         ("h,99,5,4,0,0", 3),
         ("h,0,0,9,0,5", 43), ("h,0,0,9,5,0", 43), ("h,0,0,9,0,9", 43), ("h,0,0,9,5,9", 43), ("h,0,0,9,6,5", 43),
         ("h,0,5,9,5,6", 43), ("g,0,9,0,1,0,9,0,0", 43), ("g,0,9,0,0,0,9,9,9", 43), ("g,0,1,1,1,0,9,0,0", 43),
-        ("t,0,8", 10), ("t,8,0", 10), ("w,8,8", 10), ("p,0,9", 10), ("l,9,0", 10), ("u,0,199", 10), ("b,8", 10),
-        ("b,999", 10), ("b,200", 10), ("s,1,8", 10), ("h,8,0,9,0,0", 10), ("h,9,0,9,3,4", 10), ("t,0,999", 10),
+        ("t,0,12", 10), ("t,12,0", 10), ("w,12,12", 10), ("p,0,13", 10), ("l,13,0", 10), ("u,0,199", 10),
+        ("b,12", 10), ("b,999", 10), ("b,200", 10), ("s,1,12", 10), ("h,12,0,9,0,0", 10), ("h,13,0,9,3,4", 10),
+        ("t,0,999", 10), ("q,12", 10), ("q,999", 10), ("q,9", 53), ("q,10", 53),
         ("t,5,0", 12), ("t,0,5", 12), ("t,5,5", 12), ("w,5,0", 12), ("p,5,6", 12), ("l,4,5", 12), ("u,5,1", 12),
-        ("a,9,7", 13), ("t,0,0", 13), ("t,4,4", 13), ("o", 13), ("a,1,7", 13),
+        ("a,9,7", 13), ("t,0,0", 13), ("t,4,4", 13), ("o", 13), ("a,1,7", 13), ("n,9,7,0", 13), ("n,9,7,5", 13),
+        ("q,8", 13),
     ];
     for (line, number) in refused {
         assert_eq!(word_both_ways(line), (51, number), "{line}");
@@ -300,6 +307,7 @@ fn refusal_51_for_a_wording_that_word_refuses() {
     let right = [
         "h,0,5,5,0,0", "h,0,0,9,3,4", "g,9,9,0,0,0,5,1,4", "b,5", "s,1,5", "h,5,0,9,0,0", "t,4,3", "t,7,7",
         "a,9,8", "w,0,0", "a,9,263", "a,7,9", "b,7", "g,0,9,0,0,0,9,0,0",
+        "q,0", "q,5", "q,11", "n,9,7,6", "n,9,5,7", "b,9", "t,9,10", "s,1,8", "l,8,9",
     ];
     for line in right {
         assert_eq!(word_both_ways(line), (0, 0), "{line}");
@@ -348,20 +356,28 @@ fn sizes_of_64_open_and_65_do_not() {
     }
 }
 
-/// The wordings that coupons name: plain and not balanced, balanced and not plain, both, neither.
-const NAMED: [&str; 5] = ["a,1,7", "o", "a,9,7", "l,0,1", "a,2,7"];
+/// The wordings that coupons name: plain and not balanced, balanced and not plain, both, neither; then
+/// with holder 0 outside `q` or only inside.
+const NAMED: [&str; 10] = [
+    "a,1,7", "o", "a,9,7", "l,0,1", "a,2,7", "n,9,7,0", "q,5", "t,6,5", "n,1,7,0", "n,1,7,65535",
+];
 
 #[test]
 fn refusal_51_for_a_coupon_that_issue_refuses() {
     let refused = [
         ("s,0,5,4,0,0", 3), ("r,1,5,4,0,0", 3), ("s,0,1,0,0,0", 3), ("s,99,5,4,7,8", 3), ("r,0,9999999,0,0,0", 3),
         ("s,0,0,9,0,5", 43), ("s,0,0,9,5,0", 43), ("r,1,0,9,9,9", 43), ("s,0,4,9,4,5", 43), ("s,0,0,9,6,5", 43),
-        ("s,0,5,5,5,5", 43), ("s,5,0,9,1,9", 43),
-        ("s,5,0,9,0,0", 10), ("r,5,0,9,0,0", 10), ("s,6,0,9,0,0", 10), ("s,199,0,9,0,0", 10), ("r,200,0,9,0,0", 10),
-        ("s,999,0,9,0,0", 10),
+        ("s,0,5,5,5,5", 43), ("s,10,0,9,1,9", 43),
+        ("s,10,0,9,0,0", 10), ("r,10,0,9,0,0", 10), ("s,11,0,9,0,0", 10), ("s,199,0,9,0,0", 10),
+        ("r,200,0,9,0,0", 10), ("s,999,0,9,0,0", 10), ("s,5,0,9,0,0", 53), ("r,5,0,9,0,0", 53),
+        ("s,7,0,9,0,0", 53), ("r,7,0,9,0,0", 53), ("s,8,0,9,0,0", 53), ("r,8,0,9,0,0", 53),
+        ("s,6,0,9,0,0", 20), ("r,9,0,9,0,0", 21),
         ("s,1,0,9,0,0", 20), ("s,3,0,9,0,0", 20), ("r,0,0,9,0,0", 21), ("r,3,0,9,0,0", 21), ("r,4,0,9,0,0", 21),
     ];
-    let right = ["s,0,0,9,0,0", "s,4,5,5,0,0", "r,1,0,9,1,8", "s,2,0,0,0,0", "r,2,0,9,3,4", "s,2,0,9,8,8"];
+    let right = [
+        "s,0,0,9,0,0", "s,4,5,5,0,0", "r,1,0,9,1,8", "s,2,0,0,0,0", "r,2,0,9,3,4", "s,2,0,9,8,8", "r,6,0,9,0,0",
+        "s,9,0,9,0,0",
+    ];
     let cases = refused.into_iter().chain(right.map(|coupon| (coupon, 0)));
     let requests = NAMED.map(|word| format!("word,{word}"));
     for (coupon, number) in cases {
@@ -396,6 +412,8 @@ fn refusal_50_comes_before_51_anywhere_in_the_text() {
         "till,1,9,1,1\na,1,7\n3,r,0,0,9,0,0\n",
         "till,1,9,1,1\no\n3,r,1,0,9,0,0\n",
         "till,1,9,1,1\no\n9,r,0,0,9,0,0\n",
+        "till,1,9,1,1\nn,9,7,0\n3,r,0,0,9,0,0\n",
+        "till,1,9,3,1\nn,9,7,0\nq,0\nq,1\n3,r,1,0,9,0,0\n",
         "till,1,9,1,1\no\n3,r,0,9,0,0,0\n",
         "till,1,9,1,1\no\n3,r,0,0,9,0,9\n",
         "till,1,9,7,0\na,9,7\nt,0,0\nt,1,1\nt,2,2\nt,3,3\nt,4,4\nt,5,5\n",
@@ -422,7 +440,7 @@ fn refusal_50_comes_before_51_anywhere_in_the_text() {
         }
     }
     // with one more line, right or not
-    for text in &against_rules[..10] {
+    for text in &against_rules[..12] {
         let more = |line: &str| refusal_of(format!("{}{line}\n", text.replacen(",1\n", ",2\n", 1)).as_bytes());
         assert_eq!(more("10,r,0,0,9,0,0"), 51, "{text}");
         for line in ["2,r,0,0,9,0,0", "3,r,0,0,9,0,0", "10,r,0,0,9,0,10000000", "10,r,1000,0,9,0,0", "10,r,0,0,9", ""] {

@@ -21,7 +21,7 @@ fn check(pattern: &str, inside: &[u32], outside: &[u32]) {
 
 #[test]
 fn predicate_and_principal_go_from_0_to_255() {
-    for pattern in ["word,a,#,0", "word,a,#,65535", "word,s,#,0"] {
+    for pattern in ["word,a,#,0", "word,a,#,65535", "word,s,#,0", "word,n,#,0,0", "word,n,#,65535,65535"] {
         check(pattern, &[0, 9, 10, 99, 100, 255], &[256, 260, 300, 999, 1000, 65_535, 65_536, 65_791]);
     }
 }
@@ -30,7 +30,9 @@ fn predicate_and_principal_go_from_0_to_255() {
 fn sessions_go_from_0_to_65_535() {
     // 65,543 is 7 and 131,071 is 65,535 with 16 bits; 16,777,223 is 7 with 24
     let outside = [65_536, 65_537, 65_543, 65_791, 70_000, 99_999, 100_000, 131_071, 655_350, 16_777_223];
-    for pattern in ["word,a,0,#", "word,a,1,#", "word,a,255,#", "tally,#,0", "tally,#,9999999"] {
+    let named = ["word,n,1,#,0", "word,n,0,#,65535"];
+    let others = ["word,a,0,#", "word,a,1,#", "word,a,255,#", "tally,#,0", "tally,#,9999999"];
+    for pattern in named.into_iter().chain(others) {
         check(pattern, &[0, 9, 10, 255, 256, 999, 1000, 9999, 10_000, 32_767, 32_768, 65_535], &outside);
     }
 }
@@ -44,6 +46,20 @@ fn a_session_too_large_breaks_the_form_and_is_never_cut() {
     }
     for number in ["65536", "65543", "4294967303", "18446744073709551623", "065535", "65535 "] {
         assert_eq!(after(&words, &format!("tally,{number},0")), Refused(2, 0), "{number}");
+    }
+}
+
+#[test]
+fn holders_go_from_0_in_n_and_from_1_in_al_to_65_535() {
+    let inside = [1, 9, 10, 255, 256, 999, 1000, 9999, 10_000, 32_767, 32_768, 65_534, 65_535];
+    let outside = [65_536, 65_537, 65_541, 65_791, 70_000, 99_999, 100_000, 131_071, 655_350, 16_777_221];
+    for pattern in ["word,n,0,0,#", "word,n,1,7,#", "word,n,255,65535,#"] {
+        check(pattern, &inside, &outside);
+        check(pattern, &[0], &[]);
+    }
+    for pattern in ["book,0,0,0,0,0,0,0,1\nal,0,#", "book,0,0,0,0,0,0,0,1\nal,63,#"] {
+        check(pattern, &inside, &outside);
+        check(pattern, &[], &[0]);
     }
 }
 
@@ -72,8 +88,8 @@ fn minutes_go_from_0_to_9_999_999() {
 #[test]
 fn formula_numbers_go_from_0_to_999() {
     let patterns = [
-        "issue,s,#,0,0,0,0", "issue,r,#,0,0,0,0", "word,b,#", "word,h,#,0,0,0,0", "word,s,0,#", "word,t,#,0",
-        "word,t,0,#", "word,w,#,0", "word,w,0,#", "word,p,#,0", "word,p,0,#", "word,l,#,0", "word,l,0,#",
+        "issue,s,#,0,0,0,0", "issue,r,#,0,0,0,0", "word,q,#", "word,b,#", "word,h,#,0,0,0,0", "word,s,0,#",
+        "word,t,#,0", "word,t,0,#", "word,w,#,0", "word,w,0,#", "word,p,#,0", "word,p,0,#", "word,l,#,0", "word,l,0,#",
         "word,u,#,0", "word,u,0,#", "book,0,#,0,0,0,0,0,1\nor",
     ];
     for pattern in patterns {
@@ -94,6 +110,7 @@ fn labels_go_from_0_to_63() {
         check(&format!("book,0,0,0,0,0,0,0,1\n{step},#"), &[0, 9, 10, 63], &[64, 99, 100]);
     }
     check("book,0,0,0,0,0,0,0,1\nul,#,0,0,0,0", &[0, 63], &[64]);
+    check("book,0,0,0,0,0,0,0,1\nal,#,1", &[0, 9, 10, 63], &[64, 99, 100]);
     check("book,0,0,0,0,0,0,0,1\nll,#,0000000000000000,0,0,0,0", &[0, 63], &[64]);
 }
 

@@ -120,17 +120,21 @@ fn random_window(numbers: &mut Numbers) -> String {
 
 /// A wording line over `count` earlier ones, at times one that is refused.
 fn random_wording(numbers: &mut Numbers, count: usize) -> String {
-    let letter = b"atwplubhsgoats"[numbers.below(14)] as char;
+    let letter = b"atwplubhsgoatsnq"[numbers.below(16)] as char;
     let part = |numbers: &mut Numbers| {
         let later = numbers.below(40) == 0;
         numbers.below(count + usize::from(later))
     };
     match letter {
         'a' => format!("a,{},{}", numbers.below(4), [0, 7, 263, 65_535][numbers.below(4)]),
+        'n' => {
+            let session = [0, 7, 263, 65_535][numbers.below(4)];
+            format!("n,{},{session},{}", numbers.below(4), [0, 0, 7, 65_535][numbers.below(4)])
+        }
         'o' => "o".to_string(),
         'g' => format!("g,{},{}", random_window(numbers), random_window(numbers)),
         _ if count == 0 => "a,1,7".to_string(),
-        'b' => format!("b,{}", part(numbers)),
+        'b' | 'q' => format!("{letter},{}", part(numbers)),
         's' => format!("s,{},{}", numbers.below(3), part(numbers)),
         'h' => format!("h,{},{}", part(numbers), random_window(numbers)),
         _ => format!("{letter},{},{}", part(numbers), part(numbers)),
@@ -292,8 +296,9 @@ fn opening_asks_what_word_and_issue_ask() {
 
 #[test]
 fn opening_asks_the_same_of_a_text_with_any_byte_changed_put_in_or_left_out() {
-    let words = ["a,1,7", "o", "t,0,0", "l,0,0", "h,1,0,9,3,4", "g,10,11,0,0,0,9,0,0"];
-    let text = text(12, &words, &["2,r,3,0,12,3,4", "10,s,2,5,6,0,0", "11,s,0,9,9,0,0"]).into_bytes();
+    let words = ["a,1,7", "o", "t,0,0", "l,0,0", "h,1,0,9,3,4", "g,10,11,0,0,0,9,0,0", "n,9,7,0", "q,6", "n,1,7,5"];
+    let coupons = ["2,r,3,0,12,3,4", "10,s,2,5,6,0,0", "11,s,0,9,9,0,0", "12,r,7,0,9,0,0", "13,s,8,0,9,0,0"];
+    let text = text(14, &words, &coupons).into_bytes();
     let mut scratch = Till::new();
     let mut seen = [0; 52];
     let mut check = |text: &[u8]| {
@@ -306,7 +311,7 @@ fn opening_asks_the_same_of_a_text_with_any_byte_changed_put_in_or_left_out() {
         let mut changed = text.clone();
         changed.remove(at);
         check(&changed);
-        for &byte in b"0123456789abghloprstuwilx,\n\r \0-+\xff" {
+        for &byte in b"0123456789abghlnopqrstuwilx,\n\r \0-+\xff" {
             changed.insert(at, byte);
             check(&changed);
             changed.insert(at + 1, text[at]);
@@ -319,8 +324,9 @@ fn opening_asks_the_same_of_a_text_with_any_byte_changed_put_in_or_left_out() {
 
 #[test]
 fn opening_asks_the_same_of_a_text_with_any_two_lines_exchanged_or_one_repeated() {
-    let words = ["a,1,7", "o", "t,0,0", "l,0,0", "h,1,0,9,3,4", "b,4"];
-    let text = text(12, &words, &["2,r,3,0,12,3,4", "10,s,2,5,6,0,0", "11,s,0,9,9,0,0"]);
+    let words = ["a,1,7", "o", "t,0,0", "l,0,0", "h,1,0,9,3,4", "b,4", "n,9,7,0", "q,6", "n,9,7,5"];
+    let coupons = ["2,r,3,0,12,3,4", "10,s,2,5,6,0,0", "11,s,0,9,9,0,0", "12,r,7,0,9,0,0", "13,s,8,0,9,0,0"];
+    let text = text(14, &words, &coupons);
     let lines: Vec<&str> = text.lines().collect();
     let mut scratch = Till::new();
     let mut check = |lines: &[&str]| {

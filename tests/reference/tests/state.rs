@@ -386,30 +386,31 @@ const SESSIONS: [u32; 7] = [0, 7, 255, 263, 32_767, 65_279, 65_535];
 /// Principals of the random wordings below, the house twice.
 const PRINCIPALS: [usize; 5] = [0, 1, 1, 2, 255];
 
-/// A wording line as letter and numbers, for the plain recursions below.
-type Line = (char, usize, usize);
+/// A wording line as letter and numbers, for the plain recursions below; an atom's holder comes last.
+type Line = (char, usize, usize, usize);
 
 /// The weight for a session, read from the paper's sentence.
 fn weight(lines: &[Line], id: usize, session: usize) -> i32 {
-    let (letter, i, j) = lines[id];
+    let (letter, i, j, _) = lines[id];
     let part = |part| weight(lines, part, session);
     match letter {
-        'a' => i32::from((i == 1 || i == 2) && j == session),
+        'a' | 'n' => i32::from((i == 1 || i == 2) && j == session),
         't' => part(i) + part(j),
         'w' | 'p' => part(i),
         'l' => part(j) - part(i),
         'u' => part(j),
-        'b' => part(i),
+        'b' | 'q' => part(i),
         _ => part(j),
     }
 }
 
 /// "In every part, itself included", for a session.
 fn even(lines: &[Line], id: usize, session: usize) -> bool {
-    let (letter, i, j) = lines[id];
+    let (letter, i, j, _) = lines[id];
     let weigh = |part| weight(lines, part, session);
     match letter {
-        'a' => true,
+        'a' | 'n' => true,
+        'q' => even(lines, i, session),
         'b' => weigh(i) == 0 && even(lines, i, session),
         's' => even(lines, j, session),
         _ => {
@@ -425,10 +426,10 @@ fn even(lines: &[Line], id: usize, session: usize) -> bool {
 
 /// How many atoms of a predicate and session stand in a wording.
 fn count(lines: &[Line], id: usize, predicate: usize, session: usize) -> u32 {
-    let (letter, i, j) = lines[id];
+    let (letter, i, j, _) = lines[id];
     match letter {
-        'a' => u32::from(i == predicate && j == session),
-        'b' => count(lines, i, predicate, session),
+        'a' | 'n' => u32::from(i == predicate && j == session),
+        'b' | 'q' => count(lines, i, predicate, session),
         's' => count(lines, j, predicate, session),
         _ => count(lines, i, predicate, session) + count(lines, j, predicate, session),
     }
@@ -437,28 +438,60 @@ fn count(lines: &[Line], id: usize, predicate: usize, session: usize) -> u32 {
 /// How many seats of a session have principal 1 as their nearest ⟨K⟩; `nearest` is the one around
 /// the wording, if any.
 fn house(lines: &[Line], id: usize, session: usize, nearest: Option<usize>) -> u32 {
-    let (letter, i, j) = lines[id];
+    let (letter, i, j, _) = lines[id];
     match letter {
-        'a' => u32::from(i == 1 && j == session && nearest == Some(1)),
-        'b' => house(lines, i, session, nearest),
+        'a' | 'n' => u32::from(i == 1 && j == session && nearest == Some(1)),
+        'b' | 'q' => house(lines, i, session, nearest),
         's' => house(lines, j, session, Some(i)),
         _ => house(lines, i, session, nearest) + house(lines, j, session, nearest),
     }
 }
 
-/// Adds a random line if the till takes it.
+/// The parts of a line.
+fn parts((letter, i, j, _): Line) -> Vec<usize> {
+    match letter {
+        'a' | 'n' => vec![],
+        'b' | 'q' => vec![i],
+        's' => vec![j],
+        _ => vec![i, j],
+    }
+}
+
+/// A letter stands in a wording.
+fn stands(lines: &[Line], id: usize, letter: char) -> bool {
+    lines[id].0 == letter || parts(lines[id]).into_iter().any(|part| stands(lines, part, letter))
+}
+
+/// Holder 0 stands in a wording outside `q`.
+fn loose(lines: &[Line], id: usize) -> bool {
+    match lines[id] {
+        ('n', _, _, holder) => holder == 0,
+        ('q', ..) => false,
+        line => parts(line).into_iter().any(|part| loose(lines, part)),
+    }
+}
+
+/// Adds a random line if the till takes it. It gives 53 if that is a `q` within `q`.
 fn grow(till: &mut Till, lines: &mut Vec<Line>, numbers: &mut Numbers) {
-    let letter = ['a', 't', 'w', 'p', 'l', 'u', 'b', 's', 't', 'l'][numbers.below(10)];
+    let letter = ['a', 't', 'w', 'p', 'l', 'u', 'b', 's', 't', 'l', 'n', 'q'][numbers.below(12)];
     let count = lines.len();
+    let session = SESSIONS[numbers.below(SESSIONS.len())] as usize;
     let line = match letter {
-        'a' => (letter, numbers.below(4), SESSIONS[numbers.below(SESSIONS.len())] as usize),
+        'a' => (letter, numbers.below(4), session, 0),
+        'n' => (letter, numbers.below(4), session, [0, 0, 1, 65_535][numbers.below(4)]),
         _ if count == 0 => return,
-        's' => (letter, PRINCIPALS[numbers.below(PRINCIPALS.len())], numbers.below(count)),
-        _ => (letter, numbers.below(count), numbers.below(count)),
+        's' => (letter, PRINCIPALS[numbers.below(PRINCIPALS.len())], numbers.below(count), 0),
+        _ => (letter, numbers.below(count), numbers.below(count), 0),
     };
-    let (_, i, j) = line;
-    let text = if letter == 'b' { format!("word,b,{i}") } else { format!("word,{letter},{i},{j}") };
-    if let Done(number) = ask(till, &text) {
+    let (_, i, j, holder) = line;
+    let text = match letter {
+        'n' => format!("word,n,{i},{j},{holder}"),
+        'b' | 'q' => format!("word,{letter},{i}"),
+        _ => format!("word,{letter},{i},{j}"),
+    };
+    let answer = ask(till, &text);
+    assert_eq!(answer == Refused(53, 0), letter == 'q' && stands(lines, i, 'q'), "{text} of {lines:?}");
+    if let Done(number) = answer {
         assert_eq!(number as usize, count);
         lines.push(line);
     }
@@ -478,10 +511,19 @@ fn balance_and_tally_are_those_of_a_plain_recursion() {
                 SESSIONS.iter().all(|&session| holds(&lines, id, session as usize))
             };
             let balanced = all(even) && all(|lines, id, session| weight(lines, id, session) == 0);
-            let accepted = matches!(ask(&mut till, &format!("issue,r,{id},0,9,0,0")), Done(_));
-            assert_eq!(accepted, balanced, "{id} of {lines:?}");
-            if matches!(ask(&mut till, &format!("issue,s,{id},0,9,0,0")), Done(_)) {
-                singles.push(id);
+            let plain = !['w', 'p', 'l', 'u', 'b', 'q'].iter().any(|&letter| stands(&lines, id, letter));
+            for (kind, right, number) in [('r', balanced, 21), ('s', plain, 20)] {
+                let number = if loose(&lines, id) { 53 } else { number };
+                match ask(&mut till, &format!("issue,{kind},{id},0,9,0,0")) {
+                    Done(_) => assert!(right && !loose(&lines, id), "{kind} {id} of {lines:?}"),
+                    answer => {
+                        assert_eq!(answer, Refused(number, 0), "{kind} {id} of {lines:?}");
+                        assert!(!right || loose(&lines, id), "{kind} {id} of {lines:?}");
+                    }
+                }
+                if kind == 's' && plain && !loose(&lines, id) {
+                    singles.push(id);
+                }
             }
         }
         for session in SESSIONS {
@@ -502,7 +544,8 @@ fn no_bytes_make_the_call_panic() {
         + "ax,4\nwr\npl,1\nul,0,1,2,0,0\n";
     let seeds = [
         "word,a,1,7\n", "word,t,0,0\n", "word,g,0,9,0,0,1,2,0,0\n", "word,h,0,0,9,3,4\n",
-        "issue,s,0,0,9,5,7\n", "issue,r,1,0,9,0,0\n", "withdraw,1\n", "tally,7,540\n",
+        "issue,s,0,0,9,5,7\n", "issue,r,1,0,9,0,0\n", "withdraw,1\n", "tally,7,540\n", "word,n,1,7,5\n",
+        "word,n,9,7,0\n", "word,q,0\n", "issue,r,2,0,9,0,0\n", "book,0,0,0,9,0,0,1,3\nhold,2\ncp,0\nal,1,5\nax,2\n",
         &format!("book,0,0,0,9,0,0,2,10\nhold,1\nhold,2\n{steps}"),
     ];
     let alphabet = b"0123456789abcdefghijklmnopqrstuvwxyz,\n\r \0\xff-";

@@ -5,7 +5,9 @@ use lib.ListN.{length}
 use borrow.Author.Tests.{ltb-false}
 use borrow.Author.Needs.{needs}
 use Rattle.request.specs.Range.{maxBytes}
+use Rattle.request.specs.Request.{tally}
 use Rattle.call_checks.proofs.Verdicts.{by-verdict}
+use Rattle.call_contracts.specs.Called.{Handled}
 use Rattle.call_contracts.proofs.Laws.{called-long, called-broken, called-read}
 use Rattle.call.proofs.SheetOutcomes.{Begun, line-as, no-request, word-canonical, word-reads}
 use Rattle.call.proofs.call.Statement.{statement}
@@ -68,10 +70,17 @@ returns-5 c =
     let read = first (c .before .before .before .before .before .before) in
     called-read (read .short) (line-as read (c .before .before .before .first3 .given .1)) (c .withdraw .ensures)
 
+-- the session that the line names, and its minute
+tallied : (c : tie.After-tally) →
+    let line = c .before .before .before in
+    let l = now (begun (line .before .before .before) .args .store) in
+    Handled l (tally (line .first4 .given .0 .0) (line .first4 .given .0 .1 .0)) (c .tally .result) l
+tallied c = c .tally .ensures
+
 returns-6 : tie.Need-returns-6
 returns-6 c =
     let read = first (c .before .before .before .before .before .before) in
-    called-read (read .short) (line-as read (c .before .before .before .first4 .given .1)) (c .tally .ensures)
+    called-read (read .short) (line-as read (c .before .before .before .first4 .given .1)) (tallied c)
 
 pub call-spec : {M : Type 1} → statement M
 call-spec =

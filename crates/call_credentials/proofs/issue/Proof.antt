@@ -49,8 +49,8 @@ returns-3 c =
     refused (formed unbroken .pre) (past-intervals unbroken .1)
     (shown (c .before .before .check-present .ensures) (c .enum-told6 .given .1))
 
-check-issuable-requires : tie.Need-check-issuable-requires
-check-issuable-requires c κs =
+check-bound-requires : tie.Need-check-bound-requires
+check-bound-requires c κs =
     let there = c .before in
     let found = by-verdict (there .before .before .check-present .ensures) (there .enum-told5 .given .1) in
     (present there .pre, leb-false _ _ found)
@@ -67,20 +67,46 @@ past-10 c = (
 
 returns-4 : tie.Need-returns-4
 returns-4 c =
+    let there = c .before .before .before .before in
+    refused (present there .pre) (past-10 there .1)
+    (shown (c .before .before .check-bound .ensures) (c .enum-told8 .given .1))
+
+-- where the formula has no unbound holder, the way back to where it is there
+abbrev bound : tie.After-enum-told7 → tie.After-enum-told5
+bound c = c .before .before .before .before
+
+check-issuable-requires : tie.Need-check-issuable-requires
+check-issuable-requires c κs =
+    let there = bound (c .before) in
+    let found = by-verdict (there .before .before .check-present .ensures) (there .enum-told5 .given .1) in
+    (present there .pre, leb-false _ _ found)
+
+-- and 53
+abbrev past-53 : (c : tie.After-enum-told7) →
+    let a = present (bound c) .args in
+    (rest : List Check) × Past (now (a .store)) (a .kind) (a .formula) (a .interval) rest
+past-53 c = (
+  _,
+  past-10 (bound c) .1 ▸ shown (c .before .before .check-bound .ensures) (c .enum-told7 .given .1),
+)
+
+returns-5 : tie.Need-returns-5
+returns-5 c =
     let unissuable = c .before in
-    let there = unissuable .before .before .before .before in
-    issue-unissuable (c .unissuable-number .ensures) (refused (present there .pre) (past-10 there .1)
-    (shown (unissuable .before .before .check-issuable .ensures) (unissuable .enum-told8 .given .1)))
+    let closed = unissuable .before .before .before .before in
+    issue-unissuable (c .unissuable-number .ensures) (refused (present (bound closed) .pre) (past-53 closed .1)
+    (shown (unissuable .before .before .check-issuable .ensures) (unissuable .enum-told10 .given .1)))
 
 issue-checked-requires : tie.Need-issue-checked-requires
 issue-checked-requires c κs =
     let issuable = c .before in
-    let there = issuable .before .before .before .before in
+    let closed = issuable .before .before .before .before in
+    let there = bound closed in
     record {
       good = present there .pre;
       there = by-verdict (there .before .before .check-present .ensures) (there .enum-told5 .given .1);
-      so-far = past-10 there .1
-          ▸ shown (issuable .before .before .check-issuable .ensures) (issuable .enum-told7 .given .1);
+      so-far = past-53 closed .1
+          ▸ shown (issuable .before .before .check-issuable .ensures) (issuable .enum-told9 .given .1);
     }
 
 pub issue-spec : {M : Type 1} → statement M
@@ -99,10 +125,14 @@ issue-spec =
     (λ c. search needs)
     (λ c. search needs)
     returns-3
+    check-bound-requires
+    (λ c. search needs)
+    (λ c. search needs)
+    returns-4
     check-issuable-requires
     (λ c. search needs)
     (λ c. search needs)
     (λ c κs. search needs)
-    returns-4
+    returns-5
     issue-checked-requires
     (λ c. c .issue-checked .ensures))

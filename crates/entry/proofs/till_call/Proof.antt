@@ -7,6 +7,7 @@ use Rattle.ledger.specs.declared.Answer.{Answer}
 use Rattle.ledger.specs.Calls.{told}
 use Rattle.call_contracts.specs.Called.{Called}
 use Rattle.entry.specs.Entered.{numbers, Entered}
+use Rattle.entry.proofs.Clauses.{clause}
 use Rattle.entry.proofs.till_call.Statement.{statement}
 use Rattle.entry.proofs.till_call.Tie as tie
 
@@ -18,10 +19,12 @@ entered c q = record {
   same = λ f k z. c .same f k (c .answer ∙ z);
 }
 
+returns-entered : clause (λ (x : tie.Need-returns) (c : tie.After-tell). x c .0)
+returns-entered c = entered (c .before .before .call .ensures) (c .tell .ensures)
+
+returns-lent : clause (λ (x : tie.Need-returns) (c : tie.After-tell). x c .1)
+returns-lent c = refl
+
 pub till-call-spec : {M : Type 1} → statement M
 till-call-spec =
-    tie.close
-    (tie.spec
-    (λ c κs. search needs)
-    (λ c κs. search needs)
-    (λ c. (entered (c .before .before .call .ensures) (c .tell .ensures), refl)))
+    tie.close (tie.spec (λ c κs. search needs) (λ c κs. search needs) (λ c. (returns-entered c, returns-lent c)))

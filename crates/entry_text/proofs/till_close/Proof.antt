@@ -11,6 +11,7 @@ use Rattle.snapshot.specs.Snapshot.{text}
 use Rattle.snapshot.specs.Reopen.{close}
 use Rattle.snapshot.proofs.Reopen.{close-answers}
 use Rattle.entry.specs.Entered.{numbers}
+use Rattle.entry.proofs.Clauses.{clause}
 use Rattle.entry_text.proofs.till_close.Statement.{statement}
 use Rattle.entry_text.proofs.till_close.Tie as tie
 
@@ -26,15 +27,15 @@ same-length : tie.Need-same-length
 same-length c =
     ap length (c .before .before .before .before .close .ensures .buffer) ∙ close-long _ _
 
-returns : tie.Need-returns
-returns c =
-    let e = c .before .before .before .before .close .ensures in (
-      record {
-        answer = c .tell .ensures ∙ ap numbers (e .answer);
-        buffer = e .buffer;
-      },
-      refl,
-    )
+returns-closed : clause (λ (x : tie.Need-returns) (c : tie.After-tell). x c .0)
+returns-closed c =
+    let e = c .before .before .before .before .close .ensures in
+    record { answer = c .tell .ensures ∙ ap numbers (e .answer); buffer = e .buffer }
+
+returns-lent : clause (λ (x : tie.Need-returns) (c : tie.After-tell). x c .1)
+returns-lent c = refl
 
 pub till-close-spec : {M : Type 1} → statement M
-till-close-spec = tie.close (tie.spec (λ c κs. search needs) (λ c κs. search needs) same-length returns)
+till-close-spec =
+    tie.close
+    (tie.spec (λ c κs. search needs) (λ c κs. search needs) same-length (λ c. (returns-closed c, returns-lent c)))

@@ -12,6 +12,7 @@ use Rattle.store.specs.Store.{ledgerOf}
 use Rattle.text_open.specs.Opened.{Opened}
 use Rattle.entry.specs.Entered.{numbers}
 use Rattle.entry.specs.Saved.{Reopened}
+use Rattle.entry.proofs.Clauses.{clause}
 use Rattle.entry_text.proofs.till_open.Statement.{statement}
 use Rattle.entry_text.proofs.till_open.Tie as tie
 
@@ -25,10 +26,12 @@ reopened {l} {b} o q = record {
   same = λ f k z. o .same f k (o .answer ∙ z);
 }
 
+returns-opened : clause (λ (x : tie.Need-returns) (c : tie.After-tell). x c .0)
+returns-opened c = reopened (c .before .before .open .ensures) (c .tell .ensures)
+
+returns-lent : clause (λ (x : tie.Need-returns) (c : tie.After-tell). x c .1)
+returns-lent c = refl
+
 pub till-open-spec : {M : Type 1} → statement M
 till-open-spec =
-    tie.close
-    (tie.spec
-    (λ c κs. search needs)
-    (λ c κs. search needs)
-    (λ c. (reopened (c .before .before .open .ensures) (c .tell .ensures), refl)))
+    tie.close (tie.spec (λ c κs. search needs) (λ c κs. search needs) (λ c. (returns-opened c, returns-lent c)))

@@ -4,7 +4,7 @@ use Rattle.formula_parts.specs.Parts.{partsOf}
 use Rattle.formula_parts.proofs.parts_of.Statement.{statement}
 use Rattle.formula_parts.proofs.parts_of.Tie as tie
 
-rest : tie.Need-returns-9
+rest : tie.Need-returns-10
 unfolding partsOf
 rest c =
     let m = c .match .rest in
@@ -18,6 +18,7 @@ rest c =
       ne-eqb _ _ (n .0 .1),
       ne-eqb _ _ (n .0 .0 .1),
       ne-eqb _ _ (n .0 .0 .0 .1),
+      ne-eqb _ _ (n .0 .0 .0 .0 .1),
     )
 
 pub parts-of-spec : {M : Type 1} → statement M
@@ -33,4 +34,5 @@ parts-of-spec =
     (λ c. rw (c .match .keys6))
     (λ c. rw (c .match .keys7))
     (λ c. rw (c .match .keys8))
+    (λ c. rw (c .match .keys9))
     rest)

@@ -22,7 +22,7 @@ line-at-requires c κs =
 
 loop-again : tie.Need-loop-again Inv-loop μ-loop
 loop-again c =
-    let r = c .before .before .before in
+    let r = c .before .before .before .before in
     let at = r .before .before in
     let h = r .before .loop-test .taken in
     record {
@@ -39,7 +39,7 @@ first-atom-spec =
     (λ c κs. search needs)
     (λ c. record { few = omega arith; none = λ k h. absurd (omega arith) })
     line-at-requires
-    (λ c. c .before .before .before .before .before .loop .inv)
+    (λ c. c .before .before .before .before .before .before .loop .inv)
     (λ c. search needs)
     (λ c. search needs)
     loop-again

@@ -72,8 +72,8 @@ pub +neutral-within-spec : {M : Type 1} → statement M
     close μ-within
     (λ t. within-lts.spec (within-with t) (within-at t) within.Post
     (λ c κs. search needs) (λ c. search needs)
-    (λ c κs. let s = c .before .before .before .before .before .pre .1 in (s .0, s .2))
-    (λ c. let e = c .before .before .before in
+    (λ c κs. let s = c .before .before .before .before .before .before .pre .1 in (s .0, s .2))
+    (λ c. let e = c .before .before .before .before in
     tries-at _ (parts t (e .before .before) (e .enum-told .given .1) .sessions)
     (tries-atom _ (e .before .before .before .args .part) (c .before .if1 .taken) (c .neutral-for .ensures)))
     (λ c. search needs)
@@ -96,7 +96,7 @@ pub +neutral-within-spec : {M : Type 1} → statement M
     let s = i .before .before .before .pre .1 in
     let a = part-asked (parts t (i .before .before) (i .i2 .given .1) .each .1 .0) (c .line-at3 .ensures) in
     (a .0, (s .0, a .1, x .neutral-within2 .ensures .sure)))
-    (λ c. let e = c .before .before in
+    (λ c. let e = c .before .before .before in
     let s = e .before .before .before in
     tries-at _ (parts t (e .before .before) (e .enum-told .given .1) .sessions)
     (tries-other _ (s .args .part) (s .args .last) (c .if1 .left) (s .pre .1 .2)))

@@ -1,8 +1,18 @@
 -- `read_steps` meets its contract: each turn reads a line.
-use Prim.Native.Nat.{_-_}
+use mathlib.Core.Path.{_≡_, refl, sym, subst}
+use mathlib.Core.List.{List}
+use mathlib.Core.Option.{Option}
+use Prim.Native.Nat.{ℕ, _-_, _≤_, _<_}
+use denote.Ref.{now}
+use lib.Dec.{ltb}
+use lib.ListN.{length}
 use borrow.Author.Needs.{needs}
+use Rattle.request.specs.Request.{Step}
 use Rattle.read_lines.specs.Step.{stepLineOf}
 use Rattle.read_fields.proofs.Then.{seen}
+use Rattle.read_rest.specs.declared.StepsRead.{StepsRead}
+use Rattle.read_rest.specs.declared.StepsRead.the-variants.{Read as AllRead}
+use Rattle.read_rest.specs.LinesRead.{StepsIs}
 use Rattle.read_rest.proofs.Reading.{Reading, first-reading, no-step, next-reading, more-bytes}
 use Rattle.read_rest.proofs.Reading.{all-lines-read}
 use Rattle.read_rest.proofs.Told.{none-told, all-told}
@@ -26,13 +36,33 @@ loop-again c =
     (e .before .reversed-count .ensures) (e .broken-count .ensures)
     (search needs)
 
+-- bytes are left after the last line, or none
+bytes-left : (c : tie.Then1 Inv-loop μ-loop) →
+    let loop = c .before .before in loop .loop .at < length (now (loop .before .before .before .before .args .s))
+bytes-left c = c .if1 .taken
+
+at-the-end : (c : tie.Else1 Inv-loop μ-loop) →
+    let loop = c .before .before in length (now (loop .before .before .before .before .args .s)) ≤ loop .loop .at
+at-the-end c = c .if1 .left
+
 returns-2 : tie.Need-returns-2 Inv-loop μ-loop
-returns-2 c =
-    none-told (more-bytes (c .before .before .loop .inv) (c .before .loop-test .left) (c .if1 .taken))
+returns-2 c = none-told (more-bytes (c .before .before .loop .inv) (c .before .loop-test .left) (bytes-left c))
+
+abbrev answer : {q : Option (List Step)} {n : ℕ} {rows : List ℕ} {r : StepsRead} → StepsIs q n rows r → StepsRead
+answer {r = r} is = r
+
+-- a law of what is returned, which takes it from what the need asks of it
+abbrev part : {A B : Type 0} → (A → B → B) → Type 0
+part {B = B} _ = B
+
+answers-both : part (λ (x : tie.Need-returns-3 Inv-loop μ-loop) (y : (c : tie.Else1 Inv-loop μ-loop) →
+    let loop = c .before .before .loop in answer (x c) ≡ AllRead (ltb 0 (loop .reversed)) (ltb 0 (loop .broken))). y)
+answers-both c = refl
 
 returns-3 : tie.Need-returns-3 Inv-loop μ-loop
 returns-3 c =
-    all-told (all-lines-read (c .before .before .loop .inv) (c .before .loop-test .left) (c .if1 .left))
+    subst (StepsIs _ _ _) (sym (answers-both c))
+    (all-told (all-lines-read (c .before .before .loop .inv) (c .before .loop-test .left) (at-the-end c)))
 
 pub read-steps-spec : {M : Type 1} → statement M
 read-steps-spec =

@@ -5,8 +5,8 @@ use Prim.Native.Nat.{ℕ}
 use borrow.Author.Needs.{needs}
 use Rattle.text_write.specs.declared.Shape.{Shape}
 use Rattle.text_write.specs.Put.{ended, shapeFields}
-use Rattle.text_write.proofs.Lengths.{measured-as, one-measured, bang-measured}
-use Rattle.text_write.proofs.Lengths.{pair-measured, at-measured, superset-measured}
+use Rattle.text_write.proofs.Lengths.{measured-as, one-measured, single-measured}
+use Rattle.text_write.proofs.Lengths.{pair-measured, at-measured, superset-measured, triple-measured}
 use Rattle.text_write.proofs.formula_length.Statement.{statement}
 use Rattle.text_write.proofs.formula_length.Tie as tie
 
@@ -44,11 +44,18 @@ formula-length-spec =
     (λ c κs. search needs)
     (λ c. search needs)
     (λ c. search needs)
+    (λ c. search needs)
+    (λ c κs. search needs)
+    (λ c κs. search needs)
+    (λ c. search needs)
+    (λ c κs. search needs)
+    (λ c. search needs)
+    (λ c. search needs)
     (λ c. measured-as (text (c .before .before .shape-of .ensures) (c .enum-told .given .1)) one-measured)
     (λ c.
     let told = c .before .before in
     measured-as (text (told .before .before .shape-of .ensures) (told .shape .given .1))
-    (bang-measured _ (c .digits-length .ensures)))
+    (single-measured _ _ (c .digits-length .ensures)))
     returns-3
     (λ c.
     let told = c .before .before .before in
@@ -57,4 +64,9 @@ formula-length-spec =
     (λ c.
     let told = c .before .before .before in
     measured-as (text (told .before .before .shape-of .ensures) (told .shape4 .given .1))
-    (superset-measured _ _ (c .before .interval-length2 .ensures) (c .interval-length3 .ensures))))
+    (superset-measured _ _ (c .before .interval-length2 .ensures) (c .interval-length3 .ensures)))
+    (λ c.
+    let told = c .before .before .before .before in
+    measured-as (text (told .before .before .shape-of .ensures) (told .shape5 .given .1))
+    (triple-measured _ _ _ (c .before .before .digits-length5 .ensures) (c .before .digits-length6 .ensures)
+    (c .digits-length7 .ensures))))

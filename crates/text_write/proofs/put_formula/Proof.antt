@@ -27,6 +27,13 @@ put-superset-requires c κs =
     let shape = told .before .before in
     room-as (sym (text (shape .shape-of .ensures) (told .shape4 .given .1))) (shape .before .before .pre)
 
+put-triple-requires : tie.Need-put-triple-requires
+unfolding shapeFields
+put-triple-requires c κs =
+    let told = c .before .before in
+    let shape = told .before .before in
+    room-as (sym (text (shape .shape-of .ensures) (told .shape5 .given .1))) (shape .before .before .pre)
+
 returns-3 : tie.Need-returns-3
 unfolding shapeFields
 returns-3 c =
@@ -67,6 +74,8 @@ put-formula-spec =
     (λ c. search needs)
     put-superset-requires
     (λ c. search needs)
+    put-triple-requires
+    (λ c. search needs)
     (λ c.
     let told = c .before .before .before .before in
     wrote-as (text (told .before .before .shape-of .ensures) (told .enum-told .given .1))
@@ -75,7 +84,7 @@ put-formula-spec =
     (λ c.
     let told = c .before .before .before .before .before in
     wrote-as (text (told .before .before .shape-of .ensures) (told .shape .given .1))
-    (c .before .before .put-bang .ensures))
+    (c .before .before .put-single .ensures))
     (λ c. search needs)
     returns-3
     (λ c. search needs)
@@ -84,4 +93,9 @@ put-formula-spec =
     wrote-as (text (told .before .before .shape-of .ensures) (told .shape3 .given .1))
     (c .before .before .put-at .ensures))
     (λ c. search needs)
-    returns-5)
+    returns-5
+    (λ c. search needs)
+    (λ c.
+    let told = c .before .before .before .before .before in
+    wrote-as (text (told .before .before .shape-of .ensures) (told .shape5 .given .1))
+    (c .before .before .put-triple .ensures)))

@@ -7,7 +7,7 @@ use Rattle.text_write.specs.Put.{shapeFields}
 use Rattle.text_write.proofs.shape_of.Statement.{statement}
 use Rattle.text_write.proofs.shape_of.Tie as tie
 
-rest : tie.Need-returns-11
+rest : tie.Need-returns-13
 unfolding shapeFields lineFields lineOf bytes
 rest c =
     let m = c .match .rest in
@@ -23,6 +23,8 @@ rest c =
       ne-eqb _ _ (n .0 .0 .1),
       ne-eqb _ _ (n .0 .0 .0 .1),
       ne-eqb _ _ (n .0 .0 .0 .0 .1),
+      ne-eqb _ _ (n .0 .0 .0 .0 .0 .1),
+      ne-eqb _ _ (n .0 .0 .0 .0 .0 .0 .1),
     )
 
 returns-2 : tie.Need-returns-2
@@ -50,4 +52,6 @@ shape-of-spec =
     (λ c. rw (c .before .match .keys8))
     returns-9
     (λ c. rw (c .before .before .match .keys10))
+    (λ c. rw (c .match .keys11))
+    (λ c. rw (c .match .keys12))
     rest)

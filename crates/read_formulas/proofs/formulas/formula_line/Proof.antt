@@ -10,7 +10,7 @@ use Rattle.request.specs.Request.{Line}
 use Rattle.request.specs.Read.{part, parts, formulaLineWith}
 use Rattle.ledger.specs.Table.{lettered}
 use Rattle.read_formulas.specs.Line.{rowed}
-use Rattle.read_formulas.proofs.FormulaLetters.{one-row, numbers-line, at-row, superset-row}
+use Rattle.read_formulas.proofs.FormulaLetters.{one-row, numbers-line, at-row, superset-row, named-row}
 use Rattle.read_formulas.proofs.FormulaLetters.{letter-short, letter-fields, letter-one, letter-one-bare}
 use Rattle.read_formulas.proofs.FormulaLetters.{letter-bare}
 use Rattle.read_formulas.proofs.FormulaLetters.{letter-other, row-told}
@@ -61,6 +61,8 @@ formula-line-spec =
     (λ c κs. search needs)
     (λ c κs. search needs)
     (λ c κs. search needs)
+    (λ c κs. search needs)
+    (λ c κs. search needs)
     returns-5
     (λ c. let d = c .before .before .before .before in
     c .one-field .ensures
@@ -93,5 +95,15 @@ formula-line-spec =
     (λ c. let d = c .before .before .before .before in
     numbers-line _ _ (d .before .before .if1 .left) (code "w") (formulaNumber .last) (formulaNumber .last) Line.with
     (c .before .match .keys10) (c .before .before .if4 .left) (λ b. refl) (λ i j. refl) (c .two-fields7 .ensures))
+    (λ c. let d = c .before .before .before .before in
+    c .named-fields .ensures
+    ∙ sym (ap rowed (letter-fields _ _ (d .before .before .if1 .left) (code "n") (c .before .match .keys11)
+    (c .before .before .if4 .left))
+    ∙ named-row _ (c .before .match .keys11) _))
+    (λ c. let d = c .before .before .before .before in
+    c .one-field2 .ensures
+    ∙ sym (ap rowed (letter-fields _ _ (d .before .before .if1 .left) (code "q") (c .before .match .keys12)
+    (c .before .before .if4 .left))
+    ∙ one-row _ Line.forEvery (λ i. ap (λ l. lettered l i 0) (sym (c .before .match .keys12))) _))
     (λ c. let d = c .before .before .before .before in
     sym (ap rowed (letter-other _ _ (d .before .if1 .left) (c .match .rest, c .before .before .if2 .left)))))

@@ -38,4 +38,5 @@ op-of-spec =
     (λ c. op-at _ _ _ (omega (arith, c .before .fits .b)) (c .match .keys20))
     (λ c. op-at _ _ _ (omega (arith, c .before .fits .b)) (c .match .keys21))
     (λ c. op-at _ _ _ (omega (arith, c .before .fits .b)) (c .match .keys22))
+    (λ c. op-at _ _ _ (omega (arith, c .before .fits .b)) (c .match .keys23))
     (λ c. sym (op-none _ _ (c .match .rest))))

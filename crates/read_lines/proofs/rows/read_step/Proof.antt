@@ -1,7 +1,7 @@
 -- `read_step` meets its contract: a line by its word.
 use mathlib.Core.Path.{sym, _∙_}
 use borrow.Author.Needs.{needs}
-use Rattle.step_rows.specs.StepRows.{trNumber, llNumber, ulNumber}
+use Rattle.step_rows.specs.StepRows.{trNumber, alNumber, llNumber, ulNumber}
 use Rattle.read_lines.proofs.Ops.{step-short, step-plain, step-plain-on, step-bare, step-fields, step-label}
 use Rattle.read_lines.proofs.Ops.{step-none, step-told}
 use Rattle.read_lines.proofs.rows.read_step.Statement.{statement}
@@ -20,13 +20,13 @@ returns-3 c =
     ∙ sym (step-plain _ _ (d .before .before .before .if1 .left) (d .op-of .ensures) (c .before .before .if2 .taken)
     (c .before .if3 .left))
 
-returns-8 : tie.Need-returns-8
-returns-8 c =
+returns-9 : tie.Need-returns-9
+returns-9 c =
     let d = c .before .before .before .before in
     let e = d .before .before .before .before in
     c .implies-fields .ensures
-    ∙ sym (step-fields _ _ (e .before .before .before .if1 .left) (e .op-of .ensures) (d .before .if4 .left) ulNumber
-    (c .before .if8 .taken))
+    ∙ sym (step-fields _ _ (e .before .before .before .before .if1 .left) (e .before .op-of .ensures)
+    (d .before .before .if4 .left) ulNumber (c .before .if9 .taken))
 
 pub read-step-spec : {M : Type 1} → statement M
 read-step-spec =
@@ -63,13 +63,19 @@ read-step-spec =
     (λ c κs. search needs)
     (λ c. let d = c .before .before .before .before in
     let e = d .before .before .before .before in
-    c .lolli-fields .ensures
+    c .holder-fields .ensures
     ∙ sym (step-fields _ _ (e .before .before .if1 .left) (d .before .before .before .op-of .ensures)
-    (d .if4 .left) llNumber (c .before .if7 .taken)))
+    (d .if4 .left) alNumber (c .before .if7 .taken)))
     (λ c κs. search needs)
-    returns-8
     (λ c. let d = c .before .before .before .before in
     let e = d .before .before .before .before in
-    sym (step-none _ _ (e .before .before .if1 .left) (d .before .before .before .op-of .ensures) (d .if4 .left)
-    (c .before .before .if6 .left)
-    (c .before .if7 .left) (c .if8 .left))))
+    c .lolli-fields .ensures
+    ∙ sym (step-fields _ _ (e .before .before .before .if1 .left) (e .op-of .ensures) (d .before .if4 .left) llNumber
+    (c .before .if8 .taken)))
+    (λ c κs. search needs)
+    returns-9
+    (λ c. let d = c .before .before .before .before in
+    let e = d .before .before .before .before in
+    sym (step-none _ _ (e .before .before .before .if1 .left) (e .op-of .ensures) (d .before .if4 .left)
+    (c .before .before .before .if6 .left)
+    (c .before .before .if7 .left) (c .before .if8 .left) (c .if9 .left))))

@@ -1,12 +1,23 @@
 -- `sl` meets its contract.
 use mathlib.Core.Path.{_∙_}
 use borrow.Author.Needs.{needs}
-use Rattle.step_plans.proofs.PlanTests.{when-and}
+use borrow.Author.Tests.{eq-eqb, ne-eqb}
+use Rattle.steps.specs.Plans.{when}
 use Rattle.step_rules.proofs.left.sl.Statement.{statement}
 use Rattle.step_rules.proofs.left.sl.Tie as tie
+
+returns : tie.Need-returns
+unfolding when
+returns c = rw (ne-eqb _ _ (c .if1 .taken))
+
+returns-2 : tie.Need-returns-2
+unfolding when
+returns-2 c =
+    let b = c .before .before .before in
+    rw (eq-eqb _ _ (b .before .if1 .left))
+    (c .linear .ensures ∙ simp (c .before .contains .ensures, b .part-of .ensures))
 
 pub sl-spec : {M : Type 1} → statement M
 sl-spec =
     tie.close
-    (tie.spec (λ c κs. search needs) (λ c κs. search needs)
-    (λ c. c .linear .ensures ∙ rw when-and (simp (c .before .contains .ensures))))
+    (tie.spec returns (λ c κs. search needs) (λ c κs. search needs) (λ c κs. search needs) returns-2)

@@ -1,7 +1,23 @@
 -- `tl` meets its contract.
+use mathlib.Core.Path.{_∙_}
 use borrow.Author.Needs.{needs}
+use borrow.Author.Tests.{eq-eqb, ne-eqb}
+use Rattle.steps.specs.Plans.{when}
 use Rattle.step_rules.proofs.left.tl.Statement.{statement}
 use Rattle.step_rules.proofs.left.tl.Tie as tie
 
+returns : tie.Need-returns
+unfolding when
+returns c = rw (ne-eqb _ _ (c .if1 .taken))
+
+returns-2 : tie.Need-returns-2
+unfolding when
+returns-2 c =
+    let b = c .before in
+    rw (eq-eqb _ _ (b .before .before .if1 .left))
+    (c .both .ensures ∙ simp (b .part-of2 .ensures, b .before .part-of .ensures))
+
 pub tl-spec : {M : Type 1} → statement M
-tl-spec = tie.close (tie.spec (λ c κs. search needs) (λ c. c .both .ensures))
+tl-spec =
+    tie.close
+    (tie.spec returns (λ c κs. search needs) (λ c κs. search needs) (λ c κs. search needs) returns-2)

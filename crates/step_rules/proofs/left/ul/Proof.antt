@@ -1,12 +1,24 @@
 -- `ul` meets its contract.
 use mathlib.Core.Path.{_∙_}
 use borrow.Author.Needs.{needs}
-use Rattle.step_plans.proofs.PlanTests.{when-and}
+use borrow.Author.Tests.{eq-eqb, ne-eqb}
+use Rattle.steps.specs.Plans.{when}
 use Rattle.step_rules.proofs.left.ul.Statement.{statement}
 use Rattle.step_rules.proofs.left.ul.Tie as tie
+
+returns : tie.Need-returns
+unfolding when
+returns c = rw (ne-eqb _ _ (c .if1 .taken))
+
+returns-2 : tie.Need-returns-2
+unfolding when
+returns-2 c =
+    let b = c .before .before in
+    rw (eq-eqb _ _ (b .before .before .if1 .left))
+    (c .applied .ensures ∙ simp (c .before .contains .ensures, b .part-of2 .ensures, b .before .part-of .ensures))
 
 pub ul-spec : {M : Type 1} → statement M
 ul-spec =
     tie.close
-    (tie.spec (λ c κs. search needs) (λ c κs. search needs)
-    (λ c. c .applied .ensures ∙ rw when-and (simp (c .before .contains .ensures))))
+    (tie.spec returns (λ c κs. search needs) (λ c κs. search needs) (λ c κs. search needs) (λ c κs. search needs)
+    returns-2)

@@ -1,14 +1,22 @@
 -- `gr` meets its contract.
 use mathlib.Core.Path.{_∙_}
 use borrow.Author.Needs.{needs}
-use Rattle.step_plans.proofs.PlanTests.{when-and}
+use borrow.Author.Tests.{eq-eqb, ne-eqb}
+use Rattle.steps.specs.Plans.{when}
 use Rattle.step_rules.proofs.right.gr.Statement.{statement}
 use Rattle.step_rules.proofs.right.gr.Tie as tie
 
 returns : tie.Need-returns
-returns c = c .when .ensures ∙ rw when-and (simp (c .before .contains .ensures, c .before .before .is-empty .ensures))
+unfolding when
+returns c = rw (ne-eqb _ _ (c .if1 .taken))
+
+returns-2 : tie.Need-returns-2
+unfolding when
+returns-2 c =
+    rw (eq-eqb _ _ (c .before .before .before .before .before .if1 .left))
+    (c .when .ensures ∙ simp (c .before .contains .ensures, c .before .before .is-empty .ensures))
 
 pub gr-spec : {M : Type 1} → statement M
 gr-spec =
     tie.close
-    (tie.spec (λ c κs. search needs) (λ c κs. search needs) (λ c κs. search needs) returns)
+    (tie.spec returns (λ c κs. search needs) (λ c κs. search needs) (λ c κs. search needs) returns-2)

@@ -1,14 +1,21 @@
 -- `or` meets its contract.
 use mathlib.Core.Path.{_∙_}
 use borrow.Author.Needs.{needs}
-use Rattle.step_plans.proofs.PlanTests.{when-and}
+use borrow.Author.Tests.{eq-eqb, ne-eqb}
+use Rattle.steps.specs.Plans.{when}
 use Rattle.step_rules.proofs.right.or.Statement.{statement}
 use Rattle.step_rules.proofs.right.or.Tie as tie
 
 returns : tie.Need-returns
-returns c = c .when .ensures ∙ simp (c .before .is-empty .ensures, when-and)
+unfolding when
+returns c = rw (ne-eqb _ _ (c .if1 .taken))
+
+returns-2 : tie.Need-returns-2
+unfolding when
+returns-2 c =
+    rw (eq-eqb _ _ (c .before .before .if1 .left)) (c .when .ensures ∙ simp (c .before .is-empty .ensures))
 
 pub or-spec : {M : Type 1} → statement M
 or-spec =
     tie.close
-    (tie.spec (λ c κs. search needs) (λ c κs. search needs) returns)
+    (tie.spec returns (λ c κs. search needs) (λ c κs. search needs) returns-2)

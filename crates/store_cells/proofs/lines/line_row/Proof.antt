@@ -1,4 +1,4 @@
--- `line_row` meets its contract: eleven reads are the row.
+-- `line_row` meets its contract: twelve reads are the row.
 use native.Mathlib.Nat.{add-zero}
 use Rattle.store_cells.specs.Layout.{cell, lineCell}
 use borrow.Author.Needs.{needs}
@@ -18,4 +18,5 @@ line-row-spec =
     (λ c. search needs) (λ c. search needs) (λ c. search needs) (λ c. search needs) (λ c. search needs)
     (λ c. search needs) (λ c. search needs) (λ c. search needs) (λ c. search needs) (λ c. search needs)
     (λ c. search needs) (λ c. search needs) (λ c. search needs) (λ c. search needs) (λ c. search needs)
-    (λ c. search needs) (λ c. search needs) (λ c. search needs) (λ c. search needs) (λ c. search needs) returns)
+    (λ c. search needs) (λ c. search needs) (λ c. search needs) (λ c. search needs) (λ c. search needs)
+    (λ c. search needs) (λ c. search needs) (λ c. search needs) returns)

@@ -1,4 +1,4 @@
--- `put_line` meets its contract: fourteen stores are the row.
+-- `put_line` meets its contract: seventeen stores are the row.
 use Rattle.store_cells.specs.Layout.{lineBase, lineWidth, lineCells, putRow, putLine}
 use Prim.Native.Nat.{_+_, _*_}
 use lib.ListN.{drop}
@@ -10,15 +10,24 @@ use Rattle.store_cells.proofs.lines.put_line.Tie as tie
 returns : tie.Need-returns
 unfolding putLine putRow
 returns c =
-    let a = c .before .before .before .before .args in
-    rw (c .before .before .before .bit-of .ensures, c .before .before .bit-of2 .ensures)
+    let bits = c .before .before in
+    let a = bits .before .before .before .before .args in
+    rw (
+      bits .before .before .before .bit-of .ensures,
+      bits .before .before .bit-of2 .ensures,
+      bits .before .bit-of3 .ensures,
+      bits .bit-of4 .ensures,
+    )
     (row-stored (a .store .now) (lineBase + a .i * lineWidth) (a .row .letter)
-    (drop 1 (lineCells (a .row) (a .size) (a .plain) (a .balanced))))
+    (drop 1 (lineCells (a .row) (a .size) (a .plain) (a .balanced) (a .unbound) (a .quantified))))
 
 pub put-line-spec : {M : Type 1} → statement M
 put-line-spec =
     tie.close
-    (tie.spec (λ c κs. search needs) (λ c κs. search needs) (λ c. search needs) (λ c. search needs)
+    (tie.spec
+    (λ c κs. search needs) (λ c κs. search needs) (λ c κs. search needs) (λ c κs. search needs) (λ c. search needs)
+    (λ c. search needs) (λ c. search needs) (λ c. search needs) (λ c. search needs) (λ c. search needs)
+    (λ c. search needs) (λ c. search needs) (λ c. search needs) (λ c. search needs) (λ c. search needs)
     (λ c. search needs) (λ c. search needs) (λ c. search needs) (λ c. search needs) (λ c. search needs)
     (λ c. search needs) (λ c. search needs) (λ c. search needs) (λ c. search needs) (λ c. search needs)
     (λ c. search needs) (λ c. search needs) (λ c. search needs) (λ c. search needs) (λ c. search needs)
