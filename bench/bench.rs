@@ -26,6 +26,7 @@ const TURNS: usize = 21;
 const TURN: Duration = Duration::from_millis(10);
 /// The buffer lent to closing: some bytes more than the longest text, which have to stay.
 const BUFFER: usize = MAX_TEXT + 64;
+const NUMBERS: usize = 36172; // TILL_NUMBERS
 /// How a closing, and an opening before its text, stand in a list.
 const CLOSE: &[u8] = b":close\n";
 const OPEN: &[u8] = b":open\n";
@@ -63,8 +64,8 @@ trait Side {
 }
 
 struct Proved {
-    block: [u32; 11596],
-    spare: [u32; 11596],
+    block: [u32; NUMBERS],
+    spare: [u32; NUMBERS],
     scratch: [u32; 2048],
     buffer: [u8; BUFFER],
 }
@@ -255,7 +256,7 @@ impl Together {
 
 fn main() {
     let mut proved =
-        Box::new(Proved { block: [0; 11596], spare: [0; 11596], scratch: [0; 2048], buffer: [0; BUFFER] });
+        Box::new(Proved { block: [0; NUMBERS], spare: [0; NUMBERS], scratch: [0; 2048], buffer: [0; BUFFER] });
     let mut reference = Box::new(Reference { till: Till::new(), buffer: [0; BUFFER] });
     let words: Vec<String> = std::env::args().skip(1).collect();
     if words[0] == "--once" {

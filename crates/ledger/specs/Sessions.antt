@@ -149,15 +149,16 @@ counting zero k = []
 counting (suc n) k = k ∷ counting n (suc k)
 
 -- "M1's words, `issue,r,2,0,9`, then 511 times `issue,s,2,0,9`: `book,0,2,0,9,1,1` with hold 2 and step `ax,0` gives
--- ok,513; then `book,0,2,0,9,1,2` with hold 1 and steps `cp,0` `ax,1` gives no,22,0."
+-- ok,513; then `book,0,2,0,9,1,2` with hold 1 and steps `cp,0` `ax,1` gives no,22,0." By document 02, ask 8, "22,
+-- opening and M10 go by" 2,048: 2,047 times, and ok,2049.
 abbrev pub M10 : Session
 M10 = record {
   requests =
-      words ++ each ("issue,r,2,0,9,0,0" ∷ times 511 "issue,s,2,0,9,0,0")
+      words ++ each ("issue,r,2,0,9,0,0" ∷ times 2047 "issue,s,2,0,9,0,0")
       ++ (("book,0,2,0,9,0,0,1,1" ∷ "hold,2" ∷ "ax,0" ∷ []) ∷
       ("book,0,2,0,9,0,0,1,2" ∷ "hold,1" ∷ "cp,0" ∷ "ax,1" ∷ []) ∷ []);
   replies =
-      oks (0 ∷ 1 ∷ 2 ∷ 3 ∷ 4 ∷ 5 ∷ 6 ∷ 7 ∷ counting 513 1) ++ (Told.no 22 0 ∷ []);
+      oks (0 ∷ 1 ∷ 2 ∷ 3 ∷ 4 ∷ 5 ∷ 6 ∷ 7 ∷ counting 2049 1) ++ (Told.no 22 0 ∷ []);
 }
 
 -- "M1 to M9 stand as one proved statement, a list of inputs with answers"

@@ -13,12 +13,12 @@ ghost use Rattle.ledger.specs.ConnectiveCases.{ConnectiveCasesPlay};
 ghost use Rattle.ledger.specs.HolderCases.{HolderCasesPlay};
 ghost use Rattle.ledger.specs.LastSerials.{IdleGiven, LastSerialsPlay};
 
-// "Size: .. at most 64"; "holds at most 200"; "At most 512 are live": as specs/Checks.antt has them.
+// "Size: .. at most 64"; "holds at most 200"; "Up to 2,048 live coupons": as specs/Checks.antt has them.
 pub const MAX_SIZE: u32 = 64;
 
 pub const MAX_FORMULAS: u32 = 200;
 
-pub const MAX_LIVE: u32 = 512;
+pub const MAX_LIVE: u32 = 2048;
 
 // A credential (document 01: a coupon): its serial, its kind, its formula's number (wording) and its interval (window).
 pub struct Credential {
