@@ -40,9 +40,10 @@ def full_till(most):
 
 
 def withdrawals(most):
-    """So many coupons live; then each is withdrawn, all over the till."""
-    begin = words(M1) + ["issue,s,0,0,9,0,0"] * most
-    return begin, [f"withdraw,{1 + (n * 173) % most}" for n in range(most)]
+    """So many coupons live; then each is withdrawn, all over the till. Every serial has five digits, so that sheets are as
+    long however many live."""
+    begin = [text(10001, M1, [])] + ["issue,s,0,0,9,0,0"] * most
+    return begin, [f"withdraw,{10001 + (n * 173) % most}" for n in range(most)]
 
 
 def tallies(most):
@@ -169,6 +170,7 @@ LISTS = {
     "held_32_single": held_32_single,
     "held_32_standing": held_32_standing,
     "three_live": lambda: three_live(2000),
+    "starts": lambda: ([full(512)], [":start"] * 100),
     "closing": lambda: ([full(512)], [":close"] * 100),
     "closing_few": lambda: ([full(3)], [":close"] * 100),
     "closing_hall": lambda: ([full(2048)], [":close"] * 100),
