@@ -204,8 +204,8 @@ TEXTS = [
     (51, b"till,1,1,2,0\no\no\n", ["`word` would refuse with 13", "this line is wording 0 already"]),
     (51, b"till,1,1,2,0\nb,1\no\n", ["`word` would refuse with 10", "Line 2"]),
     (51, b"till,1,2,1,1\na,1,7\n1,r,0,0,9,0,0\n", ["`issue` would refuse with 21", "for session 7 it weighs 1"]),
-    (51, b"till,1,1,3,0\nn,9,7,0\nq,0\nq,1\n", ["`word` would refuse with 53", "which is a `q` itself", "Line 4"]),
-    (51, b"till,1,2,1,1\nn,9,7,0\n1,s,0,0,9,0,0\n", ["`issue` would refuse with 53", "in no `q`", "Line 3"]),
+    (51, b"till,2,1,3,0\nn,9,7,0\nq,0\nq,1\n", ["`word` would refuse with 53", "which is a `q` itself", "Line 4"]),
+    (51, b"till,2,2,1,1\nn,9,7,0\n1,s,0,0,9,0,0\n", ["`issue` would refuse with 53", "in no `q`", "Line 3"]),
     (51, b"till,1,2,1,1\na,1,7\n1,s,0,9,0,0,0\n", ["`issue` would refuse with 3", "from 9, to 0"]),
 ]
 
