@@ -3,7 +3,7 @@
 
     tests/slips/sessions.py > LIST
 
-It begins at what the functions of crates/ledger and crates/snapshot ensure: every `⌜ .. ⌝` that names something of
+It begins at what the functions of crates/ledger, crates/snapshot and crates/hall ensure: every `⌜ .. ⌝` that names something of
 their files of sessions, those with a `List Turn` or a `Session`. Each such statement is computed as far as these files
 define it, until it speaks of calls: a ledger is then what was done with it since it was empty, and an equality asks
 what an answer, a text or a ledger is. What it does not know stops it, and so does a statement that gives no session, a
@@ -21,7 +21,7 @@ import re
 import sys
 from collections import namedtuple
 
-CRATES = ("ledger", "snapshot")
+CRATES = ("ledger", "snapshot", "hall")
 TURNS = re.compile(r"(?:^|→ )(?:List )?\(?(?:List )?(?:Turn|Session)\)?$")
 TOKEN = re.compile(r'\s+|--[^\n]*|"((?:[^"\\]|\\.)*)"|(\.\w+|λ|[(){}\[\],;=∷×≡≤→⇒⇛:+]+|[^\s(){}\[\],;"∷]+)')
 # operators from the loosest on, each taking the same or a tighter one at its right

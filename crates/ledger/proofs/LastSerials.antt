@@ -1,4 +1,4 @@
--- The last serials: the sessions by computation, and calls that lead there, which issue and withdraw a credential for
+-- The last serials: the session by computation, and calls that lead there, which issue and withdraw a credential for
 -- each serial before.
 use mathlib.Core.Path.{_≡_, refl, ap, _∙_}
 use mathlib.Core.List.{List, [], _∷_}
@@ -22,7 +22,7 @@ use Rattle.ledger.specs.Ledger.{Ledger, isNone, find, withoutSerial}
 use Rattle.ledger.specs.Checks.{anyOf, _if_, first, checks, readChecks}
 use Rattle.ledger.specs.Calls.{Reply, withLive, accept, call, after}
 use Rattle.ledger.specs.Cases.{AnsweredFrom}
-use Rattle.ledger.specs.LastSerials.{idle, IdleGiven, given, LastSerialsPlay}
+use Rattle.ledger.specs.LastSerials.{idle, IdleGiven, LastSerialsPlay}
 use Rattle.ledger.proofs.Firsts.{handle-passes, call-read}
 use Rattle.ledger.proofs.Compute.{played}
 
@@ -87,5 +87,5 @@ idle-given n l =
     (bytes "word,a,9,7\n" ∷ rounds n 1, after-rounds n 1 (omega arith) (omega arith) ∙ ap idle (omega arith))
 
 pub last-serials-play : LastSerialsPlay
-unfolding played AnsweredFrom given
-last-serials-play = (refl, refl)
+unfolding played AnsweredFrom
+last-serials-play = refl

@@ -3,8 +3,8 @@
 // functions here do nothing: each ensures a statement of specs/, and that it is proved is the point.
 
 ghost use Rattle.ledger.specs.Bounds.{AlwaysBounded};
-ghost use Rattle.ledger.specs.Statements.{Refusals, SameLine};
-ghost use Rattle.ledger.specs.Sessions.{SessionsPlay, Plays, M10, LaterPlay};
+ghost use Rattle.ledger.specs.Statements.{Refusals, SameLine, RoomCounted};
+ghost use Rattle.ledger.specs.Sessions.{SessionsPlay, LaterPlay};
 ghost use Rattle.ledger.specs.Cases.{CasesPlay};
 ghost use Rattle.ledger.specs.FormulaCases.{FormulaCasesPlay};
 ghost use Rattle.ledger.specs.StepCases.{StepCasesPlay};
@@ -53,10 +53,14 @@ pub fn lines_are_compared()
     ensures { λ _. ⌜ SameLine ⌝ }
 {}
 
-// Document 01's sessions: M1 to M9, and M10; M1 for guests who are late.
+// Refusal 22 is of 2,048 live, less the linear ones held: its test is that count.
+pub fn room_is_counted()
+    ensures { λ _. ⌜ RoomCounted ⌝ }
+{}
+
+// Document 01's sessions M1 to M9; M1 for guests who are late.
 pub fn sessions_play()
     ensures to_m9 { λ _. ⌜ SessionsPlay ⌝ }
-    ensures m10 { λ _. ⌜ Plays M10 ⌝ }
     ensures later { λ _. ⌜ LaterPlay ⌝ }
 {}
 
