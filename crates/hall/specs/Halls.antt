@@ -64,8 +64,8 @@ standing =
     ("issue,r,0,0,9,0,0\n" ⇒ refused 22) ∷
     ("issue,s,0,0,9,0,0\n" ⇒ refused 22) ∷ []
 
--- A coupon past the 512th is one like the others: "serial held twice" (31), "a withdraw removes it", and the others stay
--- live, the last one too. What has left makes room, and is "never given again".
+-- A coupon past the 512th is one like the others: "serial held twice" (31), "a withdraw removes it", and the others
+-- stay live, the last one too. What has left makes room, and is "never given again".
 abbrev pub late : List Turn
 late =
     (("book,5,0,0,9,0,0,2,1" ∷ "hold,1000" ∷ "hold,1000" ∷ "ax,0" ∷ []) ⇛ refused 31) ∷
@@ -77,8 +77,8 @@ late =
     ("issue,s,0,0,9,0,0\n" ⇒ accepted 2051) ∷
     ("issue,s,0,0,9,0,0\n" ⇒ refused 22) ∷ []
 
--- "Tally: over live singles": of every coupon, and more than 65,535. A wording of size 64 has 32 seats under ⟨1⟩, one of
--- size 63 has 32 places; there are 2,048 coupons of it.
+-- "Tally: over live singles": of every one of them, and past 65,535. A wording of size 64 has 32 seats under ⟨1⟩, one of
+-- size 63 has 32 places; each hall has 2,048 singles of it, at a minute in their window and at one after it.
 abbrev pub seatHall : List ℕ
 seatHall =
     bytes "till,2,2049,7,2048\na,1,7\nt,0,0\nt,1,1\nt,2,2\nt,3,3\nt,4,4\ns,1,5\n" ++ coupons ",s,6,0,9,0,0\n" 2048 1
