@@ -388,8 +388,10 @@ class Sessions:
         """The sessions of one equality."""
         if isinstance(asked, Ledger):
             lines = self.done(wanted) + ["K"] + self.done(asked) + ["Q"]
-        elif isinstance(asked, dict):  # of a closing: what is told and the buffer after
+        elif isinstance(asked, dict) and asked["0"].kind == "closed":  # what is told and the buffer after
             return self.session(name, asked["0"], wanted)
+        elif isinstance(asked, dict):  # of an opening: what is told, and the text after
+            return self.session(name, [asked["0"], asked["1"]], [wanted["0"], wanted["1"]])
         elif isinstance(asked, list):
             if len(asked) != len(wanted):
                 raise Bad(f"{name}: {len(asked)} asked, {len(wanted)} answers")

@@ -1,15 +1,14 @@
--- The sessions of a big hall, by computation; one declaration each, for each is as long as a declaration may be.
+-- The sessions of a big hall, by computation: a declaration each, for a declaration may take only so many steps.
 use mathlib.Core.Path.{_≡_, refl}
-use mathlib.Core.List.{[], _∷_, _++_}
-use Rattle.request.specs.Text.{bytes}
-use Rattle.ledger.specs.Sessions.{Plays, each, times}
-use Rattle.ledger.specs.Cases.{accepted, refused, AnsweredFrom}
+use Rattle.ledger.specs.Sessions.{Plays, times}
+use Rattle.ledger.specs.Cases.{refused, AnsweredFrom}
 use Rattle.ledger.proofs.Compute.{played}
 use Rattle.snapshot.specs.Snapshot.{text}
-use Rattle.snapshot.specs.Cases.{reopened, playedOn, opening, coupons, singles, bulk}
+use Rattle.snapshot.specs.Cases.{reopened, playedOn, opening, coupons, bulk}
 use Rattle.snapshot.proofs.Compute.{rewritten}
 use Rattle.hall.specs.Halls.{counting, M10Plays, fullHall, full, standingHall, standing, late, seatHall, seats}
-use Rattle.hall.specs.Halls.{placeHall, places, HallSheets, supersets, longest, namedHall, mixedHall, lastNamed}
+use Rattle.hall.specs.Halls.{placeHall, places, HallSheets, toldAndWritten, OpensAndCloses, supersets, longest}
+use Rattle.hall.specs.Halls.{fewHall, manyHall, mixedHall, namedHall, lastNamed, backCalls, backText, overHall}
 use Rattle.hall.specs.Halls.{HallTexts}
 
 pub m10-plays : M10Plays
@@ -45,52 +44,46 @@ hall-sheets = record {
   places = places-answered;
 }
 
-longest-opened : opening longest ≡ accepted 105384
-unfolding rewritten coupons supersets
-longest-opened = refl
+longest-text : OpensAndCloses longest 105384
+unfolding rewritten coupons supersets toldAndWritten
+longest-text = refl
 
-longest-closed : text (reopened longest) ≡ longest
-unfolding rewritten coupons supersets
-longest-closed = refl
+few-text : OpensAndCloses fewHall 8107
+unfolding rewritten coupons toldAndWritten
+few-text = refl
 
-over : opening (bulk "till,2,2050,1,2049" 2049) ≡ refused 50
+many-text : OpensAndCloses manyHall 8123
+unfolding rewritten coupons toldAndWritten
+many-text = refl
+
+mixed-text : OpensAndCloses mixedHall 8123
+unfolding rewritten coupons toldAndWritten
+mixed-text = refl
+
+named-text : OpensAndCloses namedHall 8131
+unfolding rewritten coupons toldAndWritten
+named-text = refl
+
+last-text : OpensAndCloses lastNamed 13157
+unfolding rewritten supersets toldAndWritten
+last-text = refl
+
+back-text : text (playedOn (reopened manyHall) backCalls) ≡ backText
 unfolding rewritten coupons
-over = refl
+back-text = refl
 
-few : text (reopened (bulk "till,1,900,1,512" 512)) ≡ bulk "till,1,900,1,512" 512
+over-text : opening overHall ≡ refused 50
 unfolding rewritten coupons
-few = refl
-
-many : text (reopened (bulk "till,2,900,1,513" 513)) ≡ bulk "till,2,900,1,513" 513
-unfolding rewritten coupons
-many = refl
-
-named : text (reopened namedHall) ≡ namedHall
-unfolding rewritten coupons
-named = refl
-
-mixed : text (reopened mixedHall) ≡ mixedHall
-unfolding rewritten coupons
-mixed = refl
-
-last-named : text (reopened lastNamed) ≡ lastNamed
-unfolding rewritten coupons supersets
-last-named = refl
-
-back : text (playedOn (reopened (bulk "till,2,900,1,513" 513)) (each ("withdraw,1" ∷ [])))
-    ≡ bytes "till,1,900,1,512\na,9,7\n" ++ singles 512 2
-unfolding rewritten coupons
-back = refl
+over-text = refl
 
 pub hall-texts : HallTexts
 hall-texts = record {
-  opened = longest-opened;
-  closed = longest-closed;
-  over = over;
-  few = few;
-  many = many;
-  named = named;
-  mixed = mixed;
-  last = last-named;
-  back = back;
+  longest = longest-text;
+  few = few-text;
+  many = many-text;
+  mixed = mixed-text;
+  named = named-text;
+  last = last-text;
+  back = back-text;
+  over = over-text;
 }

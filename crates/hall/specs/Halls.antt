@@ -4,12 +4,15 @@
 use mathlib.Core.Path.{_≡_}
 use mathlib.Core.List.{List, [], _∷_, _++_}
 use Prim.Native.Nat.{ℕ, zero, suc}
+use Prim.Native.String.{String}
 use Rattle.request.specs.Text.{bytes}
 use Rattle.request.specs.Write.{digits}
-use Rattle.ledger.specs.Calls.{Told, ok}
+use Rattle.ledger.specs.Ledger.{empty}
+use Rattle.ledger.specs.Calls.{Reply, Told, ok, told}
 use Rattle.ledger.specs.Sessions.{Session, Plays, each, oks, times, words}
 use Rattle.ledger.specs.Cases.{Turn, _⇒_, _⇛_, accepted, refused, AnsweredFrom}
 use Rattle.snapshot.specs.Snapshot.{text}
+use Rattle.snapshot.specs.Reopen.{reopen}
 use Rattle.snapshot.specs.Cases.{reopened, playedOn, opening, coupons, singles, bulk}
 
 -- n numbers from k on
@@ -77,8 +80,8 @@ late =
     ("issue,s,0,0,9,0,0\n" ⇒ accepted 2051) ∷
     ("issue,s,0,0,9,0,0\n" ⇒ refused 22) ∷ []
 
--- "Tally: over live singles": of every one of them, and past 65,535. A wording of size 64 has 32 seats under ⟨1⟩, one of
--- size 63 has 32 places; each hall has 2,048 singles of it, at a minute in their window and at one after it.
+-- "Tally: over live singles": all of them, and past 65,535. A wording of size 64 has 32 seats under ⟨1⟩, one of size 63
+-- has 32 places; each of these halls has 2,048 singles of it. Minute 9 lies in their window, 10 does not.
 abbrev pub seatHall : List ℕ
 seatHall =
     bytes "till,2,2049,7,2048\na,1,7\nt,0,0\nt,1,1\nt,2,2\nt,3,3\nt,4,4\ns,1,5\n" ++ coupons ",s,6,0,9,0,0\n" 2048 1
@@ -102,7 +105,15 @@ pub record HallSheets : Type 0 where
   pub seats : AnsweredFrom (reopened seatHall) seats
   pub places : AnsweredFrom (reopened placeHall) places
 
--- Texts of a hall: opened, and closed again as they were opened
+-- Texts of a hall
+
+-- what opening a text tells, and the text of the ledger that it leaves
+unfoldable pub toldAndWritten : Reply → Told × List ℕ
+toldAndWritten r = (told (r .answer), text (r .ledger))
+
+-- a text is opened, with its length as the answer, and closed again as it was
+abbrev pub OpensAndCloses : List ℕ → ℕ → Type 0
+OpensAndCloses b n = toldAndWritten (reopen empty b) ≡ (accepted n, b)
 
 -- n lines of wordings `g`, all different, each as long as one may be
 unfoldable pub supersets : ℕ → ℕ → List ℕ
@@ -117,26 +128,39 @@ longest =
     ++ coupons ",r,199,1000000,9999999,5000000,5000001\n" 2048 997952
 
 -- "A till with no `n` or `q` and at most 512 live coupons is still written with `till,1`; any other is written with
--- `till,2`": with both an `n` and 513 coupons; by coupons of either kind; by the last of 200 wordings
-abbrev pub namedHall : List ℕ
-namedHall = bytes "till,2,900,2,513\nn,9,7,5\na,9,7\n" ++ coupons ",s,1,0,9,0,0\n" 513 1
+-- `till,2`": by one coupon more; by coupons of either kind; with an `n` and 513 coupons; by the last of 200 wordings
+abbrev pub fewHall : List ℕ
+fewHall = bulk "till,1,900,1,512" 512
+
+abbrev pub manyHall : List ℕ
+manyHall = bulk "till,2,900,1,513" 513
 
 abbrev pub mixedHall : List ℕ
 mixedHall = bulk "till,2,900,1,513" 512 ++ bytes "513,r,0,0,9,0,0\n"
 
+abbrev pub namedHall : List ℕ
+namedHall = bytes "till,2,900,2,513\nn,9,7,5\na,9,7\n" ++ coupons ",s,1,0,9,0,0\n" 513 1
+
 abbrev pub lastNamed : List ℕ
 lastNamed = bytes "till,2,1,200,0\n" ++ supersets 199 1000000 ++ bytes "n,9,7,5\n"
 
+-- by the till as it is: the first of 513 coupons leaves, and the text is the first edition's again
+abbrev pub backCalls : List (List String)
+backCalls = each ("withdraw,1" ∷ [])
+
+abbrev pub backText : List ℕ
+backText = bytes "till,1,900,1,512\na,9,7\n" ++ singles 512 2
+
+-- "its counts .. pass" 2,048: 50
+abbrev pub overHall : List ℕ
+overHall = bulk "till,2,2050,1,2049" 2049
+
 pub record HallTexts : Type 0 where
-  pub opened : opening longest ≡ accepted 105384
-  pub closed : text (reopened longest) ≡ longest
-  -- "its counts .. pass" 2,048
-  pub over : opening (bulk "till,2,2050,1,2049" 2049) ≡ refused 50
-  pub few : text (reopened (bulk "till,1,900,1,512" 512)) ≡ bulk "till,1,900,1,512" 512
-  pub many : text (reopened (bulk "till,2,900,1,513" 513)) ≡ bulk "till,2,900,1,513" 513
-  pub named : text (reopened namedHall) ≡ namedHall
-  pub mixed : text (reopened mixedHall) ≡ mixedHall
-  pub last : text (reopened lastNamed) ≡ lastNamed
-  -- by the till as it is, where the first of 513 has left
-  pub back : text (playedOn (reopened (bulk "till,2,900,1,513" 513)) (each ("withdraw,1" ∷ [])))
-      ≡ bytes "till,1,900,1,512\na,9,7\n" ++ singles 512 2
+  pub longest : OpensAndCloses longest 105384
+  pub few : OpensAndCloses fewHall 8107
+  pub many : OpensAndCloses manyHall 8123
+  pub mixed : OpensAndCloses mixedHall 8123
+  pub named : OpensAndCloses namedHall 8131
+  pub last : OpensAndCloses lastNamed 13157
+  pub back : text (playedOn (reopened manyHall) backCalls) ≡ backText
+  pub over : opening overHall ≡ refused 50
