@@ -236,6 +236,9 @@ KNOWN = {
     "reopen": reopened,
     "text": lambda ledger: Asked(ledger, "text", None),
     "close": lambda ledger: lambda buffer: dict.fromkeys(("answer", "buffer"), Asked(ledger, "closed", buffer)),
+    "Linear": "s",
+    "Unrestricted": "r",
+    "span": lambda i: lambda j: lambda p: lambda q: f"{i},{j},{p},{q}",
     "Line.atom": lambda predicate: lambda session: ("a", predicate, session),
     "Unit": [],
 }
@@ -292,13 +295,16 @@ class Sessions:
 
     @staticmethod
     def record(fields):
-        """A ledger that is written down is one of no live coupon and one wording, with its next serial."""
+        """A ledger that is written down has one wording, and its live coupons were issued last, one after the other."""
         if set(fields) != {"lines", "live", "next"}:
             return fields
         (letter, predicate, session), = fields["lines"]
-        if fields["live"] or letter != "a":
-            raise Bad("a ledger that is not idle")
-        return Ledger((("c", list(b"word,a,%d,%d\n" % (predicate, session))), ("N", fields["next"])))
+        first = fields["next"] - len(fields["live"])
+        if letter != "a" or [coupon["serial"] for coupon in fields["live"]] != list(range(first, fields["next"])):
+            raise Bad("a ledger that is not known")
+        issues = [f"issue,{coupon['kind']},{coupon['formula']},{coupon['interval']}\n" for coupon in fields["live"]]
+        return Ledger((("c", list(b"word,a,%d,%d\n" % (predicate, session))), ("N", first),
+                       *(("c", list(issue.encode())) for issue in issues)))
 
     def binary(self, file, tree, bound):
         sign, left, right = tree[1:]

@@ -6,18 +6,14 @@ use Rattle.ledger.proofs.Compute.{played}
 use Rattle.snapshot.specs.Snapshot.{text}
 use Rattle.snapshot.specs.Cases.{reopened, playedOn, opening, coupons, bulk}
 use Rattle.snapshot.proofs.Compute.{rewritten}
-use Rattle.hall.specs.Halls.{counting, M10Plays, fullHall, full, standingHall, standing, late, seatHall, seats}
-use Rattle.hall.specs.Halls.{placeHall, places, HallSheets, toldAndWritten, OpensAndCloses, supersets, longest}
+use Rattle.hall.specs.Halls.{counting, M10Plays, standingHall, standing, late, seatHall, seats, placeHall}
+use Rattle.hall.specs.Halls.{places, HallSheets, toldAndWritten, OpensAndCloses, supersets, longest}
 use Rattle.hall.specs.Halls.{fewHall, manyHall, mixedHall, namedHall, lastNamed, backCalls, backText, overHall}
 use Rattle.hall.specs.Halls.{HallTexts}
 
 pub m10-plays : M10Plays
 unfolding played Plays times counting
 m10-plays = refl
-
-full-answered : AnsweredFrom (reopened fullHall) full
-unfolding rewritten AnsweredFrom coupons
-full-answered = refl
 
 standing-answered : AnsweredFrom (reopened standingHall) standing
 unfolding rewritten AnsweredFrom coupons
@@ -37,7 +33,6 @@ places-answered = refl
 
 pub hall-sheets : HallSheets
 hall-sheets = record {
-  full = full-answered;
   standing = standing-answered;
   late = late-answered;
   seats = seats-answered;

@@ -36,26 +36,7 @@ M10 = record {
 abbrev pub M10Plays : Type 0
 M10Plays = Plays M10
 
--- Sheets in a full hall
-
--- one standing coupon and 2,047 single ones: 2,048 are live, and no serial is left
-abbrev pub fullHall : List ℕ
-fullHall = bytes "till,2,1000000,1,2048\na,9,7\n997952,r,0,0,9,0,0\n" ++ singles 2047 997953
-
--- 10, 20, 21 and 40 before 22, "live, less singles held", 22 before 23.
-abbrev pub full : List Turn
-full =
-    ("issue,s,0,0,9,0,0\n" ⇒ refused 22) ∷
-    ("word,o\n" ⇒ accepted 1) ∷
-    ("word,a,1,7\n" ⇒ accepted 2) ∷
-    ("issue,s,1,0,9,0,0\n" ⇒ refused 20) ∷
-    ("issue,r,2,0,9,0,0\n" ⇒ refused 21) ∷
-    ("issue,s,3,0,9,0,0\n" ⇒ refused 10) ∷
-    (("book,5,0,0,9,0,0,1,1" ∷ "hold,997952" ∷ "ax,0" ∷ []) ⇛ Told.no 40 1) ∷
-    (("book,5,0,0,9,0,0,1,2" ∷ "hold,997952" ∷ "cp,0" ∷ "ax,1" ∷ []) ⇛ refused 22) ∷
-    (("book,5,0,0,9,0,0,1,1" ∷ "hold,997953" ∷ "ax,0" ∷ []) ⇛ refused 23) ∷
-    ("withdraw,997953\n" ⇒ accepted 997953) ∷
-    ("issue,s,0,0,9,0,0\n" ⇒ refused 23) ∷ []
+-- Sheets in a full hall; `full` of ledger/specs/LastSerials has the order of its refusals
 
 -- "Up to 2,048 live coupons are allowed", whatever their kind: 2,047 standing ones, one more, and no room.
 abbrev pub standingHall : List ℕ
@@ -99,7 +80,6 @@ abbrev pub places : List Turn
 places = ("tally,7,9\n" ⇒ ok (0 ∷ 0 ∷ 65536 ∷ [])) ∷ []
 
 pub record HallSheets : Type 0 where
-  pub full : AnsweredFrom (reopened fullHall) full
   pub standing : AnsweredFrom (reopened standingHall) standing
   pub late : AnsweredFrom (reopened (bulk "till,2,2049,1,2048" 2048)) late
   pub seats : AnsweredFrom (reopened seatHall) seats

@@ -4,11 +4,10 @@ use mathlib.Core.Logic.{_↔_}
 use mathlib.Core.List.{List, [], _∷_}
 use mathlib.Core.Option.{none, some}
 use mathlib.Core.Bool.{true}
-use Prim.Native.Nat.{ℕ, _+_, _≤_, _<_}
-use lib.ListN.{length}
+use Prim.Native.Nat.{ℕ, _≤_, _<_}
 use Rattle.request.specs.Request.{Line}
 use Rattle.ledger.specs.Ledger.{Ledger}
-use Rattle.ledger.specs.Checks.{Refusal, Check, sameLine, noRoom}
+use Rattle.ledger.specs.Checks.{Refusal, Check, sameLine}
 use Rattle.ledger.specs.Calls.{Told, ok, call, toldOf}
 
 -- every check passes
@@ -46,7 +45,3 @@ Refusals = (t : Ledger) (bytes : List ℕ) (n k : ℕ) → toldOf t bytes ≡ To
 -- "no two lines equal": the test of 13 is equality of lines, of any numbers.
 abbrev pub SameLine : Type 0
 SameLine = (l m : Line) → (sameLine l m ≡ true) ↔ (l ≡ m)
-
--- "live, less singles held, is 2,048 or more": the test of 22 is that count, of any ledger and any number of holds.
-abbrev pub RoomCounted : Type 0
-RoomCounted = (t : Ledger) (singles : ℕ) → (noRoom t singles ≡ true) ↔ (2048 + singles ≤ length (t .live))
