@@ -132,11 +132,10 @@ after-all k n r h =
 pub crowd-given : CrowdGiven
 crowd-given =
     let i = idle-given 997951 (omega arith) in
-    let all = write (issued Unrestricted) ∷ issues 2047 in
-    (
+    let all = write (issued Unrestricted) ∷ issues 2047 in (
       i .0 ++ all,
       after-append empty (i .0) all ∙ ap (λ (t : Ledger). after t all) (i .1)
-      ∙ after-all 2047 997952 (omega arith) (omega arith)
+          ∙ after-all 2047 997952 (omega arith) (omega arith),
     )
 
 pub last-serials-play : LastSerialsPlay
