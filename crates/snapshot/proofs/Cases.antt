@@ -1,12 +1,9 @@
 -- The sessions, by computation.
 use mathlib.Core.Path.{_≡_, refl}
-use mathlib.Core.List.{[], _∷_, _++_}
+use mathlib.Core.List.{_++_}
 use Rattle.request.specs.Text.{bytes}
 use Rattle.ledger.specs.Cases.{accepted, refused, AnsweredFrom}
-use Rattle.snapshot.specs.Cases.{M1Texts, TextsOpen, singles, bulk, opening, EditionsOpen, reopened, playedOn}
-use Rattle.snapshot.specs.Cases.{EditionsWritten, Closings}
-use Rattle.snapshot.specs.Snapshot.{text}
-use Rattle.ledger.specs.Sessions.{each}
+use Rattle.snapshot.specs.Cases.{M1Texts, TextsOpen, coupons, bulk, opening, EditionsOpen, Closings}
 use Rattle.snapshot.proofs.Compute.{rewritten}
 
 pub m1-texts : M1Texts
@@ -26,35 +23,35 @@ texts-open = record {
 }
 
 few : opening (bulk "till,1,513,1,512" 512) ≡ accepted 8107
-unfolding rewritten singles
+unfolding rewritten coupons
 few = refl
 
 many : opening (bulk "till,2,514,1,513" 513) ≡ accepted 8123
-unfolding rewritten singles
+unfolding rewritten coupons
 many = refl
 
 few-second : opening (bulk "till,2,513,1,512" 512) ≡ refused 50
-unfolding rewritten singles
+unfolding rewritten coupons
 few-second = refl
 
 many-first : opening (bulk "till,1,514,1,513" 513) ≡ refused 50
-unfolding rewritten singles
+unfolding rewritten coupons
 many-first = refl
 
 few-late : opening (bulk "till,1,1,1,512" 512) ≡ refused 51
-unfolding rewritten singles
+unfolding rewritten coupons
 few-late = refl
 
 few-late-second : opening (bulk "till,2,1,1,512" 512) ≡ refused 50
-unfolding rewritten singles
+unfolding rewritten coupons
 few-late-second = refl
 
 many-late-first : opening (bulk "till,1,1,1,513" 513) ≡ refused 50
-unfolding rewritten singles
+unfolding rewritten coupons
 many-late-first = refl
 
 standing : opening (bulk "till,2,514,1,513" 512 ++ bytes "513,r,0,0,9,0,0\n") ≡ accepted 8123
-unfolding rewritten singles
+unfolding rewritten coupons
 standing = refl
 
 pub editions-open : EditionsOpen
@@ -68,22 +65,6 @@ editions-open = record {
   manyLateFirst = many-late-first;
   standing = standing;
 }
-
-few-written : text (reopened (bulk "till,1,900,1,512" 512)) ≡ bulk "till,1,900,1,512" 512
-unfolding rewritten singles
-few-written = refl
-
-many-written : text (reopened (bulk "till,2,900,1,513" 513)) ≡ bulk "till,2,900,1,513" 513
-unfolding rewritten singles
-many-written = refl
-
-back : text (playedOn (reopened (bulk "till,2,900,1,513" 513)) (each ("withdraw,1" ∷ [])))
-    ≡ bytes "till,1,900,1,512\na,9,7\n" ++ singles 512 2
-unfolding rewritten singles
-back = refl
-
-pub editions-written : EditionsWritten
-editions-written = record { few = few-written; many = many-written; back = back }
 
 pub closings : Closings
 unfolding rewritten AnsweredFrom

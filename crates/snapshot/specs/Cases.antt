@@ -185,12 +185,16 @@ pub record TextsOpen : Type 0 where
   pub holders : OpenedAs holders
   pub editions : OpenedAs editions
 
--- A free atom and n single-use coupons from serial k on, after a first line: 512 are the first edition's, and one more
--- makes it the second. The other edition is 50, also where next is not above the serials (51).
-unfoldable pub singles : ℕ → ℕ → List ℕ
-singles zero k = []
-singles (suc n) k = digits k ++ bytes ",s,0,0,9,0,0\n" ++ singles n (suc k)
+-- n lines of coupons from serial k on, each with the same text after its serial
+unfoldable pub coupons : String → ℕ → ℕ → List ℕ
+coupons more zero k = []
+coupons more (suc n) k = digits k ++ bytes more ++ coupons more n (suc k)
 
+abbrev pub singles : ℕ → ℕ → List ℕ
+singles n k = coupons ",s,0,0,9,0,0\n" n k
+
+-- A free atom and n single-use coupons from serial 1 on, after a first line: 512 are the first edition's, and one more
+-- makes it the second. The other edition is 50, also where next is not above the serials (51).
 abbrev pub bulk : String → ℕ → List ℕ
 bulk first n = bytes first ++ bytes "\na,9,7\n" ++ singles n 1
 
@@ -206,13 +210,6 @@ pub record EditionsOpen : Type 0 where
   pub fewLateSecond : opening (bulk "till,2,1,1,512" 512) ≡ refused 50
   pub manyLateFirst : opening (bulk "till,1,1,1,513" 513) ≡ refused 50
   pub standing : opening (bulk "till,2,514,1,513" 512 ++ bytes "513,r,0,0,9,0,0\n") ≡ accepted 8123
-
--- Closed again: as it was opened; and by the till as it is, where the first of 513 has left
-pub record EditionsWritten : Type 0 where
-  pub few : text (reopened (bulk "till,1,900,1,512" 512)) ≡ bulk "till,1,900,1,512" 512
-  pub many : text (reopened (bulk "till,2,900,1,513" 513)) ≡ bulk "till,2,900,1,513" 513
-  pub back : text (playedOn (reopened (bulk "till,2,900,1,513" 513)) (each ("withdraw,1" ∷ [])))
-      ≡ bytes "till,1,900,1,512\na,9,7\n" ++ singles 512 2
 
 -- After serial 999,999 was given: "(14, 22, 23 apart)", so the text is opened, and 23 comes with the next issue,
 -- where 53 does not come before it.

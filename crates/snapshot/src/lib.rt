@@ -7,7 +7,7 @@ ghost use mathlib.Core.List.{List};
 ghost use Rattle.ledger.specs.Ledger.{Ledger};
 ghost use Rattle.snapshot.specs.Statements.{ReadsBack, WritesBack, LongestText, AlwaysLawful, RulesAgree};
 ghost use Rattle.snapshot.specs.Statements.{NumbersApart, OpenAnswers, CloseAnswers, ClosesAndOpens};
-ghost use Rattle.snapshot.specs.Cases.{M1Texts, TextsOpen, EditionsOpen, EditionsWritten, Closings};
+ghost use Rattle.snapshot.specs.Cases.{M1Texts, TextsOpen, EditionsOpen, Closings};
 
 // The edition of a text, by its first line's second field: `till,1` or `till,2` (document 02, ask 8).
 pub enum Edition {
@@ -57,6 +57,5 @@ pub fn texts_play()
     ensures m1 { λ _. ⌜ M1Texts ⌝ }
     ensures opened { λ _. ⌜ TextsOpen ⌝ }
     ensures editions { λ _. ⌜ EditionsOpen ⌝ }
-    ensures written { λ _. ⌜ EditionsWritten ⌝ }
     ensures closed { λ _. ⌜ Closings ⌝ }
 {}
