@@ -1,6 +1,6 @@
 //! Plays the sessions through the till and compares: `compare [SEED [SESSIONS]] [--long]`.
 
-mod generate;
+extern crate generate;
 #[allow(dead_code)] // no text is opened here
 mod recount;
 #[path = "../reference/till.rs"]

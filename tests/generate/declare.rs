@@ -4,7 +4,7 @@
 
 #![allow(dead_code)]
 
-mod generate;
+extern crate generate;
 #[path = "../reference/till.rs"]
 mod till;
 

@@ -4,7 +4,7 @@
 
 #![allow(dead_code)]
 
-mod generate;
+extern crate generate;
 mod recount;
 
 use generate::coverage::Coverage;
