@@ -1,10 +1,11 @@
 //! Times the C entry beside the reference program, both in this process, on the same sheets in turn.
 //! `bench NAME=FILE[:WORD]..`: a file has sheets as `tillrun` reads them; those before a line `---` are played untimed, and
 //! with a word only the sheets that begin with it are timed. Times are of the calls alone. In the place of a sheet `:close`
-//! writes the till as text into a buffer, and `:open` with a text after it opens that; answers and buffers are compared.
+//! writes the till as text into a buffer, `:open` with a text after it opens that, and `:start` makes the till empty;
+//! answers and buffers are compared.
 //! `bench --once NAME=FILE[:WORD]` plays a list once on each side and prints how many sheets are timed; these go through
-//! `timed_proved` and `timed_reference`, closings and openings through `timed_proved_text` and `timed_reference_text`,
-//! where a counter of instructions can be switched on.
+//! `timed_proved` and `timed_reference`, the other calls through `timed_proved_text` and `timed_reference_text`, where a
+//! counter of instructions can be switched on.
 
 #[path = "../tests/reference/till.rs"]
 mod till;
@@ -26,11 +27,13 @@ const TURNS: usize = 21;
 const TURN: Duration = Duration::from_millis(10);
 /// The buffer lent to closing: some bytes more than the longest text, which have to stay.
 const BUFFER: usize = MAX_TEXT + 64;
-/// How a closing, and an opening before its text, stand in a list.
+const NUMBERS: usize = 36172; // TILL_NUMBERS
+/// How a start, a closing, and an opening before its text, stand in a list.
+const START: &[u8] = b":start\n";
 const CLOSE: &[u8] = b":close\n";
 const OPEN: &[u8] = b":open\n";
 
-/// A list of sheets from an empty till, which of them are timed, and which are a closing or an opening.
+/// A list of sheets from an empty till, which of them are timed, and which are a start, a closing or an opening.
 struct List {
     name: String,
     sheets: Vec<Vec<u8>>,
@@ -43,7 +46,7 @@ impl List {
         self.timed.iter().filter(|timed| **timed).count() as u64
     }
 
-    /// The end of the calls from one on that are timed, and closings or openings, as that one is.
+    /// The end of the calls from one on that are timed, and sheets or not, as that one is.
     fn alike(&self, at: usize) -> usize {
         let same = |&n: &usize| self.timed[n] == self.timed[at] && self.texts[n] == self.texts[at];
         at + (at..self.sheets.len()).take_while(same).count()
@@ -55,7 +58,7 @@ trait Side {
     /// An empty till, and a buffer of which no byte is written.
     fn start(&mut self);
     fn call(&mut self, sheet: &[u8]) -> [u32; 4];
-    /// A closing or an opening.
+    /// A start, a closing or an opening.
     fn text(&mut self, call: &[u8]) -> [u32; 4];
     /// The same calls, by another way, so that they can be told from those that are not timed.
     fn timed(&mut self, sheet: &[u8]) -> [u32; 4];
@@ -63,8 +66,8 @@ trait Side {
 }
 
 struct Proved {
-    block: [u32; 11596],
-    spare: [u32; 11596],
+    block: [u32; NUMBERS],
+    spare: [u32; NUMBERS],
     scratch: [u32; 2048],
     buffer: [u8; BUFFER],
 }
@@ -83,7 +86,9 @@ impl Side for Proved {
 
     fn text(&mut self, call: &[u8]) -> [u32; 4] {
         let (mut answer, block) = ([0; 4], self.block.as_mut_ptr());
-        if call == CLOSE {
+        if call == START {
+            unsafe { till_start(block) };
+        } else if call == CLOSE {
             unsafe { till_close(block, self.buffer.as_mut_ptr(), BUFFER, answer.as_mut_ptr()) };
         } else {
             let text = &call[OPEN.len()..];
@@ -121,7 +126,10 @@ impl Side for Reference {
     }
 
     fn text(&mut self, call: &[u8]) -> [u32; 4] {
-        let done = if call == CLOSE {
+        let done = if call == START {
+            self.till = Till::new();
+            return [0; 4];
+        } else if call == CLOSE {
             self.till.close(&mut self.buffer)
         } else {
             self.till.reopen(&call[OPEN.len()..])
@@ -187,7 +195,7 @@ fn list(word: &str) -> List {
     let (file, begins) = rest.split_once(':').unwrap_or((rest, ""));
     let (sheets, before) = sheets(&std::fs::read(file).expect("a file of sheets"));
     let timed = sheets.iter().enumerate().map(|(n, s)| n >= before && s.starts_with(begins.as_bytes())).collect();
-    let texts = sheets.iter().map(|s| s == CLOSE || s.starts_with(OPEN)).collect();
+    let texts = sheets.iter().map(|s| s == START || s == CLOSE || s.starts_with(OPEN)).collect();
     List { name: name.to_string(), sheets, timed, texts }
 }
 
@@ -255,7 +263,7 @@ impl Together {
 
 fn main() {
     let mut proved =
-        Box::new(Proved { block: [0; 11596], spare: [0; 11596], scratch: [0; 2048], buffer: [0; BUFFER] });
+        Box::new(Proved { block: [0; NUMBERS], spare: [0; NUMBERS], scratch: [0; 2048], buffer: [0; BUFFER] });
     let mut reference = Box::new(Reference { till: Till::new(), buffer: [0; BUFFER] });
     let words: Vec<String> = std::env::args().skip(1).collect();
     if words[0] == "--once" {

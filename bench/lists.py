@@ -26,31 +26,33 @@ def m1():
     return [], words(M1) + issues + [book("540,5,540,600,0,0", [1, 2, 3], M1_STEPS), "tally,7,540"]
 
 
-def full_till():
-    """512 coupons live; then one is withdrawn and one issued, in turns, all over the till, until each has changed often."""
-    begin = words(M1) + ["issue,s,0,0,9,0,0"] * 512
-    live = list(range(1, 513))
+def full_till(most):
+    """So many coupons live; then one is withdrawn and one issued, in turns, all over the till, until each has changed
+    often."""
+    begin = words(M1) + ["issue,s,0,0,9,0,0"] * most
+    live = list(range(1, most + 1))
     turns = []
-    for n in range(2048):
-        k = (n * 173) % 512
+    for n in range(4 * most):
+        k = (n * 173) % most
         turns += [f"withdraw,{live[k]}", "issue,s,0,0,9,0,0"]
-        live[k] = 513 + n
+        live[k] = most + 1 + n
     return begin, turns
 
 
-def withdrawals():
-    """512 coupons live; then each is withdrawn, all over the till."""
-    begin = words(M1) + ["issue,s,0,0,9,0,0"] * 512
-    return begin, [f"withdraw,{1 + (n * 173) % 512}" for n in range(512)]
+def withdrawals(most):
+    """So many coupons live; then each is withdrawn, all over the till. Every serial has five digits, so that sheets are as
+    long however many live."""
+    begin = [text(10001, M1, [])] + ["issue,s,0,0,9,0,0"] * most
+    return begin, [f"withdraw,{10001 + (n * 173) % most}" for n in range(most)]
 
 
-def tallies():
-    """200 wordings of 50 sessions and 512 coupons over all of them, of which each minute is in one fewer than the last.
+def tallies(most):
+    """200 wordings of 50 sessions and so many coupons over all of them, of which each minute is in one fewer than the last.
     A session has a seat, the same under ⟨1⟩, so that half of the seats are the house's, and a place or an atom that
     counts nothing; 50 wordings are pairs of neighbours."""
     sessions = [[f"a,1,{n}", f"s,1,{3 * n}", f"a,{2 + n % 2},{n}"] for n in range(50)]
     pairs = [f"t,{n},{n + 1}" for n in range(50)]
-    begin = words(sum(sessions, []) + pairs) + [f"issue,s,{n % 200},0,{n},0,0" for n in range(512)]
+    begin = words(sum(sessions, []) + pairs) + [f"issue,s,{n % 200},0,{n},0,0" for n in range(most)]
     return begin, [f"tally,{n % 50},{n}" for n in range(200)]
 
 
@@ -64,10 +66,10 @@ def three_live(rounds):
     return words(M1) + ["issue,r,7,0,9999,0,0"], turns
 
 
-def booked_15():
-    """M1's booking, 100 times."""
-    begin = words(M1) + ["issue,r,7,0,9999,0,0"] + ["issue,s,3,0,600,0,0", "issue,s,4,0,600,0,0"] * 100
-    return begin, [book("540,5,540,600,0,0", [1, 2 + 2 * n, 3 + 2 * n], M1_STEPS) for n in range(100)]
+def booked_15(times):
+    """M1's booking, so many times."""
+    begin = words(M1) + ["issue,r,7,0,9999,0,0"] + ["issue,s,3,0,600,0,0", "issue,s,4,0,600,0,0"] * times
+    return begin, [book("540,5,540,600,0,0", [1, 2 + 2 * n, 3 + 2 * n], M1_STEPS) for n in range(times)]
 
 
 def booked_256():
@@ -102,25 +104,25 @@ def held_32_standing():
 
 def text(next_serial, lines, coupons):
     """A till's text, to be opened."""
-    return "\n".join([":open", f"till,1,{next_serial},{len(lines)},{len(coupons)}", *lines, *coupons])
+    return "\n".join([":open", f"till,{1 if len(coupons) <= 512 else 2},{next_serial},{len(lines)},{len(coupons)}", *lines, *coupons])
 
 
-def full():
-    """25 sessions with M1's eight wordings, 512 coupons over their offers, seats and tokens: the text of a full till."""
+def full(most):
+    """25 sessions with M1's eight wordings, so many coupons over their offers, seats and tokens."""
     lines = []
     for session in range(25):
         at = 8 * session
         lines += [f"a,1,{session}", f"a,2,{session}", f"a,9,{session}", f"s,1,{at}", f"s,2,{at + 2}", f"s,1,{at + 1}"]
         lines += [f"t,{at + 3},{at + 4}", f"l,{at + 6},{at + 5}"]
     kinds = [("r", 7), ("s", 3), ("s", 4)]
-    given = [(n, *kinds[n // 25 % 3]) for n in range(512)]
-    return text(2000, lines, [f"{3 * n + 1},{kind},{8 * (n % 25) + part},0,{600 + n},0,0" for n, kind, part in given])
+    given = [(n, *kinds[n // 25 % 3]) for n in range(most)]
+    return text(3 * most + 500, lines, [f"{3 * n + 1},{kind},{8 * (n % 25) + part},0,{600 + n},0,0" for n, kind, part in given])
 
 
 def longest():
-    """The longest text: 200 lines `g` and 512 coupons, every number as long as its range has one."""
+    """The longest text: 200 lines `g` and 2,048 coupons, every number as long as its range has one."""
     lines = [f"g,{1000000 + n},9999999,2000000,3000000,1000000,9999998,2000000,3000000" for n in range(200)]
-    return text(1000000, lines, [f"{100000 + n},r,{100 + n % 100},1000000,9999999,2000000,3000000" for n in range(512)])
+    return text(1000000, lines, [f"{100000 + n},r,{100 + n % 100},1000000,9999999,2000000,3000000" for n in range(2048)])
 
 
 def refused():
@@ -141,7 +143,7 @@ def refused():
         14: (all_words, ["word,o"]),
         20: (begin, ["issue,s,7,0,9,0,0", book("540,7,540,600,0,0", [1, 2, 3], good)]),
         21: (begin, ["issue,r,9,0,9,0,0"]),
-        22: (atom + [issue] * 512, [issue]),
+        22: (atom + [issue] * 2048, [issue]),
         23: (atom + [s for n in range(999999) for s in (issue, f"withdraw,{n + 1}")], [issue]),
         24: (begin, ["withdraw,99", book(head, [1, 2, 9], good)]),
         30: (begin, [book("539,5,540,600,0,0", [1, 2, 3], good)]),
@@ -156,18 +158,27 @@ def refused():
 
 LISTS = {
     "M1": m1,
-    "full_till": full_till,
-    "withdrawals": withdrawals,
-    "tallies": tallies,
-    "bookings_15_steps": booked_15,
+    "full_till": lambda: full_till(512),
+    "full_hall": lambda: full_till(2048),
+    "withdrawals": lambda: withdrawals(512),
+    "withdrawals_hall": lambda: withdrawals(2048),
+    "tallies": lambda: tallies(512),
+    "tallies_hall": lambda: tallies(2048),
+    "bookings_15_steps": lambda: booked_15(100),
+    "bookings_hall": lambda: booked_15(1000),
     "bookings_256_steps": booked_256,
     "held_32_single": held_32_single,
     "held_32_standing": held_32_standing,
     "three_live": lambda: three_live(2000),
-    "closing": lambda: ([full()], [":close"] * 100),
+    "starts": lambda: ([full(512)], [":start"] * 100),
+    "closing": lambda: ([full(512)], [":close"] * 100),
+    "closing_few": lambda: ([full(3)], [":close"] * 100),
+    "closing_hall": lambda: ([full(2048)], [":close"] * 100),
     "closing_longest": lambda: ([longest()], [":close"] * 100),
     # the closings between are not timed: they show what was opened
-    "opening": lambda: ([], [full(), ":close"] * 20),
+    "opening": lambda: ([], [full(512), ":close"] * 20),
+    "opening_few": lambda: ([], [full(3), ":close"] * 20),
+    "opening_hall": lambda: ([], [full(2048), ":close"] * 20),
     "opening_longest": lambda: ([], [longest(), ":close"] * 20),
 }
 

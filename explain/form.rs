@@ -217,7 +217,6 @@ fn right_field<'a>(read: &Read<'a>, at: usize, name: &str) -> Result<(), Fault<'
         Allowed::Number { low, high, .. } => number_fault(bytes, *low, *high),
         Allowed::Share => share_fault(bytes),
         Allowed::Kind => (bytes != b"s" && bytes != b"r").then(|| ("no kind".to_string(), None)),
-        Allowed::Just(text) => (bytes != text.as_bytes()).then(|| (format!("not `{text}`"), None)),
     };
     let Some((what, cure)) = fault else {
         return Ok(());

@@ -113,8 +113,6 @@ pub enum Allowed {
     Number { low: u32, high: u32, what: &'static str },
     Share,
     Kind,
-    /// Nothing but this.
-    Just(&'static str),
 }
 
 /// What the field of that name allows in a line of that form.
@@ -136,7 +134,7 @@ pub fn allowed(form: &Form, name: &str) -> Allowed {
         "coupons" => number(0, MAX_LIVE as u32, "how many coupons follow the wordings"),
         "share" => Allowed::Share,
         "kind" => Allowed::Kind,
-        "edition" => Allowed::Just("1"),
+        "edition" => number(1, 2, "the edition of the text"),
         // now, minute, and a window's from, to, first, last
         _ => number(0, MAX_MINUTE, "a minute"),
     }
@@ -151,7 +149,6 @@ impl Allowed {
             }
             Allowed::Share => "a share: 16 digits 0 to 9 and a to f, label k worth 2 to the k".to_string(),
             Allowed::Kind => "a kind: `s`, single-use, or `r`, standing".to_string(),
-            Allowed::Just(text) => format!("`{text}`, nothing else"),
         }
     }
 }

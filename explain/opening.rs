@@ -9,7 +9,7 @@ use crate::spot::Spot;
 use crate::text::{counted, grouped, Text};
 use crate::till::form::{Reader, LINE_END};
 use crate::till::formulas::Formulas;
-use crate::till::saved::read_credential;
+use crate::till::saved::{edition_of, read_credential};
 use crate::till::{refusal, Till};
 use crate::windows;
 
@@ -46,8 +46,26 @@ fn read_text(text: &[u8]) -> Result<Vec<Read<'_>>, Fault<'_>> {
     }
     match lines.last() {
         Some(&last) if below.len() < counts.wordings + counts.coupons => Err(counts.too_few(last, below)),
-        _ => Ok(all),
+        _ => {
+            edition_fits(&all, counts.coupons)?;
+            Ok(all)
+        }
     }
+}
+
+/// The first line is the one that closing would write.
+fn edition_fits<'a>(all: &[Read<'a>], coupons: usize) -> Result<(), Fault<'a>> {
+    let title = &all[0];
+    let holders = all.iter().find(|line| matches!(line.form.word, "n" | "q"));
+    if title.bytes().starts_with(edition_of(holders.is_some(), coupons)) {
+        return Ok(());
+    }
+    let why = match holders {
+        Some(line) => format!("`till,2`, for line {} is an `n` or a `q`", line.line.number),
+        None if coupons > 512 => format!("`till,2`, for {} follow", counted(coupons, "coupon")),
+        None => "`till,1`, for there is no `n` or `q` and at most 512 coupons follow".to_string(),
+    };
+    Err(Fault::new(title.spot_of("edition"), "the first line is not the one that closing would write").allowed(why))
 }
 
 /// A coupon's serial is above that of the line before.

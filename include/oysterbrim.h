@@ -27,8 +27,8 @@ extern "C" {
  * till_edition and till_start below. */
 #define TILL_EDITION 2
 
-/* A till: a block of 11,596 numbers of 32 bits (46,384 bytes), aligned as uint32_t. It holds no pointer. */
-#define TILL_NUMBERS 11596
+/* A till: a block of 36,172 numbers of 32 bits (144,688 bytes), aligned as uint32_t. It holds no pointer. */
+#define TILL_NUMBERS 36172
 
 /* No sheet has more bytes; a longer one is refused with TILL_TOO_LONG. */
 #define TILL_SHEET_BYTES 16384
@@ -38,7 +38,7 @@ extern "C" {
 #define TILL_SCRATCH 2048
 
 /* No till's text has more bytes: a buffer of so many is always long enough. */
-#define TILL_TEXT_BYTES 36263
+#define TILL_TEXT_BYTES 105384
 
 /* The same of the library, for a program that was not compiled with this header or wants to print them. */
 uint32_t till_edition(void);
@@ -65,7 +65,7 @@ size_t till_text_bytes(void);
 #define TILL_WORDINGS_FULL 14      /* 200 wordings are there */
 #define TILL_NOT_PLAIN 20          /* not plain */
 #define TILL_NOT_BALANCED 21       /* not balanced */
-#define TILL_COUPONS_FULL 22       /* 512 coupons are live */
+#define TILL_COUPONS_FULL 22       /* 2,048 coupons are live */
 #define TILL_SERIALS_USED_UP 23    /* serial 999,999 was given */
 #define TILL_NOT_LIVE 24           /* the serial is not live */
 #define TILL_NOW_OUTSIDE 30        /* now is outside the goal's window */

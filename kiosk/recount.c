@@ -246,9 +246,16 @@ int history_note(struct History *history, const uint8_t *sheet, size_t length, c
     return good;
 }
 
+/* 2 where a wording is `n` or `q`, or more coupons live than the first edition takes; else 1. */
+static unsigned edition_of(const struct History *history) {
+    for (uint32_t n = 0; n < history->wordings; n++)
+        if (history->wording[n].line[0] == 'n' || history->wording[n].line[0] == 'q') return 2;
+    return history->live > FIRST_LIVE ? 2 : 1;
+}
+
 size_t history_text(const struct History *history, uint8_t text[MOST_TEXT]) {
-    size_t length = (size_t)snprintf((char *)text, MOST_TEXT, "till,1,%u,%u,%u\n", history->serial + 1,
-                                     history->wordings, history->live);
+    size_t length = (size_t)snprintf((char *)text, MOST_TEXT, "till,%u,%u,%u,%u\n", edition_of(history),
+                                     history->serial + 1, history->wordings, history->live);
     for (uint32_t n = 0; n < history->wordings; n++) {
         memcpy(text + length, history->wording[n].line, history->wording[n].length);
         length += history->wording[n].length;
@@ -264,7 +271,8 @@ size_t history_text(const struct History *history, uint8_t text[MOST_TEXT]) {
 static int begin(struct History *history, const uint8_t *text, size_t length) {
     struct Field fields[FIELDS + 1];
     uint32_t next, wordings, coupons, serial;
-    if (split(text, length, fields) != 5 || !is(fields[0], "till") || !is(fields[1], "1")) return 0;
+    if (split(text, length, fields) != 5 || !is(fields[0], "till")) return 0;
+    if (!is(fields[1], "1") && !is(fields[1], "2")) return 0; /* the till has opened it: the edition is right */
     if (!number(fields[2], LAST_SERIAL + 1, &next) || !number(fields[3], WORDINGS, &wordings)) return 0;
     if (next == 0 || !number(fields[4], MOST_LIVE, &coupons)) return 0;
     for (uint32_t n = 0; n < wordings; n++) {

@@ -8,11 +8,12 @@
 #include <stddef.h>
 #include <stdint.h>
 
-enum { WORDINGS = 200, MOST_SIZE = 64, MOST_LIVE = 512, LAST_PREDICATE = 255, LAST_PRINCIPAL = 255, HOUSE = 1,
-       SEAT = 1, PLACE = 2, LAST_SESSION = 65535, LAST_HOLDER = 65535, LAST_SERIAL = 999999, LAST_MINUTE = 9999999 };
+enum { WORDINGS = 200, MOST_SIZE = 64, MOST_LIVE = 2048, FIRST_LIVE = 512, LAST_PREDICATE = 255,
+       LAST_PRINCIPAL = 255, HOUSE = 1, SEAT = 1, PLACE = 2, LAST_SESSION = 65535, LAST_HOLDER = 65535,
+       LAST_SERIAL = 999999, LAST_MINUTE = 9999999 };
 
 /* The longest lines of a text, its first one last; and the longest text. */
-enum { WORDING_BYTES = 66, COUPON_BYTES = 45, TITLE_BYTES = 23,
+enum { WORDING_BYTES = 66, COUPON_BYTES = 45, TITLE_BYTES = 24,
        MOST_TEXT = TITLE_BYTES + WORDINGS * WORDING_BYTES + MOST_LIVE * COUPON_BYTES };
 
 /* A wording of size n has at most (n + 1) / 2 atoms. */

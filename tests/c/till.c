@@ -254,16 +254,22 @@ static void houses(void) {
     ask(&block, "tally,7,5\n", 3, 6, 15, 0);
 }
 
-/* 512 live credentials, and the place that a withdrawn one makes. */
+/* 2,048 live credentials, and the place that a withdrawn one makes. */
 static void full(void) {
     static struct Block block;
     words(&block);
-    for (uint32_t i = 1; i <= 512; i++) ask(&block, "issue,s,3,0,9,0,0\n", 1, i, 0, 0);
+    for (uint32_t i = 1; i <= 2048; i++) ask(&block, "issue,s,3,0,9,0,0\n", 1, i, 0, 0);
     ask(&block, "issue,s,0,0,9,0,0\n", 0, 22, 0, 0);
-    ask(&block, "tally,7,9\n", 3, 512, 0, 0);
-    ask(&block, "tally,7,10\n", 3, 0, 512, 0);
+    ask(&block, "issue,r,2,0,9,0,0\n", 0, 22, 0, 0);
+    ask(&block, "tally,7,9\n", 3, 2048, 0, 0);
+    ask(&block, "tally,7,10\n", 3, 0, 2048, 0);
     ask(&block, "withdraw,100\n", 1, 100, 0, 0);
-    ask(&block, "issue,s,0,0,9,0,0\n", 1, 513, 0, 0);
+    ask(&block, "issue,r,2,0,9,0,0\n", 1, 2049, 0, 0);
+    ask(&block, "issue,s,0,0,9,0,0\n", 0, 22, 0, 0);
+    ask(&block, "book,5,2,0,9,0,0,1,2\nhold,2049\ncp,0\nax,1\n", 0, 22, 0, 0);
+    ask(&block, "book,5,3,0,9,0,0,1,4\nhold,2048\nsr\nsl,0\naf\nax,1\n", 1, 2050, 0, 0);
+    ask(&block, "withdraw,1\n", 1, 1, 0, 0);
+    ask(&block, "book,5,2,0,9,0,0,1,2\nhold,2049\ncp,0\nax,1\n", 1, 2051, 0, 0);
     ask(&block, "issue,s,0,0,9,0,0\n", 0, 22, 0, 0);
 }
 
@@ -294,7 +300,7 @@ static void serials(void) {
 /* Coupons of one minute each, by which a hold tells them: the last serial given, and the minute of each that is live. */
 static struct Known {
     struct Block block;
-    uint32_t last, minute[4096]; /* 0 of a serial that is not live */
+    uint32_t last, minute[16384]; /* 0 of a serial that is not live */
 } known;
 
 static void give(void) {
@@ -321,11 +327,13 @@ static void found(uint32_t n) {
     ask(&known.block, sheet, 0, m ? 42 : 24, m ? 2 : 0, 0);
 }
 
-/* Every serial given, the next one, those that share its hint, and the last of all. */
+/* Every serial given, the next one, those that may share its hint, and the last of all. */
 static void all_found(void) {
     for (uint32_t n = 1; n <= known.last + 1; n++) found(n);
-    found(known.last + 1024);
-    found(known.last + 1025);
+    for (uint32_t hints = 1024; hints <= 4096; hints *= 2) {
+        found(known.last + hints);
+        found(known.last + hints + 1);
+    }
     ask(&known.block, "withdraw,999999\n", 0, 24, 0, 0);
 }
 
@@ -340,7 +348,8 @@ static void spend(uint32_t n) {
 }
 
 /* Which coupon a hold and a withdrawal find: first, last, middle, withdrawn, spent, never given; with gaps before, at and
- * after; with rows that are all in use, and that moved together; where a serial 1,024 higher was given since. */
+ * after; with rows that are all in use, and that moved together; where a serial 1,024, 2,048 or 4,096 higher was given
+ * since. */
 static void lookup(void) {
     memset(&known, 0, sizeof known);
     begin(&known.block);
@@ -360,19 +369,21 @@ static void lookup(void) {
     spend(38);
     leave(42);
     all_found();
-    while (known.last < 512 + 11) give(); /* 512 are live, 11 have left */
-    for (uint32_t oldest = 1; known.last < 1600; oldest++) {
+    while (known.last < 2048 + 11) give(); /* 2,048 are live, 11 have left */
+    for (uint32_t oldest = 1; known.last < 4300; oldest++) {
         if (!known.minute[oldest] || oldest % 16 == 0) continue; /* every sixteenth stays, and its hint will lie */
-        if (known.last == 1024 || known.last == 1025) all_found();
+        if (known.last == 4096 || known.last == 4097) all_found();
         leave(oldest);
         give();
     }
     all_found();
     leave(16);
     spend(32);
-    leave(1024 + 48);
-    spend(1024 + 64);
-    leave(1024 + 16);
+    for (uint32_t hints = 1024; hints <= 4096; hints *= 2) {
+        leave(hints + 48);
+        spend(hints + 64);
+        leave(hints + 16);
+    }
     all_found();
 }
 
@@ -464,13 +475,15 @@ static void measured(struct Block *block, const char *sheet, const uint32_t expe
     measured_at(block, sheet, small_call, expected, name);
 }
 
-/* The longest text: 200 wordings g, 512 standing coupons of them, every minute of seven digits. */
+/* The longest text: 200 wordings g, 2,048 standing coupons of them, every minute of seven digits. */
+enum { LONGEST = 105384 };
+
 static void longest(char *to) {
-    to = stpcpy(to, "till,1,1000000,200,512\n");
+    to = stpcpy(to, "till,2,1000000,200,2048\n");
     for (int n = 0; n < 200; n++)
         to += sprintf(to, "g,%d,9999999,9999990,9999991,1000000,9999999,9999990,9999998\n", 9000000 + n);
-    for (int n = 0; n < 512; n++)
-        to += sprintf(to, "%d,r,%d,1000000,9999999,9999990,9999998\n", 999488 + n, 100 + n % 100);
+    for (int n = 0; n < 2048; n++)
+        to += sprintf(to, "%d,r,%d,1000000,9999999,9999990,9999998\n", 997952 + n, 100 + n % 100);
 }
 
 static char *times(char *to, int count, const char *lines) {
@@ -535,8 +548,9 @@ static void stack(void) {
     first_premises(&block, sheet);
     measured(&block, sheet, OPEN, "256 steps, 248 first premises in one another");
     static const uint32_t LONG[4] = {1, TILL_TEXT_BYTES, 0, 0};
-    static char text[TILL_TEXT_BYTES + 1];
+    static char text[LONGEST + 1];
     longest(text);
+    check(strlen(text) == LONGEST && TILL_TEXT_BYTES == LONGEST, "the header's longest text", "");
     measured_at(&block, text, small_open, LONG, "opening the longest text");
     measured_at(&block, text, small_close, LONG, "closing it");
     check(memcmp(small.buffer, text, TILL_TEXT_BYTES) == 0, "the longest text", "closing it");

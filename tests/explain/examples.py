@@ -169,8 +169,8 @@ CHECKS = [
     (21, SEAT + b"word,o\n\nword,w,1,0\n\nissue,r,2,0,9,0,0\n",
      ["the arms of 1 & seat(7) do not weigh alike: 0 and 1 for session 7"]),
     (21, SEAT + b"word,o\n\nword,u,0,1\n\nissue,r,2,0,9,0,0\n", ["what stands left of ⊃ weighs 1 for session 7"]),
-    (22, TOKEN + b"issue,s,0,0,9,0,0\n\n" * 513,
-     ["512 coupons are live, 512 single-use and 0 standing", "fewer than 512"]),
+    (22, TOKEN + b"issue,s,0,0,9,0,0\n\n" * 2049,
+     ["2048 coupons are live, 2048 single-use and 0 standing", "fewer than 2048"]),
     (24, SINGLE + b"withdraw,1\n\nwithdraw,1\n",
      ["given by sheet 2 and taken by the withdrawal on sheet 3", "field 2, serial"]),
     (24, SINGLE + booked([1], ["ax,0"]) + b"\n" + booked([1], ["ax,0"]),
@@ -190,7 +190,9 @@ EXAMPLES = CHECKS + [(2, *form) for form in FORMS] + STEPS
 TEXTS = [
     (50, b"", ["The text is empty"]),
     (50, b"word,o\n", ["`word` is no first line", "without --till"]),
-    (50, b"till,2,1,0,0\n", ["field 2, edition", "not `1`"]),
+    (50, b"till,3,1,0,0\n", ["field 2, edition", "over its range, which ends with 2"]),
+    (50, b"till,2,1,0,0\n", ["not the one that closing would write", "`till,1`, for there is no `n` or `q`"]),
+    (50, b"till,1,1,1,0\nn,9,7,5\n", ["not the one that closing would write", "`till,2`, for line 2 is"]),
     (50, b"till,1,3,1,2\na,9,7\n1,s,0,0,9,0,0\n", ["the text ends here, 1 line too early", "1 wording and 2 coupons"]),
     (50, b"till,1,1,0,0\no\n", ["a line more than the first line says"]),
     (50, b"till,1,3,1,1\n1,s,0,0,9,0,0\na,9,7\n", ["a coupon where wording 0 is due"]),
@@ -202,8 +204,8 @@ TEXTS = [
     (51, b"till,1,1,2,0\no\no\n", ["`word` would refuse with 13", "this line is wording 0 already"]),
     (51, b"till,1,1,2,0\nb,1\no\n", ["`word` would refuse with 10", "Line 2"]),
     (51, b"till,1,2,1,1\na,1,7\n1,r,0,0,9,0,0\n", ["`issue` would refuse with 21", "for session 7 it weighs 1"]),
-    (51, b"till,1,1,3,0\nn,9,7,0\nq,0\nq,1\n", ["`word` would refuse with 53", "which is a `q` itself", "Line 4"]),
-    (51, b"till,1,2,1,1\nn,9,7,0\n1,s,0,0,9,0,0\n", ["`issue` would refuse with 53", "in no `q`", "Line 3"]),
+    (51, b"till,2,1,3,0\nn,9,7,0\nq,0\nq,1\n", ["`word` would refuse with 53", "which is a `q` itself", "Line 4"]),
+    (51, b"till,2,2,1,1\nn,9,7,0\n1,s,0,0,9,0,0\n", ["`issue` would refuse with 53", "in no `q`", "Line 3"]),
     (51, b"till,1,2,1,1\na,1,7\n1,s,0,9,0,0,0\n", ["`issue` would refuse with 3", "from 9, to 0"]),
 ]
 

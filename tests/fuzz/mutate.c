@@ -159,7 +159,8 @@ void draft_make(struct Draft *draft, const struct History *history, uint64_t *se
     uint32_t from = below(seed, 900), to = from + below(seed, 900);
     char w[48];
     int length;
-    if (serial + 300 < history->serial) serial = history->serial - below(seed, 300);
+    uint32_t near = below(seed, 2) ? 300 : 2300; /* of 2,048 that may be live the later ones, or nearly all */
+    if (serial + near < history->serial) serial = history->serial - below(seed, near);
     switch (below(seed, 8)) {
     case 0: length = make_word(text, 128, history->wordings, seed); break;
     case 1: length = snprintf(text, 128, "tally,%u,%u\n", below(seed, 9), from); break;

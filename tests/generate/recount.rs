@@ -1,7 +1,7 @@
 //! Counts again, from the accepted sheets and their answers alone: issued and withdrawn as the section "Booking, tally"
 //! words it, and open, shut and placed as document 02, ask 3, divides them. All of it is held against the till's
-//! tallies. After an opening (document 02, ask 5) all begins at its text. What closing writes is held against the
-//! history.
+//! tallies. After an opening (document 02, ask 5) all begins at its text, which must be the one that its till writes
+//! (ask 8). What closing writes is held against the history.
 
 use crate::generate::model::Answer;
 use std::collections::{BTreeMap, BTreeSet};
@@ -129,6 +129,8 @@ impl Recount {
         let text = String::from_utf8_lossy(text).into_owned();
         if self.begin(&text).is_none() {
             self.wrong.push(format!("read, but no text or names what is not there: {text:?}"));
+        } else if self.text() != text {
+            self.wrong.push(format!("read, but another text than its till's: {text:?}"));
         }
     }
 
@@ -145,17 +147,26 @@ impl Recount {
         (self.live.len() + self.standing.len() == coupons as usize).then_some(())
     }
 
-    /// The text that closing wrote: the lines answered, and the coupons that are live by the history.
-    pub fn closed(&mut self, text: &[u8]) {
+    /// The text of the till: the lines answered, and the coupons that are live by the history. Its first line is the
+    /// first edition's where a till of that could have been so: nothing in a holder's name, and 512 coupons at most.
+    fn text(&self) -> String {
         let singles = self.live.iter().map(|(serial, coupon)| (*serial, "s", coupon));
         let standing = self.standing.iter().map(|(serial, coupon)| (*serial, "r", coupon));
         let mut live: Vec<(u32, &str, &Coupon)> = singles.chain(standing).collect();
         live.sort_by_key(|(serial, ..)| *serial);
-        let mut due = format!("till,1,{},{},{}\n", self.last + 1, self.lines.len(), live.len());
+        let old = |line: &String| !matches!(line.split(',').next(), Some("n" | "q"));
+        let edition = if live.len() <= 512 && self.lines.values().all(old) { 1 } else { 2 };
+        let mut due = format!("till,{edition},{},{},{}\n", self.last + 1, self.lines.len(), live.len());
         self.lines.values().for_each(|line| due += &format!("{line}\n"));
         for (serial, kind, Coupon { wording, window: [from, to, first, last] }) in live {
             due += &format!("{serial},{kind},{wording},{from},{to},{first},{last}\n");
         }
+        due
+    }
+
+    /// The text that closing wrote.
+    pub fn closed(&mut self, text: &[u8]) {
+        let due = self.text();
         if due.as_bytes() != text {
             let text = String::from_utf8_lossy(text).into_owned();
             self.wrong.push(format!("closed as {text:?}, by the history {due:?}"));

@@ -6,12 +6,12 @@ use super::formulas::MAX_FORMULAS;
 use super::logic::{FormulaId, Interval};
 use super::refusal;
 
-pub const MAX_LIVE: usize = 512;
+pub const MAX_LIVE: usize = 2048;
 
 /// Room of the index, four times `MAX_LIVE` so that searches are short.
-const INDEX_BITS: u32 = 11;
+const INDEX_BITS: u32 = 13;
 const INDEX: usize = 1 << INDEX_BITS;
-/// Where a live credential stands, 0 to 511.
+/// Where a live credential stands, 0 to 2,047.
 pub type Slot = u16;
 /// A free entry of the index.
 const FREE: Slot = Slot::MAX;

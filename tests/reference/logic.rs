@@ -94,6 +94,11 @@ impl Formula {
         }
     }
 
+    /// A line `n` or `q`.
+    pub fn is_of_holders(self) -> bool {
+        matches!(self, Formula::Named { .. } | Formula::Forall(_))
+    }
+
     /// The formulas this one refers to, left before right.
     pub fn parts(self) -> [Option<FormulaId>; 2] {
         match self {

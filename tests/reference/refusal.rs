@@ -34,14 +34,15 @@ pub const STEP: u32 = 40;
 pub const LABELS: u32 = 41;
 /// Steps end with a premise open, or lines follow the close.
 pub const STEP_COUNT: u32 = 42;
-/// Live credentials, less the linear ones held, are 512 or more.
+/// Live credentials, less the linear ones held, are 2,048 or more.
 pub const CREDENTIALS_FULL: u32 = 22;
 /// Serial 999,999 was given.
 pub const SERIALS_SPENT: u32 = 23;
 
-// A closed till's text (document 02, ask 5)
+// A closed till's text (document 02, asks 5 and 8)
 
-/// Form or a range is broken, counts do not match or are too high, or serials do not rise.
+/// Form or a range is broken, counts do not match or are too high, serials do not rise, or the edition is
+/// not the one in which the lines would be written.
 pub const TEXT_FORM: u32 = 50;
 /// A formula or credential breaks a rule of word or issue, or a serial is not below next.
 pub const TEXT_RULE: u32 = 51;

@@ -1,4 +1,4 @@
-//! The till as text, between closing and opening (document 02, ask 5): refusals 50, 51 and 52.
+//! The till as text, between closing and opening (document 02, asks 5 and 8): refusals 50, 51 and 52.
 
 use super::credentials::{Credential, MAX_LIVE};
 use super::form::{Reader, COMMA, LINE_END, MAX_SERIAL};
@@ -6,14 +6,17 @@ use super::formulas::MAX_FORMULAS;
 use super::logic::{Formula, Interval};
 use super::{refusal, Till};
 
-/// How the first line begins: the edition is 1.
-const EDITION: &[u8] = b"till,1,";
+/// How the first line of a text begins, in the first edition and in the second.
+const FIRST: &[u8] = b"till,1,";
+const SECOND: &[u8] = b"till,2,";
+/// The most live credentials of a till that is written in the first edition.
+const FIRST_LIVE: usize = 512;
 /// What the next serial may be at most: then none is left.
 pub const MAX_NEXT: u32 = MAX_SERIAL + 1;
 
-/// Bytes of the longest text: the first line, 200 lines `g` and 512 credentials, every number as long
+/// Bytes of the longest text: the first line, 200 lines `g` and 2,048 credentials, every number as long
 /// as its range has one.
-pub const MAX_TEXT: usize = 23 + 66 * MAX_FORMULAS + 45 * MAX_LIVE;
+pub const MAX_TEXT: usize = 24 + 66 * MAX_FORMULAS + 45 * MAX_LIVE;
 
 #[allow(dead_code)] // not every program that has a till closes and opens it
 impl Till {
@@ -60,16 +63,19 @@ impl Till {
     /// Reads the lines in one pass, each held against those before it. None if the form is broken;
     /// otherwise whether the rules are kept, save 3 and 43, which the reader notes.
     fn read_lines(&mut self, reader: &mut Reader) -> Option<bool> {
-        if !reader.skip(EDITION) {
-            return None;
-        }
+        let edition = [FIRST, SECOND].into_iter().find(|edition| reader.skip(edition))?;
         let next = reader.number(1, MAX_NEXT, COMMA)?;
         let formulas = reader.number(0, MAX_FORMULAS as u32, COMMA)?;
         let credentials = reader.number(0, MAX_LIVE as u32, LINE_END)?;
-        let mut rules_kept = true;
+        let (mut rules_kept, mut holders) = (true, false);
         for _ in 0..formulas {
+            let line = reader.formula()?;
+            holders |= line.is_of_holders();
             // 10, 53, 12, 13; there is room for all that are counted, so not 14
-            rules_kept &= self.formulas.add(reader.formula()?).is_ok();
+            rules_kept &= self.formulas.add(line).is_ok();
+        }
+        if edition != edition_of(holders, credentials as usize) {
+            return None;
         }
         let mut before = 0;
         for _ in 0..credentials {
@@ -85,6 +91,16 @@ impl Till {
         self.credentials.set_next(next);
         // serials rise, so the last one speaks for all
         Some(rules_kept && before < next)
+    }
+}
+
+/// How the first line begins: in the second edition if some formula is an `n` or a `q`, used or not, or
+/// if more than 512 credentials are live, otherwise in the first.
+pub fn edition_of(holders: bool, live: usize) -> &'static [u8] {
+    if holders || live > FIRST_LIVE {
+        SECOND
+    } else {
+        FIRST
     }
 }
 
@@ -107,7 +123,8 @@ struct Writer {
 impl Writer {
     fn till(&mut self, till: &Till) {
         let lines = till.formulas.lines();
-        self.bytes(EDITION);
+        let holders = lines.iter().any(|line| line.is_of_holders());
+        self.bytes(edition_of(holders, till.credentials.count()));
         self.number(till.credentials.next(), COMMA);
         self.number(lines.len() as u32, COMMA);
         self.number(till.credentials.count() as u32, LINE_END);

@@ -50,7 +50,7 @@ impl Play {
             let (given, wanted) = rest.split_once('\t').unwrap_or((rest, ""));
             let got = self.turn(what, given.trim_start());
             if got != wanted {
-                return Err(format!("line {}: {got} and not {wanted}", number + 1));
+                return Err(format!("line {}: {} and not {}", number + 1, short(&got), short(wanted)));
             }
         }
         Ok(())
@@ -106,6 +106,11 @@ impl Play {
         }
         String::new()
     }
+}
+
+/// What is printed of an answer: a buffer may be long.
+fn short(answer: &str) -> String {
+    answer.chars().take(60).collect()
 }
 
 fn unasked(_: String) -> String {

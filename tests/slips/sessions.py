@@ -3,7 +3,7 @@
 
     tests/slips/sessions.py > LIST
 
-It begins at what the functions of crates/ledger and crates/snapshot ensure: every `⌜ .. ⌝` that names something of
+It begins at what the functions of crates/ledger, crates/snapshot and crates/hall ensure: every `⌜ .. ⌝` that names something of
 their files of sessions, those with a `List Turn` or a `Session`. Each such statement is computed as far as these files
 define it, until it speaks of calls: a ledger is then what was done with it since it was empty, and an equality asks
 what an answer, a text or a ledger is. What it does not know stops it, and so does a statement that gives no session, a
@@ -21,7 +21,7 @@ import re
 import sys
 from collections import namedtuple
 
-CRATES = ("ledger", "snapshot")
+CRATES = ("ledger", "snapshot", "hall")
 TURNS = re.compile(r"(?:^|→ )(?:List )?\(?(?:List )?(?:Turn|Session)\)?$")
 TOKEN = re.compile(r'\s+|--[^\n]*|"((?:[^"\\]|\\.)*)"|(\.\w+|λ|[(){}\[\],;=∷×≡≤→⇒⇛:+]+|[^\s(){}\[\],;"∷]+)')
 # operators from the loosest on, each taking the same or a tighter one at its right
@@ -236,6 +236,9 @@ KNOWN = {
     "reopen": reopened,
     "text": lambda ledger: Asked(ledger, "text", None),
     "close": lambda ledger: lambda buffer: dict.fromkeys(("answer", "buffer"), Asked(ledger, "closed", buffer)),
+    "Linear": "s",
+    "Unrestricted": "r",
+    "span": lambda i: lambda j: lambda p: lambda q: f"{i},{j},{p},{q}",
     "Line.atom": lambda predicate: lambda session: ("a", predicate, session),
     "Unit": [],
 }
@@ -292,13 +295,16 @@ class Sessions:
 
     @staticmethod
     def record(fields):
-        """A ledger that is written down is one of no live coupon and one wording, with its next serial."""
+        """A ledger that is written down has one wording, and its live coupons were issued last, one after the other."""
         if set(fields) != {"lines", "live", "next"}:
             return fields
         (letter, predicate, session), = fields["lines"]
-        if fields["live"] or letter != "a":
-            raise Bad("a ledger that is not idle")
-        return Ledger((("c", list(b"word,a,%d,%d\n" % (predicate, session))), ("N", fields["next"])))
+        first = fields["next"] - len(fields["live"])
+        if letter != "a" or [coupon["serial"] for coupon in fields["live"]] != list(range(first, fields["next"])):
+            raise Bad("a ledger that is not known")
+        issues = [f"issue,{coupon['kind']},{coupon['formula']},{coupon['interval']}\n" for coupon in fields["live"]]
+        return Ledger((("c", list(b"word,a,%d,%d\n" % (predicate, session))), ("N", first),
+                       *(("c", list(issue.encode())) for issue in issues)))
 
     def binary(self, file, tree, bound):
         sign, left, right = tree[1:]
@@ -388,8 +394,10 @@ class Sessions:
         """The sessions of one equality."""
         if isinstance(asked, Ledger):
             lines = self.done(wanted) + ["K"] + self.done(asked) + ["Q"]
-        elif isinstance(asked, dict):  # of a closing: what is told and the buffer after
+        elif isinstance(asked, dict) and asked["0"].kind == "closed":  # what is told and the buffer after
             return self.session(name, asked["0"], wanted)
+        elif isinstance(asked, dict):  # of an opening: what is told, and the text after
+            return self.session(name, [asked["0"], asked["1"]], [wanted["0"], wanted["1"]])
         elif isinstance(asked, list):
             if len(asked) != len(wanted):
                 raise Bad(f"{name}: {len(asked)} asked, {len(wanted)} answers")

@@ -138,7 +138,7 @@ pub fn unissuable_number(kind: Kind) -> u32
     }
 }
 
-// 22: live credentials, less the linear ones held, are 512 or more.
+// 22: live credentials, less the linear ones held, are 2,048 or more.
 pub fn check_room(store: &Store, held: u32) -> Verdict
     requires { ⌜ Good (now store) ⌝ }
     ensures { λ r. ⌜ Tells 22 r (noRoom (ledgerOf (now (store .entry))) held) ⌝ }

@@ -1,15 +1,11 @@
--- M1 to M10, and M1 for guests who are late, by computation.
+-- M1 to M9, and M1 for guests who are late, by computation.
 use mathlib.Core.Path.{refl}
-use Rattle.ledger.specs.Sessions.{Plays, AllPlay, SessionsPlay, times, counting, M10, LaterPlay}
+use Rattle.ledger.specs.Sessions.{Plays, AllPlay, SessionsPlay, LaterPlay}
 use Rattle.ledger.proofs.Compute.{played}
 
 pub sessions-play : SessionsPlay
 unfolding played Plays AllPlay
 sessions-play = (refl, (refl, (refl, (refl, (refl, (refl, (refl, (refl, (refl, tt)))))))))
-
-pub m10-plays : Plays M10
-unfolding played Plays times counting
-m10-plays = refl
 
 pub later-play : LaterPlay
 unfolding played Plays AllPlay

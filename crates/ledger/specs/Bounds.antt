@@ -45,7 +45,7 @@ pub record Bounded (t : Ledger) : Type 0 where
   -- live serials have been given: they are below the next
   pub rises : Rises 0 (t .live)
   pub below : Below (t .next) (t .live)
-  -- "holds at most 200"; "At most 512 are live"
+  -- "holds at most 200"; "Up to 2,048 live coupons"
   pub lines : length (t .lines) ≤ maxFormulas
   pub live : length (t .live) ≤ maxLive
   -- "serial 1 to 999,999": after the last of them none is given

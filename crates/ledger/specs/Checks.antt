@@ -52,7 +52,7 @@ anyOf f (x ∷ xs) = f x || anyOf f xs
 
 -- The tests
 
--- "Size: .. at most 64"; "holds at most 200"; "At most 512 are live"
+-- "Size: .. at most 64"; "holds at most 200"; "Up to 2,048 live coupons are allowed" (document 02, ask 8)
 abbrev pub maxSize : ℕ
 maxSize = 64
 
@@ -60,7 +60,7 @@ abbrev pub maxFormulas : ℕ
 maxFormulas = 200
 
 abbrev pub maxLive : ℕ
-maxLive = 512
+maxLive = 2048
 
 -- the number names no formula of the ledger
 abbrev pub missing : Ledger → ℕ → Bool
@@ -102,7 +102,7 @@ unfoldable pub twice : List ℕ → Bool
 twice [] = false
 twice (n ∷ ns) = anyOf (eqb n) ns || twice ns
 
--- "live, less singles held, is 512 or more"
+-- "live, less singles held, is 2,048 or more"
 abbrev pub noRoom : Ledger → ℕ → Bool
 noRoom t linears = leb maxLive (length (t .live) - linears)
 

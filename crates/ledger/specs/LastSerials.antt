@@ -1,11 +1,14 @@
--- Sessions at the last serials: "serial 999,999 was given" (23), alone and with 512 live (22). They begin at a ledger
--- that nobody would reach by hand, and calls give it: `IdleGiven`.
+-- Sessions at the last serials: "serial 999,999 was given" (23), alone and with 2,048 live (22). They begin at ledgers
+-- that nobody would reach by hand, and calls give these: `IdleGiven`, `CrowdGiven`.
 use mathlib.Core.Path.{_≡_}
-use mathlib.Core.List.{List, [], _∷_, _++_}
+use mathlib.Core.List.{List, [], _∷_}
 use Prim.Native.Nat.{ℕ, zero, suc, _+_, _≤_}
-use Prim.Native.String.{String}
+use Rattle.logic.specs.Interval.{span}
+use Rattle.request.specs.declared.Kind.{Kind}
+use Rattle.request.specs.declared.Kind.the-variants.{Linear, Unrestricted}
 use Rattle.request.specs.Range.{serial}
 use Rattle.request.specs.Request.{Line}
+use Rattle.ledger.specs.declared.Credential.{Credential}
 use Rattle.ledger.specs.Ledger.{Ledger, empty}
 use Rattle.ledger.specs.Calls.{Told, after}
 use Rattle.ledger.specs.Cases.{Turn, _⇒_, _⇛_, accepted, refused, AnsweredFrom}
@@ -28,26 +31,39 @@ last =
     ("withdraw,999999\n" ⇒ accepted 999999) ∷
     ("issue,s,0,0,9,0,0\n" ⇒ refused 23) ∷ []
 
--- a text n times, each time answered with the next serial
-unfoldable pub given : String → ℕ → ℕ → List Turn
-given text zero k = []
-given text (suc n) k = (text ⇒ accepted k) ∷ given text n (suc k)
+-- of that atom a credential, and n linear ones from serial k on
+abbrev pub coupon : Kind → ℕ → Credential
+coupon k n = record { serial = n; kind = k; formula = 0; interval = span 0 9 0 0 }
 
--- 512 are live and no serial is left: 10, 20, 21 and 40 before 22, "live, less singles held", 22 before 23.
+unfoldable pub crowd : ℕ → ℕ → List Credential
+crowd zero k = []
+crowd (suc n) k = coupon Linear k ∷ crowd n (k + 1)
+
+-- 2,048 are live, the first of them standing, and no serial is left
+abbrev pub crowded : Ledger
+crowded = record {
+  lines = Line.atom 9 7 ∷ [];
+  live = coupon Unrestricted 997952 ∷ crowd 2047 997953;
+  next = 1000000;
+}
+
+abbrev pub CrowdGiven : Type 0
+CrowdGiven = (calls : List (List ℕ)) × (after empty calls ≡ crowded)
+
+-- There: 10, 20, 21 and 40 before 22, "live, less singles held", 22 before 23.
 abbrev pub full : List Turn
 full =
-    ("issue,r,0,0,9,0,0\n" ⇒ accepted 999488) ∷ given "issue,s,0,0,9,0,0\n" 511 999489 ++
     ("issue,s,0,0,9,0,0\n" ⇒ refused 22) ∷
     ("word,o\n" ⇒ accepted 1) ∷
     ("word,a,1,7\n" ⇒ accepted 2) ∷
     ("issue,s,1,0,9,0,0\n" ⇒ refused 20) ∷
     ("issue,r,2,0,9,0,0\n" ⇒ refused 21) ∷
     ("issue,s,3,0,9,0,0\n" ⇒ refused 10) ∷
-    (("book,5,0,0,9,0,0,1,1" ∷ "hold,999488" ∷ "ax,0" ∷ []) ⇛ Told.no 40 1) ∷
-    (("book,5,0,0,9,0,0,1,2" ∷ "hold,999488" ∷ "cp,0" ∷ "ax,1" ∷ []) ⇛ refused 22) ∷
-    (("book,5,0,0,9,0,0,1,1" ∷ "hold,999489" ∷ "ax,0" ∷ []) ⇛ refused 23) ∷
-    ("withdraw,999489\n" ⇒ accepted 999489) ∷
+    (("book,5,0,0,9,0,0,1,1" ∷ "hold,997952" ∷ "ax,0" ∷ []) ⇛ Told.no 40 1) ∷
+    (("book,5,0,0,9,0,0,1,2" ∷ "hold,997952" ∷ "cp,0" ∷ "ax,1" ∷ []) ⇛ refused 22) ∷
+    (("book,5,0,0,9,0,0,1,1" ∷ "hold,997953" ∷ "ax,0" ∷ []) ⇛ refused 23) ∷
+    ("withdraw,997953\n" ⇒ accepted 997953) ∷
     ("issue,s,0,0,9,0,0\n" ⇒ refused 23) ∷ []
 
 abbrev pub LastSerialsPlay : Type 0
-LastSerialsPlay = AnsweredFrom (idle 999999) last × AnsweredFrom (idle 999488) full
+LastSerialsPlay = AnsweredFrom (idle 999999) last × AnsweredFrom crowded full

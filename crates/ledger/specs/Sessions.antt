@@ -1,5 +1,6 @@
--- Document 01's sessions M1 to M10: inputs, as the bytes of the requests, with their answers. Its lines are quoted as
+-- Document 01's sessions M1 to M9: inputs, as the bytes of the requests, with their answers. Its lines are quoted as
 -- they stand there; "M1 to M10 get 0,0 in each window" (document 02, ask 2). And M1 for guests who are late (ask 4).
+-- M10 is long, and in crate hall.
 use mathlib.Core.Path.{_≡_}
 use mathlib.Core.List.{List, [], _∷_, _++_, map}
 use Prim.Native.Nat.{ℕ, zero, suc}
@@ -142,23 +143,6 @@ M9 = record {
 unfoldable pub times : ℕ → String → List String
 times zero l = []
 times (suc n) l = l ∷ times n l
-
--- n numbers from k on
-unfoldable pub counting : ℕ → ℕ → List ℕ
-counting zero k = []
-counting (suc n) k = k ∷ counting n (suc k)
-
--- "M1's words, `issue,r,2,0,9`, then 511 times `issue,s,2,0,9`: `book,0,2,0,9,1,1` with hold 2 and step `ax,0` gives
--- ok,513; then `book,0,2,0,9,1,2` with hold 1 and steps `cp,0` `ax,1` gives no,22,0."
-abbrev pub M10 : Session
-M10 = record {
-  requests =
-      words ++ each ("issue,r,2,0,9,0,0" ∷ times 511 "issue,s,2,0,9,0,0")
-      ++ (("book,0,2,0,9,0,0,1,1" ∷ "hold,2" ∷ "ax,0" ∷ []) ∷
-      ("book,0,2,0,9,0,0,1,2" ∷ "hold,1" ∷ "cp,0" ∷ "ax,1" ∷ []) ∷ []);
-  replies =
-      oks (0 ∷ 1 ∷ 2 ∷ 3 ∷ 4 ∷ 5 ∷ 6 ∷ 7 ∷ counting 513 1) ++ (Told.no 22 0 ∷ []);
-}
 
 -- "M1 to M9 stand as one proved statement, a list of inputs with answers"
 abbrev pub sessions : List Session

@@ -4,21 +4,21 @@
 
 ghost use Rattle.ledger.specs.Bounds.{AlwaysBounded};
 ghost use Rattle.ledger.specs.Statements.{Refusals, SameLine};
-ghost use Rattle.ledger.specs.Sessions.{SessionsPlay, Plays, M10, LaterPlay};
+ghost use Rattle.ledger.specs.Sessions.{SessionsPlay, LaterPlay};
 ghost use Rattle.ledger.specs.Cases.{CasesPlay};
 ghost use Rattle.ledger.specs.FormulaCases.{FormulaCasesPlay};
 ghost use Rattle.ledger.specs.StepCases.{StepCasesPlay};
 ghost use Rattle.ledger.specs.PauseCases.{PauseCasesPlay};
 ghost use Rattle.ledger.specs.ConnectiveCases.{ConnectiveCasesPlay};
 ghost use Rattle.ledger.specs.HolderCases.{HolderCasesPlay};
-ghost use Rattle.ledger.specs.LastSerials.{IdleGiven, LastSerialsPlay};
+ghost use Rattle.ledger.specs.LastSerials.{IdleGiven, CrowdGiven, LastSerialsPlay};
 
-// "Size: .. at most 64"; "holds at most 200"; "At most 512 are live": as specs/Checks.antt has them.
+// "Size: .. at most 64"; "holds at most 200"; "Up to 2,048 live coupons": as specs/Checks.antt has them.
 pub const MAX_SIZE: u32 = 64;
 
 pub const MAX_FORMULAS: u32 = 200;
 
-pub const MAX_LIVE: u32 = 512;
+pub const MAX_LIVE: u32 = 2048;
 
 // A credential (document 01: a coupon): its serial, its kind, its formula's number (wording) and its interval (window).
 pub struct Credential {
@@ -53,10 +53,9 @@ pub fn lines_are_compared()
     ensures { λ _. ⌜ SameLine ⌝ }
 {}
 
-// Document 01's sessions: M1 to M9, and M10; M1 for guests who are late.
+// Document 01's sessions M1 to M9; M1 for guests who are late.
 pub fn sessions_play()
     ensures to_m9 { λ _. ⌜ SessionsPlay ⌝ }
-    ensures m10 { λ _. ⌜ Plays M10 ⌝ }
     ensures later { λ _. ⌜ LaterPlay ⌝ }
 {}
 
@@ -65,6 +64,7 @@ pub fn cases_play()
     ensures cases { λ _. ⌜ CasesPlay ⌝ }
     ensures formulas { λ _. ⌜ FormulaCasesPlay ⌝ }
     ensures given { λ _. ⌜ IdleGiven ⌝ }
+    ensures crowd { λ _. ⌜ CrowdGiven ⌝ }
     ensures serials { λ _. ⌜ LastSerialsPlay ⌝ }
 {}
 

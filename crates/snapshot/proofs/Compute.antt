@@ -6,14 +6,16 @@ use Rattle.request.specs.Write.{written, digits, joined, endedLines, minutes, k
 use Rattle.ledger.specs.Ledger.{empty}
 use Rattle.ledger.specs.Calls.{after}
 use Rattle.ledger.proofs.Compute.{played}
-use Rattle.snapshot.specs.Snapshot.{editionFields, titleFields, credentialFields, snapshotTexts, text}
-use Rattle.snapshot.specs.Snapshot.{firstEdition, edition, titleLine, credentialLine, body, snapshotLines}
-use Rattle.snapshot.specs.Snapshot.{snapshotOf, rising, badLines, badCredential, unruly, openChecks}
+use Rattle.snapshot.specs.Snapshot.{holderLine, editionOf, editionFields, titleFields, credentialFields, textsIn}
+use Rattle.snapshot.specs.Snapshot.{text, counts, edition, titleLine, credentialLine, body, savedLines}
+use Rattle.snapshot.specs.Snapshot.{savedOf, asWritten, snapshotOf, rising, badLines, badCredential, unruly}
+use Rattle.snapshot.specs.Snapshot.{openChecks}
 use Rattle.snapshot.specs.Reopen.{settle, reopen, close}
 
 -- the text of the ledger that a text is opened as
 unfoldable pub rewritten : List ℕ → List ℕ
-unfolding played after written digits joined endedLines minutes kindField lineFields editionFields titleFields
-    credentialFields snapshotTexts text firstEdition edition titleLine credentialLine body snapshotLines snapshotOf
+unfolding played after written digits joined endedLines minutes kindField lineFields holderLine editionOf editionFields
+    titleFields credentialFields textsIn text counts edition titleLine credentialLine body savedLines savedOf
+    asWritten snapshotOf
     rising badLines badCredential unruly openChecks settle reopen close
 rewritten b = text (reopen empty b .ledger)

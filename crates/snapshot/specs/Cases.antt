@@ -2,9 +2,10 @@
 -- place where document 02 is easily read otherwise. A text is given by its lines, or by its bytes.
 use mathlib.Core.Path.{_≡_}
 use mathlib.Core.List.{List, [], _∷_, _++_, map}
-use Prim.Native.Nat.{ℕ}
+use Prim.Native.Nat.{ℕ, zero, suc, _+_}
 use Prim.Native.String.{String}
 use Rattle.request.specs.Text.{bytes}
+use Rattle.request.specs.Write.{digits}
 use Rattle.request.specs.Ends.{Ends}
 use Rattle.ledger.specs.Ledger.{Ledger, empty}
 use Rattle.ledger.specs.Calls.{Told, ok, told, after}
@@ -66,13 +67,15 @@ forms =
     ("till,1,1,0,0,0\n" ⇒ refused 50) ∷
     ("till,1,1,0\n" ⇒ refused 50) ∷
     ("till,2,1,0,0\n" ⇒ refused 50) ∷
+    ("till,0,1,0,0\n" ⇒ refused 50) ∷
+    ("till,3,1,0,0\n" ⇒ refused 50) ∷
     ("till,01,1,0,0\n" ⇒ refused 50) ∷
     ("book,1,1,0,0\n" ⇒ refused 50) ∷
     ("till,1,01,0,0\n" ⇒ refused 50) ∷
     ("till,1,0,0,0\n" ⇒ refused 50) ∷
     ("till,1,1000001,0,0\n" ⇒ refused 50) ∷
     ("till,1,1,201,0\n" ⇒ refused 50) ∷
-    ("till,1,1,0,513\n" ⇒ refused 50) ∷
+    ("till,1,1,0,2049\n" ⇒ refused 50) ∷
     ("till,1,1,1,0\n" ⇒ refused 50) ∷
     ("till,1,1,0,0\no\n" ⇒ refused 50) ∷
     ("till,1,1,1,0\nword,o\n" ⇒ refused 50) ∷
@@ -136,30 +139,82 @@ rules =
 -- the lines before it.
 abbrev pub holders : List Turn
 holders =
-    (("till,1,3,3,1" ∷ "n,2,7,0" ∷ "q,0" ∷ "n,2,7,65535" ∷ "2,s,2,0,9,0,0" ∷ []) ⇛ accepted 51) ∷
-    (("till,1,3,1,0" ∷ "n,2,7,65536" ∷ []) ⇛ refused 50) ∷
-    (("till,1,3,1,0" ∷ "n,2,7" ∷ []) ⇛ refused 50) ∷
-    (("till,1,3,3,0" ∷ "n,2,7,0" ∷ "q,0" ∷ "q,1" ∷ []) ⇛ refused 51) ∷
-    (("till,1,3,3,0" ∷ "n,2,7,0" ∷ "q,0" ∷ "t,1,1" ∷ []) ⇛ accepted 31) ∷
-    (("till,1,3,2,0" ∷ "q,1" ∷ "n,2,7,0" ∷ []) ⇛ refused 51) ∷
-    (("till,1,3,1,1" ∷ "n,2,7,0" ∷ "2,s,0,0,9,0,0" ∷ []) ⇛ refused 51) ∷
-    (("till,1,3,1,1" ∷ "n,9,7,0" ∷ "2,r,0,0,9,0,0" ∷ []) ⇛ refused 51) ∷
-    (("till,1,3,2,1" ∷ "n,9,7,0" ∷ "q,0" ∷ "2,s,1,0,9,0,0" ∷ []) ⇛ refused 51) ∷
-    (("till,1,3,2,1" ∷ "n,9,7,0" ∷ "q,0" ∷ "2,r,1,0,9,0,0" ∷ []) ⇛ accepted 39) ∷ []
+    (("till,2,3,3,1" ∷ "n,2,7,0" ∷ "q,0" ∷ "n,2,7,65535" ∷ "2,s,2,0,9,0,0" ∷ []) ⇛ accepted 51) ∷
+    (("till,2,3,1,0" ∷ "n,2,7,65536" ∷ []) ⇛ refused 50) ∷
+    (("till,2,3,1,0" ∷ "n,2,7" ∷ []) ⇛ refused 50) ∷
+    (("till,2,3,3,0" ∷ "n,2,7,0" ∷ "q,0" ∷ "q,1" ∷ []) ⇛ refused 51) ∷
+    (("till,2,3,3,0" ∷ "n,2,7,0" ∷ "q,0" ∷ "t,1,1" ∷ []) ⇛ accepted 31) ∷
+    (("till,2,3,2,0" ∷ "q,1" ∷ "n,2,7,0" ∷ []) ⇛ refused 51) ∷
+    (("till,2,3,1,1" ∷ "n,2,7,0" ∷ "2,s,0,0,9,0,0" ∷ []) ⇛ refused 51) ∷
+    (("till,2,3,1,1" ∷ "n,9,7,0" ∷ "2,r,0,0,9,0,0" ∷ []) ⇛ refused 51) ∷
+    (("till,2,3,2,1" ∷ "n,9,7,0" ∷ "q,0" ∷ "2,s,1,0,9,0,0" ∷ []) ⇛ refused 51) ∷
+    (("till,2,3,2,1" ∷ "n,9,7,0" ∷ "q,0" ∷ "2,r,1,0,9,0,0" ∷ []) ⇛ accepted 39) ∷ []
+
+-- Ask 8: "A till with no `n` or `q` and at most 512 live coupons is still written with `till,1`; any other is written
+-- with `till,2`", used or not; "50 for a first line that closing would not write", also before a rule that is broken.
+abbrev pub editions : List Turn
+editions =
+    (("till,1,1,0,0" ∷ []) ⇛ accepted 13) ∷
+    (("till,2,1,0,0" ∷ []) ⇛ refused 50) ∷
+    (("till,2,2,1,1" ∷ "a,9,7" ∷ "1,s,0,0,9,0,0" ∷ []) ⇛ refused 50) ∷
+    (("till,2,1,1,0" ∷ "n,9,7,5" ∷ []) ⇛ accepted 21) ∷
+    (("till,1,1,1,0" ∷ "n,9,7,5" ∷ []) ⇛ refused 50) ∷
+    (("till,2,1,2,0" ∷ "o" ∷ "q,0" ∷ []) ⇛ accepted 19) ∷
+    (("till,1,1,2,0" ∷ "o" ∷ "q,0" ∷ []) ⇛ refused 50) ∷
+    (("till,2,1,3,0" ∷ "n,9,7,5" ∷ "o" ∷ "b,1" ∷ []) ⇛ accepted 27) ∷
+    (("till,1,1,3,0" ∷ "o" ∷ "b,0" ∷ "n,9,7,0" ∷ []) ⇛ refused 50) ∷
+    (("till,2,1,1,0" ∷ "q,5" ∷ []) ⇛ refused 51) ∷
+    (("till,1,1,1,0" ∷ "q,5" ∷ []) ⇛ refused 50) ∷
+    (("till,2,1,1,0" ∷ "b,5" ∷ []) ⇛ refused 50) ∷
+    (("till,1,1,1,0" ∷ "b,5" ∷ []) ⇛ refused 51) ∷
+    (("till,0,1,1,0" ∷ "n,9,7,5" ∷ []) ⇛ refused 50) ∷
+    (("till,3,1,1,0" ∷ "n,9,7,5" ∷ []) ⇛ refused 50) ∷
+    (("till,02,1,1,0" ∷ "n,9,7,5" ∷ []) ⇛ refused 50) ∷
+    (("till,21,1,0" ∷ "n,9,7,5" ∷ []) ⇛ refused 50) ∷
+    (("till,1,1,2,0" ∷ "n,9,7,5" ∷ "g,9,0,0,0,0,9,0,0" ∷ []) ⇛ refused 50) ∷
+    (("till,1,2,2,1" ∷ "n,9,7,5" ∷ "o" ∷ "1,s,1,0,9,0,0" ∷ []) ⇛ refused 50) ∷
+    (("till,2" ∷ "n,9,7,5" ∷ []) ⇛ refused 50) ∷ []
 
 pub record TextsOpen : Type 0 where
-  -- "its counts .. pass 200 or 512"
+  -- "its counts .. pass 200 or 512", by ask 8 2,048
   pub lineCounts : Ends lineCount "0" "200" "-" "201"
-  pub liveCounts : Ends liveCount "0" "512" "-" "513"
+  pub liveCounts : Ends liveCount "0" "2048" "-" "2049"
   pub forms : OpenedAs forms
   pub credentials : OpenedAs credentials
   pub rules : OpenedAs rules
   pub holders : OpenedAs holders
+  pub editions : OpenedAs editions
+
+-- n lines of coupons from serial k on, each with the same text after its serial
+unfoldable pub coupons : String → ℕ → ℕ → List ℕ
+coupons more zero k = []
+coupons more (suc n) k = digits k ++ bytes more ++ coupons more n (suc k)
+
+abbrev pub singles : ℕ → ℕ → List ℕ
+singles n k = coupons ",s,0,0,9,0,0\n" n k
+
+-- A free atom and n single-use coupons from serial 1 on, after a first line: 512 are the first edition's, and one more
+-- makes it the second. The other edition is 50, also where next is not above the serials (51).
+abbrev pub bulk : String → ℕ → List ℕ
+bulk first n = bytes first ++ bytes "\na,9,7\n" ++ singles n 1
+
+abbrev pub opening : List ℕ → Told
+opening b = told (reopen empty b .answer)
+
+pub record EditionsOpen : Type 0 where
+  pub few : opening (bulk "till,1,513,1,512" 512) ≡ accepted 8107
+  pub many : opening (bulk "till,2,514,1,513" 513) ≡ accepted 8123
+  pub fewSecond : opening (bulk "till,2,513,1,512" 512) ≡ refused 50
+  pub manyFirst : opening (bulk "till,1,514,1,513" 513) ≡ refused 50
+  pub fewLate : opening (bulk "till,1,1,1,512" 512) ≡ refused 51
+  pub fewLateSecond : opening (bulk "till,2,1,1,512" 512) ≡ refused 50
+  pub manyLateFirst : opening (bulk "till,1,1,1,513" 513) ≡ refused 50
+  pub standing : opening (bulk "till,2,514,1,513" 512 ++ bytes "513,r,0,0,9,0,0\n") ≡ accepted 8123
 
 -- After serial 999,999 was given: "(14, 22, 23 apart)", so the text is opened, and 23 comes with the next issue,
 -- where 53 does not come before it.
 abbrev pub lastSerial : List ℕ
-lastSerial = ofLines ("till,1,1000000,2,1" ∷ "a,2,7" ∷ "n,2,7,0" ∷ "999999,s,0,0,9,0,0" ∷ [])
+lastSerial = ofLines ("till,2,1000000,2,1" ∷ "a,2,7" ∷ "n,2,7,0" ∷ "999999,s,0,0,9,0,0" ∷ [])
 
 abbrev pub lastTurns : List Turn
 lastTurns =
@@ -198,4 +253,10 @@ pub record Closings : Type 0 where
   -- a text that is read and refused (51) leaves the ledger
   pub left : reopen (reopened lastSerial) (ofLines (one "3,s,0,0,9,0,0")) .ledger ≡ reopened lastSerial
   pub last : AnsweredFrom (reopened lastSerial) lastTurns
-  pub holders : text (playedOn empty (each holderWords)) ≡ ofLines ("till,1,1,4,0" ∷ holderText)
+  pub holders : text (playedOn empty (each holderWords)) ≡ ofLines ("till,2,1,4,0" ∷ holderText)
+  -- ask 8: one `n` or one `q`, first or last, used or not, makes it `till,2`
+  pub named : text (playedOn empty (each ("word,o" ∷ "word,n,9,7,5" ∷ [])))
+      ≡ ofLines ("till,2,1,2,0" ∷ "o" ∷ "n,9,7,5" ∷ [])
+  pub every : text (playedOn empty (each ("word,o" ∷ "word,q,0" ∷ []))) ≡ ofLines ("till,2,1,2,0" ∷ "o" ∷ "q,0" ∷ [])
+  pub first : text (playedOn empty (each ("word,n,9,7,5" ∷ "word,o" ∷ [])))
+      ≡ ofLines ("till,2,1,2,0" ∷ "n,9,7,5" ∷ "o" ∷ [])

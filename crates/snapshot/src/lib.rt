@@ -7,7 +7,13 @@ ghost use mathlib.Core.List.{List};
 ghost use Rattle.ledger.specs.Ledger.{Ledger};
 ghost use Rattle.snapshot.specs.Statements.{ReadsBack, WritesBack, LongestText, AlwaysLawful, RulesAgree};
 ghost use Rattle.snapshot.specs.Statements.{NumbersApart, OpenAnswers, CloseAnswers, ClosesAndOpens};
-ghost use Rattle.snapshot.specs.Cases.{M1Texts, TextsOpen, Closings};
+ghost use Rattle.snapshot.specs.Cases.{M1Texts, TextsOpen, EditionsOpen, Closings};
+
+// The edition of a text, by its first line's second field: `till,1` or `till,2` (document 02, ask 8).
+pub enum Edition {
+    First,
+    Second,
+}
 
 // A ledger has one text: what is written is read again, and bytes that are opened are those written.
 pub fn one_text()
@@ -50,5 +56,6 @@ pub fn closing_answers()
 pub fn texts_play()
     ensures m1 { λ _. ⌜ M1Texts ⌝ }
     ensures opened { λ _. ⌜ TextsOpen ⌝ }
+    ensures editions { λ _. ⌜ EditionsOpen ⌝ }
     ensures closed { λ _. ⌜ Closings ⌝ }
 {}

@@ -10,12 +10,12 @@
 --                      interval and its second, each from, to, first, last; then its formula's size, whether it is
 --                      plain, balanced, has an unbound holder and has a `q` (1 or 0), kept so that no later request
 --                      goes through the formula's parts again
---   credentialBase ..  1,024 rows of 7: a credential's (a coupon's) serial, kind (0 linear: single-use, 1
+--   credentialBase ..  4,096 rows of 7: a credential's (a coupon's) serial, kind (0 linear: single-use, 1
 --                      unrestricted: standing, 2 for one that has left: a gap), formula number (wording), and its
 --                      interval (window), from, to, first, last. Rows stand in the order of their serials, and a row
 --                      that leaves is only marked, so that no other one moves; there are twice as many rows as may
 --                      live, and when all are in use the live ones are moved together
---   hintBase ..        1,024 hints: at serial mod 1,024 the row where the credential of that serial may stand. A hint
+--   hintBase ..        4,096 hints: at serial mod 4,096 the row where the credential of that serial may stand. A hint
 --                      is only a guess that the search tests first: nothing is asked of its value
 use mathlib.Core.List.{List, [], _∷_}
 use mathlib.Core.Bool.{Bool}

@@ -5,7 +5,7 @@ use mathlib.Core.Bool.{Bool, true, false, _||_}
 use Prim.Native.Nat.{ℕ, zero, suc, _<_}
 use native.Mathlib.Omega.{arith}
 use native.Mathlib.Nat.{le-of-suc-le-suc, not-suc-le-zero}
-use Rattle.ledger.specs.Checks.{anyOf, sameRow}
+use Rattle.ledger.specs.Checks.{anyOf}
 use Rattle.store.specs.Tab.{tab}
 use Rattle.steps.specs.declared.Row.{Row}
 use Rattle.ledger.specs.Table.{rowOf}
@@ -30,14 +30,13 @@ module _ {A : Type 0} (p : A → Bool) where
       go true h = refl
       go false h = h
 
-module _ (l : List ℕ) (g : Good l) (r : Row) where
-  pub has-at : (i : ℕ) → i < lineCount l → sameRow r (rowAt l i) ≡ true
-      → anyOf (λ x. sameRow r (rowOf x)) (ledgerOf l .lines) ≡ true
+-- a test of every row of a store, and of one of them, said of its lines
+module _ (l : List ℕ) (g : Good l) (t : Row → Bool) where
+  pub has-at : (i : ℕ) → i < lineCount l → t (rowAt l i) ≡ true → anyOf (λ x. t (rowOf x)) (ledgerOf l .lines) ≡ true
   unfolding ledgerOf
-  has-at i q e = any-at (λ x. sameRow r (rowOf x)) (lineCount l) _ i q (ap (sameRow r) (g .canonical i q) ∙ e)
+  has-at i q e = any-at (λ x. t (rowOf x)) (lineCount l) _ i q (ap t (g .canonical i q) ∙ e)
 
-  pub has-none : ((i : ℕ) → i < lineCount l → sameRow r (rowAt l i) ≡ false)
-      → anyOf (λ x. sameRow r (rowOf x)) (ledgerOf l .lines) ≡ false
+  pub has-none : ((i : ℕ) → i < lineCount l → t (rowAt l i) ≡ false)
+      → anyOf (λ x. t (rowOf x)) (ledgerOf l .lines) ≡ false
   unfolding ledgerOf
-  has-none h =
-      any-none (λ x. sameRow r (rowOf x)) (lineCount l) _ (λ i q. ap (sameRow r) (g .canonical i q) ∙ h i q)
+  has-none h = any-none (λ x. t (rowOf x)) (lineCount l) _ (λ i q. ap t (g .canonical i q) ∙ h i q)

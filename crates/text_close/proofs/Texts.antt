@@ -18,7 +18,8 @@ use Rattle.ledger.specs.declared.Credential.{Credential}
 use Rattle.ledger.specs.declared.Answer.the-variants.{Accepted, Refused}
 use Rattle.ledger.specs.Ledger.{Ledger, consSome}
 use Rattle.ledger.specs.Calls.{told}
-use Rattle.snapshot.specs.Snapshot.{titleOf, titleFields, credentialFields, snapshotTexts, text}
+use Rattle.snapshot.specs.declared.Edition.{Edition}
+use Rattle.snapshot.specs.Snapshot.{titleOf, ownEdition, titleFields, credentialFields, textsIn, text}
 use Rattle.snapshot.specs.Reopen.{close}
 use Rattle.snapshot.proofs.Reopen.{close-answers}
 use Rattle.store_cells.specs.Layout.{rowAt, credentialAt, gapAt, entryAt}
@@ -81,7 +82,7 @@ module _ (l : List ℕ) where
 
   -- the whole
   pub text-parts : titleText l ++ bodyLines l ≡ text (ledgerOf l)
-  unfolding text snapshotTexts titleText formulaTexts rowTexts ended endedLines ledgerOf
+  unfolding text textsIn titleText formulaTexts rowTexts ended endedLines ledgerOf
   text-parts =
       let t = joined (titleFields (titleOf (ledgerOf l))) in
       append-assoc t (10 ∷ []) _
@@ -90,10 +91,11 @@ module _ (l : List ℕ) where
       (map (λ c. joined (credentialFields c)) (ledgerOf l .live))))
 
   -- what the writers of lines write
-  pub title-as : {n m k : ℕ} → n ≡ ledgerOf l .next → m ≡ length (ledgerOf l .lines) → k ≡ length (ledgerOf l .live)
-      → ended 10 (titleFields (title n m k)) ≡ titleText l
+  pub title-as : {e : Edition} {n m k : ℕ} → e ≡ ownEdition (ledgerOf l) → n ≡ ledgerOf l .next
+      → m ≡ length (ledgerOf l .lines) → k ≡ length (ledgerOf l .live)
+      → ended 10 (titleFields (title e n m k)) ≡ titleText l
   unfolding titleText
-  title-as a b c = rw (a, b, c) refl
+  title-as d a b c = rw (d, a, b, c) refl
 
   pub formula-as : {r : Row} (i : ℕ) → r ≡ rowAt l i → ended 10 (lineFields (lineOf r)) ≡ formulaText l i
   unfolding formulaText
@@ -141,7 +143,7 @@ measured-within h m = record { exact = m .exact; small = omega (arith, m .small)
 
 -- the three parts
 pub measured-sum : {x y z t : List ℕ} {a b c : ℕ} → x ++ (y ++ z) ≡ t → Measured x 40 a → Measured y 18000 b
-    → Measured z 69632 c → Measured t 87672 (a + b + c)
+    → Measured z 278528 c → Measured t 296568 (a + b + c)
 measured-sum {x} {y} {z} e u v w = record {
   exact = omega (arith, u .exact, v .exact, w .exact, ap length e, length-append x (y ++ z), length-append y z);
   small = omega (arith, u .small, v .small, w .small);

@@ -21,7 +21,8 @@ fn title_length(store: &Store) -> usize
     let next = store::next_serial(store);
     let lines = store::formula_count(store);
     let live = store::live_count(store);
-    text_write::title_length(next, lines, live)
+    let e = text_edition::edition_of(store);
+    text_write::title_length(e, next, lines, live)
 }
 
 fn formulas_length(store: &Store) -> usize
@@ -53,7 +54,7 @@ fn row_length(store: &Store, i: u32) -> usize
 
 fn rows_length(store: &Store) -> usize
     requires { ⌜ Good (now store) ⌝ }
-    ensures { λ r. ⌜ Measured (rowLines (now (store .entry))) 69632 r ⌝ }
+    ensures { λ r. ⌜ Measured (rowLines (now (store .entry))) 278528 r ⌝ }
 {
     let n = store::row_count(store);
     let mut at: usize = 0;
@@ -68,7 +69,7 @@ fn rows_length(store: &Store) -> usize
 
 pub fn text_length(store: &Store) -> usize
     requires { ⌜ Good (now store) ⌝ }
-    ensures { λ r. ⌜ Measured (text (ledgerOf (now (store .entry)))) 87672 r ⌝ }
+    ensures { λ r. ⌜ Measured (text (ledgerOf (now (store .entry)))) 296568 r ⌝ }
 {
     title_length(store) + formulas_length(store) + rows_length(store)
 }
@@ -82,7 +83,8 @@ fn put_title(rest: &mut [u8], store: &Store) -> usize
     let next = store::next_serial(store);
     let lines = store::formula_count(store);
     let live = store::live_count(store);
-    text_write::put_title(rest, next, lines, live)
+    let e = text_edition::edition_of(store);
+    text_write::put_title(rest, e, next, lines, live)
 }
 
 fn put_formulas(rest: &mut [u8], store: &Store) -> usize

@@ -21,7 +21,8 @@ use Rattle.ledger.specs.Calls.{Reply, reply, told}
 use Rattle.ledger.specs.Statements.{IsAccepted}
 use Rattle.ledger.proofs.Answers.{some-none, some-inj}
 use Rattle.snapshot.specs.Snapshot.{credentialLine, longestText, linesOnly, badLines, badCredential, unruly}
-use Rattle.snapshot.specs.Snapshot.{snapshotOf, rising, openChecks}
+use Rattle.snapshot.specs.declared.Edition.{Edition}
+use Rattle.snapshot.specs.Snapshot.{ownEdition, sameEdition, asWritten, snapshotOf, rising, openChecks}
 use Rattle.snapshot.specs.Reopen.{settle, reopen}
 use Rattle.snapshot.proofs.Reopen.{open-answers}
 use Rattle.snapshot.proofs.Texts.{read-in-form, read-written, longest-text}
@@ -34,7 +35,7 @@ use Rattle.call_checks.specs.declared.Verdict.{Verdict}
 use Rattle.call_checks.specs.declared.Verdict.the-variants.{Passed, Failed}
 use Rattle.text_read.specs.declared.Heading.{Heading}
 use Rattle.text_read.specs.TextForm.{titleAt, Fails50, Titled, FormIs}
-use Rattle.text_read.proofs.TextForms.{ledgerFrom, snapshot-is}
+use Rattle.text_read.proofs.TextForms.{ledgerFrom, savedFrom, snapshot-is}
 use Rattle.text_open.specs.Opened.{linesAdded, LinesAsked, credentialsAdded, LiveAsked, sound, passing, RefusalIs}
 use Rattle.text_open.specs.Opened.{Opened}
 use Rattle.text_open.proofs.Taking.{taken-lines}
@@ -71,6 +72,14 @@ is-sound t u e = by-test (rising 0 (t .live))
     record { rises = r; rules = p .0; same = p .1 })
     (λ r. let z : _≡_ {A = Option Ledger} none (some u) = rw r at e in absurd (some-none (sym z)))
 
+-- in whatever edition
+abbrev soundIn : Edition × Ledger → Option Ledger
+soundIn s = andThen (asWritten s) sound
+
+unsound-in : (e : Edition) (t : Ledger) → sound t ≡ none → soundIn (e, t) ≡ none
+unfolding asWritten andThen
+unsound-in e t z = by-test (sameEdition e (ownEdition t)) (λ s. rw s z) (λ s. rw s)
+
 -- 50 and nothing else
 pub not-passing : (b : List ℕ) → Fails50 b → none ≡ passing b
 unfolding passing sound openChecks first _if_ andThen
@@ -99,7 +108,7 @@ module _ {b : List ℕ} {h : Heading} (f : Titled b h) where
 
   -- line by line
   passing-is : passing b ≡ andThen (readLines (h .lines) formulaLine (drop (h .body) b)) (λ p.
-      andThen (allLines (h .live) credentialLine (p .1)) (λ cs. sound (ledgerFrom (titleAt h) (p .0) cs)))
+      andThen (allLines (h .live) credentialLine (p .1)) (λ cs. soundIn (savedFrom (titleAt h) (p .0) cs)))
   unfolding passing andThen
   passing-is =
       ap (λ (o : Option Ledger). andThen o sound) (snapshot-is b ∙ then-some _ (f .reads))
@@ -122,7 +131,8 @@ module _ {b : List ℕ} {h : Heading} (f : Titled b h) where
       go none q z = sym (passing-is ∙ then-no _ q)
       go (some p) q z =
           sym (passing-is ∙ then-some _ q ∙ then-none (allLines (h .live) credentialLine (p .1)) (λ cs.
-          unsound-unruly (ledgerFrom (titleAt h) (p .0) cs) (rw (unpicked (badLines [] (p .0)) _ z))))
+          unsound-in (h .edition) (ledgerFrom (titleAt h) (p .0) cs)
+          (unsound-unruly (ledgerFrom (titleAt h) (p .0) cs) (rw (unpicked (badLines [] (p .0)) _ z)))))
 
   -- the lines that were read, where none is bad
   record LinesRead (m : List ℕ) (i : ℕ) : Type 0 where
@@ -163,7 +173,8 @@ module _ {b : List ℕ} {h : Heading} (f : Titled b h) where
     whole : List Credential → Ledger
     whole cs = ledgerFrom (titleAt h) (r .lines) cs
 
-    passing-on : passing b ≡ andThen (allLines (h .live) credentialLine (drop i b)) (λ cs. sound (whole cs))
+    passing-on : passing b
+        ≡ andThen (allLines (h .live) credentialLine (drop i b)) (λ cs. soundIn (h .edition, whole cs))
     unfolding whole
     passing-on = passing-is ∙ then-some _ (r .read)
 
@@ -177,7 +188,7 @@ module _ {b : List ℕ} {h : Heading} (f : Titled b h) where
         → sound (whole (p .0)) ≡ none → none ≡ passing b
     unfolding allLines andThen
     all-none p q z = by-test (eqb (length (p .1)) 0)
-        (λ t. sym (passing-on ∙ rw (allLines, q, andThen, t) z))
+        (λ t. sym (passing-on ∙ rw (allLines, q, andThen, t) (unsound-in (h .edition) (whole (p .0)) z)))
         (λ t. sym (passing-on ∙ rw (allLines, q, andThen, t)))
 
     pub live-bad : credentialsAdded (h .next) (ledgerOf m) (h .live) (drop i b) ≡ none → none ≡ passing b
@@ -238,18 +249,36 @@ module _ {b : List ℕ} {h : Heading} (f : Titled b h) where
                 omega (arith, length-drop j b, n)),
           ))
 
-      pub built : {k : List ℕ} → length b ≤ j → StandsFor k (withNext u (h .next)) → some (ledgerOf k) ≡ passing b
-      unfolding allLines andThen sound unruly whole
-      built n w =
-          sym (passing-on ∙ rw (
-            allLines,
-            live-read .read,
-            andThen,
-            past b j n,
-            live-read .rises,
-            r .rules,
-            live-read .rules,
-          ) (ap some (live-read .ledger ∙ sym (w .ledger))))
+      module _ {k : List ℕ} (n : length b ≤ j) (w : StandsFor k (withNext u (h .next))) where
+        is-whole : ledgerOf k ≡ whole (live-read .live)
+        is-whole = w .ledger ∙ sym (live-read .ledger)
+
+        module _ {d : Edition} (own : d ≡ ownEdition (ledgerOf k)) where
+          is-own : d ≡ ownEdition (whole (live-read .live))
+          is-own = own ∙ ap ownEdition is-whole
+
+          pub built : true ≡ sameEdition (h .edition) d → some (ledgerOf k) ≡ passing b
+          unfolding allLines andThen asWritten sound unruly whole
+          built s =
+              let z : sameEdition (h .edition) (ownEdition (whole (live-read .live))) ≡ true =
+              subst (λ (x : Edition). sameEdition (h .edition) x ≡ true) is-own (sym s) in
+              sym (passing-on ∙ rw (
+                allLines,
+                live-read .read,
+                andThen,
+                past b j n,
+                z,
+                live-read .rises,
+                r .rules,
+                live-read .rules,
+              ) (ap some (sym is-whole)))
+
+          pub other-edition : false ≡ sameEdition (h .edition) d → none ≡ passing b
+          unfolding allLines andThen asWritten whole
+          other-edition s =
+              let z : sameEdition (h .edition) (ownEdition (whole (live-read .live))) ≡ false =
+              subst (λ (x : Edition). sameEdition (h .edition) x ≡ false) is-own (sym s) in
+              sym (passing-on ∙ rw (allLines, live-read .read, andThen, past b j n, z))
 
 -- Opening
 

@@ -133,7 +133,12 @@ fn build(spare: &mut Store, text: &[u8]) -> Verdict
         return Verdict::Failed;
     }
     store_credentials::set_next(spare, h.next);
-    Verdict::Passed
+    let own = text_edition::edition_of(spare);
+    let edition = h.edition;
+    if text_edition::same(edition, own) {
+        return Verdict::Passed;
+    }
+    Verdict::Failed
 }
 
 // 50, then 51, of a text that fails one of them.

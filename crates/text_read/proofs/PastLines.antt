@@ -2,7 +2,7 @@
 use mathlib.Core.Path.{_≡_, refl, sym, ap, _∙_}
 use mathlib.Core.List.{List, _∷_}
 use mathlib.Core.Option.{Option, none, some}
-use mathlib.Core.Bool.{true, false}
+use mathlib.Core.Bool.{Bool, true, false, _||_}
 use Prim.Native.Nat.{ℕ, zero, suc, _+_, _-_, _≤_, _<_}
 use native.Mathlib.Omega.{arith}
 use lib.Dec.{ltb}
@@ -10,14 +10,17 @@ use borrow.Author.Tests.{lt-ltb, le-ltb}
 use Rattle.logic.specs.Choice.{pick}
 use Rattle.request.specs.Text.{andThen}
 use Rattle.request.specs.Reader.{Reader}
-use Rattle.request.proofs.Gives.{Gives, nothing, just}
+use Rattle.request.specs.Request.{Line}
+use Rattle.request.specs.Read.{formulaLine}
+use Rattle.request.proofs.Gives.{Gives, nothing, just, gives-then}
 use Rattle.ledger.specs.declared.Credential.{Credential}
+use Rattle.ledger.specs.Checks.{anyOf}
 use Rattle.ledger.proofs.Answers.{some-none, some-inj}
-use Rattle.snapshot.specs.Snapshot.{credentialLine, rising}
+use Rattle.snapshot.specs.Snapshot.{holderLine, credentialLine, rising}
 use Rattle.read_formulas.specs.Line.{readLine}
 use Rattle.read_rest.specs.LinesRead.{readLines}
 use Rattle.read_fields.proofs.Then.{then-same, then-none, then-pair, by-test}
-use Rattle.text_read.specs.TextForm.{linesPast, risingPast}
+use Rattle.text_read.specs.TextForm.{linesPast, risingPast, gives, holdersIn}
 
 module _ {A : Type 0} (r : Reader A) where
   pub lines-past : (n : ℕ) (b : List ℕ) → linesPast n r b ≡ andThen (readLines n r b) (λ p. some (p .1))
@@ -84,6 +87,48 @@ module _ (lo n k : ℕ) (b : List ℕ) where
       rising-falls l =
           let q : n - k ≡ suc (n - (k + 1)) = omega arith in
           rw (q, risingPast, e, andThen, le-ltb _ _ l)
+
+-- Whether `n` or `q` is among the lines
+
+-- of the lines that were read
+abbrev AsRead : ℕ → List ℕ → Type 0
+AsRead n b = Gives (λ p. holdersIn n b ≡ anyOf holderLine (p .0)) (readLines n formulaLine b)
+
+read-more : (n : ℕ) → ((b : List ℕ) → AsRead n b) → (o : Option (Line × List ℕ))
+    → Gives {A = List Line × List ℕ}
+    (λ p. gives (λ q. holderLine (q .0) || holdersIn n (q .1)) o ≡ anyOf holderLine (p .0))
+    (andThen o (λ p. andThen (readLines n formulaLine (p .1)) (λ q. some (p .0 ∷ q .0, q .1))))
+unfolding anyOf andThen
+read-more n f none = nothing
+read-more n f (some p) = gives-then (f (p .1)) (λ q e. just (ap (λ (x : Bool). holderLine (p .0) || x) e))
+
+pub holders-read : (n : ℕ) (b : List ℕ) → AsRead n b
+unfolding holdersIn readLines anyOf
+holders-read zero b = just refl
+holders-read (suc n) b = read-more n (holders-read n) (readLine formulaLine b)
+
+pub holders-start : (n : ℕ) (b : List ℕ) → holdersIn n b ≡ holdersIn (n - 0) b
+holders-start n b = let q : n - 0 ≡ n = omega arith in rw q
+
+-- k of n lines have been passed
+module _ (n k : ℕ) (b : List ℕ) where
+  pub holders-end : n ≤ k → holdersIn (n - k) b ≡ false
+  unfolding holdersIn
+  holders-end h = let q : n - k ≡ 0 = omega arith in rw q
+
+  module _ (h : k < n) where
+    pub holders-broken : readLine formulaLine b ≡ none → holdersIn (n - k) b ≡ false
+    unfolding holdersIn
+    holders-broken e = let q : n - k ≡ suc (n - (k + 1)) = omega arith in rw (q, holdersIn, e)
+
+    module _ {l : Line} {c : List ℕ} (e : readLine formulaLine b ≡ some (l, c)) where
+      pub holders-here : holderLine l ≡ true → holdersIn (n - k) b ≡ true
+      unfolding holdersIn
+      holders-here t = let q : n - k ≡ suc (n - (k + 1)) = omega arith in rw (q, holdersIn, e, t)
+
+      pub holders-turn : holderLine l ≡ false → holdersIn (n - k) b ≡ holdersIn (n - (k + 1)) c
+      unfolding holdersIn
+      holders-turn t = let q : n - k ≡ suc (n - (k + 1)) = omega arith in rw (q, holdersIn, e, t)
 
 -- What was passed
 

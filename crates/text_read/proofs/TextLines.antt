@@ -12,7 +12,9 @@ use Rattle.request.specs.Read.{number, kind, interval}
 use Rattle.request.proofs.Gives.{Gives, just, given, gives-then}
 use Rattle.request.proofs.Readers.{Texts, Only, whole-only}
 use Rattle.ledger.specs.declared.Credential.{Credential}
-use Rattle.snapshot.specs.Snapshot.{lineCount, liveCount, firstEdition, edition, titleLine, credentialLine}
+use Rattle.snapshot.specs.declared.Edition.{Edition}
+use Rattle.snapshot.specs.declared.Edition.the-variants.{First, Second}
+use Rattle.snapshot.specs.Snapshot.{lineCount, liveCount, counts, edition, titleLine, credentialLine}
 use Rattle.snapshot.specs.Snapshot.{Title}
 use Rattle.snapshot.specs.InForm.{TitleInRange, CredentialInRange}
 use Rattle.snapshot.proofs.Texts.{title-exact, credential-exact}
@@ -32,27 +34,31 @@ module _ (b c : List ℕ) where
   unfolding titleLine choose named sameBytes bytes inside
   title-found e = word-found _ "till" b c refl e
 
-  pub edition-found : strip (then-comma "1") b ≡ some c → readLine edition b ≡ readLine firstEdition c
+  pub first-found : strip (then-comma "1") b ≡ some c → readLine edition b ≡ readLine (counts First) c
   unfolding edition choose named sameBytes bytes inside
-  edition-found e = word-found _ "1" b c refl e
+  first-found e = word-found _ "1" b c refl e
+
+  pub second-found : strip (then-comma "2") b ≡ some c → readLine edition b ≡ readLine (counts Second) c
+  unfolding edition choose named sameBytes bytes inside
+  second-found e = word-found _ "2" b c refl e
 
 module _ (b : List ℕ) where
   pub no-title : strip (then-comma "till") b ≡ none → readLine titleLine b ≡ none
   unfolding titleLine edition choose bytes inside
   no-title e = no-word _ b refl ((e, refl), tt)
 
-  pub no-edition : strip (then-comma "1") b ≡ none → readLine edition b ≡ none
-  unfolding edition firstEdition choose bytes inside number next _>>=_ andThen
-  no-edition e = no-word _ b refl ((e, refl), tt)
+  pub no-edition : strip (then-comma "1") b ≡ none → strip (then-comma "2") b ≡ none → readLine edition b ≡ none
+  unfolding edition counts choose bytes inside number next _>>=_ andThen
+  no-edition e f = no-word _ b refl ((e, refl), ((f, refl), tt))
 
-  pub edition-line : readLine firstEdition b ≡ andThen (fieldTo 44 (numberIn nextSerial) b) (λ n.
+  pub counts-line : (d : Edition) → readLine (counts d) b ≡ andThen (fieldTo 44 (numberIn nextSerial) b) (λ n.
       andThen (fieldTo 44 (numberIn lineCount) (n .1)) (λ l. andThen (fieldTo 10 (numberIn liveCount) (l .1)) (λ c.
-      some (record { next = n .0; lines = l .0; live = c .0 }, c .1))))
-  unfolding firstEdition number next _>>=_ andThen
-  edition-line =
+      some (record { edition = d; next = n .0; lines = l .0; live = c .0 }, c .1))))
+  unfolding counts number next _>>=_ andThen
+  counts-line d =
       number-shape nextSerial .more _ (λ n. refl) b ∙ then-same (fieldTo 44 (numberIn nextSerial) b) (λ n.
       both-last (number-shape lineCount) (number-shape liveCount)
-      (λ l c. record { next = n .0; lines = l; live = c }) (n .1))
+      (λ l c. record { edition = d; next = n .0; lines = l; live = c }) (n .1))
 
 -- A credential
 

@@ -2,7 +2,7 @@
 use mathlib.Core.Path.{_≡_}
 use mathlib.Core.List.{List}
 use mathlib.Core.Option.{Option, none, some}
-use mathlib.Core.Bool.{true}
+use mathlib.Core.Bool.{Bool, true, false, _||_}
 use Prim.Native.Nat.{ℕ, zero, suc, _≤_}
 use lib.Dec.{ltb}
 use lib.ListN.{length, drop}
@@ -11,11 +11,12 @@ use Rattle.request.specs.declared.Kind.{Kind}
 use Rattle.request.specs.Range.{formulaNumber}
 use Rattle.request.specs.Text.{andThen}
 use Rattle.request.specs.Reader.{Reader, return, _>>=_}
-use Rattle.request.specs.Read.{number, interval}
+use Rattle.request.specs.Read.{number, interval, formulaLine}
 use Rattle.ledger.specs.declared.Credential.{Credential}
 use Rattle.ledger.specs.Ledger.{Ledger}
 use Rattle.ledger.specs.Checks.{Check, first}
-use Rattle.snapshot.specs.Snapshot.{Title, longestText, titleLine, credentialLine, snapshotOf, rising, openChecks}
+use Rattle.snapshot.specs.Snapshot.{Title, holderLine, longestText, titleLine, credentialLine, snapshotOf, rising}
+use Rattle.snapshot.specs.Snapshot.{openChecks}
 use Rattle.snapshot.specs.InForm.{TitleInRange}
 use Rattle.read_formulas.specs.Line.{readLine}
 use Rattle.call_checks.specs.declared.Verdict.{Verdict}
@@ -29,7 +30,7 @@ use Rattle.text_read.specs.declared.CredentialLine.the-variants.{Read as
 
 -- what a heading says
 abbrev pub titleAt : Heading → Title
-titleAt h = record { next = h .next; lines = h .lines; live = h .live }
+titleAt h = record { edition = h .edition; next = h .next; lines = h .lines; live = h .live }
 
 abbrev pub titleFrom : List ℕ → TextRead → Option (Title × List ℕ)
 titleFrom s (Read h) = some (titleAt h, drop (h .body) s)
@@ -57,6 +58,15 @@ risingPast lo zero b = some b
 risingPast lo (suc n) b =
     andThen (readLine credentialLine b) (λ p.
     pick (ltb lo (p .0 .serial)) (risingPast (p .0 .serial) n (p .1)) none)
+
+-- whether one of the first n formula lines is `n` or `q`; after a line that is broken none is asked
+abbrev pub gives : {A : Type 0} → (A → Bool) → Option A → Bool
+gives f none = false
+gives f (some a) = f a
+
+unfoldable pub holdersIn : ℕ → List ℕ → Bool
+holdersIn zero b = false
+holdersIn (suc n) b = gives (λ p. holderLine (p .0) || holdersIn n (p .1)) (readLine formulaLine b)
 
 -- what a first line, read or broken, says of the check 50; a verdict says it by `checked`
 abbrev pub titleCheck : TextRead → Check

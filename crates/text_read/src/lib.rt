@@ -13,23 +13,25 @@ use read_formulas::formulas::formula_line;
 use read_formulas::formulas::interval;
 use request::Kind;
 use request::ranges;
+use snapshot::Edition;
 ghost use mathlib.Core.Path.{_≡_};
 ghost use Prim.Native.Nat.{_≤_};
 ghost use lib.ListN.{length, drop};
 ghost use Rattle.request.specs.Read.{formulaLine};
-ghost use Rattle.snapshot.specs.Snapshot.{firstEdition, titleLine, credentialLine};
+ghost use Rattle.snapshot.specs.Snapshot.{counts, titleLine, credentialLine};
 ghost use Rattle.read_fields.specs.Field.{maxReach, pastOf};
 ghost use Rattle.read_formulas.specs.Line.{readLine};
 ghost use Rattle.text_read.specs.TextForm.{titleFrom, credentialFrom, afterKind, linesPast, risingPast};
-ghost use Rattle.text_read.specs.TextForm.{TitleIs, FormIs};
+ghost use Rattle.text_read.specs.TextForm.{holdersIn, TitleIs, FormIs};
 
 // No text that is read is longer (specs/Snapshot.antt, `longestText`): the first line, the formula lines and the
 // credential lines at their longest.
-pub const LONGEST_TEXT: usize = 36_263;
+pub const LONGEST_TEXT: usize = 105_384;
 
-// What the first line says: the next serial, how many formula lines and how many live credentials follow; and the
-// position of the line after it.
+// What the first line says: the edition, the next serial, how many formula lines and how many live credentials
+// follow; and the position of the line after it.
 pub struct Heading {
+    pub edition: Edition,
     pub next: u32,
     pub lines: u32,
     pub live: u32,
@@ -49,9 +51,9 @@ pub enum CredentialLine {
 }
 
 // `next,wordings,coupons`, the fields of a first line after its edition.
-fn first_edition(s: &[u8], at: u32) -> TextRead
+fn read_counts(s: &[u8], at: u32, edition: Edition) -> TextRead
     requires { ⌜ length (now s) ≤ maxReach ⌝ }
-    ensures { λ r. ⌜ titleFrom (now (s .entry)) r ≡ readLine firstEdition (drop at (now (s .entry))) ⌝ }
+    ensures { λ r. ⌜ titleFrom (now (s .entry)) r ≡ readLine (counts edition) (drop at (now (s .entry))) ⌝ }
 {
     let f = number(
         s,
@@ -72,6 +74,7 @@ fn first_edition(s: &[u8], at: u32) -> TextRead
         return TextRead::Broken;
     };
     TextRead::Read(Heading {
+        edition,
         next,
         lines,
         live,
@@ -79,7 +82,7 @@ fn first_edition(s: &[u8], at: u32) -> TextRead
     })
 }
 
-// `till,1,next,wordings,coupons`
+// `till,1,next,wordings,coupons`, or `till,2`
 fn read_title(s: &[u8]) -> TextRead
     requires { ⌜ length (now s) ≤ maxReach ⌝ }
     ensures { λ r. ⌜ titleFrom (now (s .entry)) r ≡ readLine titleLine (now (s .entry)) ⌝ }
@@ -89,10 +92,14 @@ fn read_title(s: &[u8]) -> TextRead
         return TextRead::Broken;
     };
     let b = past(s, i, b"1,");
-    let Prefix::Past(j) = b else {
+    if let Prefix::Past(j) = b {
+        return read_counts(s, j, Edition::First);
+    }
+    let c = past(s, i, b"2,");
+    let Prefix::Past(j) = c else {
         return TextRead::Broken;
     };
-    first_edition(s, j)
+    read_counts(s, j, Edition::Second)
 }
 
 // The fields of a credential after its kind.
@@ -157,6 +164,27 @@ fn past_formulas(s: &[u8], at: u32, count: u32) -> Prefix
     Prefix::Past(i)
 }
 
+// Whether one of the `count` formula lines from `at` on is `n` or `q`; none after a line that is broken is asked.
+fn holders_in(s: &[u8], at: u32, count: u32) -> bool
+    requires { ⌜ length (now s) ≤ maxReach ⌝ }
+    ensures { λ r. ⌜ r ≡ holdersIn count (drop at (now (s .entry))) ⌝ }
+{
+    let mut i = at;
+    let mut k: u32 = 0;
+    while k < count {
+        let line = formula_line(s, i);
+        let FormulaLine::Formula(row, j) = line else {
+            return false;
+        };
+        if text_edition::holder_letter(row.letter) {
+            return true;
+        }
+        i = j;
+        k += 1;
+    }
+    false
+}
+
 // The position after `count` credential lines from `at` on, serials rising.
 fn past_credentials(s: &[u8], at: u32, count: u32) -> Prefix
     requires { ⌜ length (now s) ≤ maxReach ⌝ }
@@ -190,7 +218,8 @@ pub fn text_title(text: &[u8]) -> TextRead
     read_title(text)
 }
 
-// 50: the text has not its form: what its first line announces, serials rising, and nothing after it.
+// 50: the text has not its form: what its first line announces, serials rising, and nothing after it; and a first line
+// that closing would write.
 pub fn text_form(text: &[u8]) -> Verdict
     ensures { λ r. ⌜ FormIs (now (text .entry)) r ⌝ }
 {
@@ -209,5 +238,8 @@ pub fn text_form(text: &[u8]) -> Verdict
     if (j as usize) < text.len() {
         return Verdict::Failed;
     }
-    Verdict::Passed
+    let holders = holders_in(text, h.body, h.lines);
+    let own = text_edition::edition_by(holders, h.live);
+    let edition = h.edition;
+    call_checks::tested(!text_edition::same(edition, own))
 }

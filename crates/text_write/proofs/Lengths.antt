@@ -10,7 +10,9 @@ use Rattle.request.specs.declared.Kind.the-variants.{Linear, Unrestricted}
 use Rattle.request.specs.Text.{bytes}
 use Rattle.request.specs.Write.{digits, minutes, kindField}
 use Rattle.ledger.specs.declared.Credential.{Credential}
-use Rattle.snapshot.specs.Snapshot.{editionFields, titleFields, credentialFields}
+use Rattle.snapshot.specs.declared.Edition.{Edition}
+use Rattle.snapshot.specs.declared.Edition.the-variants.{First, Second}
+use Rattle.snapshot.specs.Snapshot.{editionField, editionFields, titleFields, credentialFields}
 use Rattle.text_write.specs.declared.Shape.the-variants.{One, Single, Pair, At, Superset, Triple}
 use Rattle.text_write.specs.Put.{Measured, ended, title, shapeFields}
 use Rattle.text_write.proofs.Puts.{Some, ended-length, ended-size}
@@ -136,16 +138,23 @@ credential-measured c a b i = record {
 
 -- The first line
 
-pub title-measured : (next lines live : ℕ) {a b c : ℕ} → Measured (digits next) 10 a → Measured (digits lines) 10 b
-    → Measured (digits live) 10 c → Measured (ended 10 (titleFields (title next lines live))) 40 (a + b + c + 10)
+one-byte : (e : Edition) → length (editionField e) ≡ 1
+unfolding bytes
+one-byte First = refl
+one-byte Second = refl
+
+pub title-measured : (e : Edition) (next lines live : ℕ) {a b c : ℕ} → Measured (digits next) 10 a
+    → Measured (digits lines) 10 b
+    → Measured (digits live) 10 c → Measured (ended 10 (titleFields (title e next lines live))) 40 (a + b + c + 10)
 unfolding titleFields editionFields bytes
-title-measured next lines live a b c = record {
+title-measured e next lines live a b c = record {
   exact = omega (
     arith,
     a .exact,
     b .exact,
     c .exact,
-    ended-size (bytes "till") (bytes "1" ∷ digits next ∷ digits lines ∷ digits live ∷ []) 10,
+    one-byte e,
+    ended-size (bytes "till") (editionField e ∷ digits next ∷ digits lines ∷ digits live ∷ []) 10,
   );
   small = omega (arith, a .small, b .small, c .small);
 }

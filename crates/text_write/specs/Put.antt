@@ -5,6 +5,7 @@ use Prim.Native.Nat.{ℕ, _+_, _/_, _%_, _≤_}
 use Prim.Native.Char.{code}
 use lib.ListN.{length, drop, set}
 use Rattle.request.specs.Write.{digits, joined, minutes}
+use Rattle.snapshot.specs.declared.Edition.{Edition}
 use Rattle.snapshot.specs.Snapshot.{Title}
 use Rattle.text_write.specs.declared.Shape.{Shape}
 use Rattle.text_write.specs.declared.Shape.the-variants.{One, Single, Pair, At, Superset, Triple}
@@ -33,8 +34,8 @@ unfoldable pub ended : ℕ → List (List ℕ) → List ℕ
 ended stop fs = joined fs ++ (stop ∷ [])
 
 -- what the first line says
-abbrev pub title : ℕ → ℕ → ℕ → Title
-title next lines live = record { next = next; lines = lines; live = live }
+abbrev pub title : Edition → ℕ → ℕ → ℕ → Title
+title e next lines live = record { edition = e; next = next; lines = lines; live = live }
 
 abbrev pub counts : ℕ → ℕ → ℕ → List (List ℕ)
 counts next lines live = digits next ∷ digits lines ∷ digits live ∷ []

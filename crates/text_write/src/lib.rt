@@ -4,6 +4,7 @@
 use ledger::Credential;
 use logic::Interval;
 use request::Kind;
+use snapshot::Edition;
 use steps::Row;
 use steps::letters;
 ghost use mathlib.Core.Path.{_≡_};
@@ -12,7 +13,7 @@ ghost use Prim.Native.Nat.{_+_, _≤_, _<_};
 ghost use lib.ListN.{length};
 ghost use Rattle.request.specs.Text.{bytes};
 ghost use Rattle.request.specs.Write.{digits, minutes, kindField, lineFields};
-ghost use Rattle.snapshot.specs.Snapshot.{titleFields, credentialFields};
+ghost use Rattle.snapshot.specs.Snapshot.{editionField, titleFields, credentialFields};
 ghost use Rattle.store.specs.Store.{lineOf};
 ghost use Rattle.text_write.specs.declared.Shape.the-variants.{Single, Pair, At, Superset, Triple};
 ghost use Rattle.text_write.specs.Put.{Put, Room, Measured, putTwo, ended, title, counts, shapeFields};
@@ -320,17 +321,27 @@ pub fn credential_length(c: Credential) -> usize
 
 // The first line
 
-// `till,1,`
-fn put_edition(rest: &mut [u8]) -> usize
-    requires { ⌜ Room (now rest) (ended 44 (bytes "till" ∷ bytes "1" ∷ [])) ⌝ }
-    ensures { λ r. ⌜ Put (now (rest .entry)) (ended 44 (bytes "till" ∷ bytes "1" ∷ [])) (now (rest .exit)) r ⌝ }
+fn edition_digit(e: Edition) -> u8
+    ensures { λ r. ⌜ r ∷ [] ≡ editionField e ⌝ }
 {
+    match e {
+        Edition::First => b'1',
+        Edition::Second => b'2',
+    }
+}
+
+// `till,1,` or `till,2,`
+fn put_edition(rest: &mut [u8], e: Edition) -> usize
+    requires { ⌜ Room (now rest) (ended 44 (bytes "till" ∷ editionField e ∷ [])) ⌝ }
+    ensures { λ r. ⌜ Put (now (rest .entry)) (ended 44 (bytes "till" ∷ editionField e ∷ [])) (now (rest .exit)) r ⌝ }
+{
+    let d = edition_digit(e);
     rest[0] = b't';
     rest[1] = b'i';
     rest[2] = b'l';
     rest[3] = b'l';
     rest[4] = b',';
-    rest[5] = b'1';
+    rest[5] = d;
     rest[6] = b',';
     7
 }
@@ -345,17 +356,17 @@ fn put_counts(rest: &mut [u8], next: u32, lines: u32, live: u32) -> usize
     i + j
 }
 
-pub fn put_title(rest: &mut [u8], next: u32, lines: u32, live: u32) -> usize
-    requires { ⌜ Room (now rest) (ended 10 (titleFields (title next lines live))) ⌝ }
-    ensures { λ r. ⌜ Put (now (rest .entry)) (ended 10 (titleFields (title next lines live))) (now (rest .exit)) r ⌝ }
+pub fn put_title(rest: &mut [u8], e: Edition, next: u32, lines: u32, live: u32) -> usize
+    requires { ⌜ Room (now rest) (ended 10 (titleFields (title e next lines live))) ⌝ }
+    ensures { λ r. ⌜ Put (now (rest .entry)) (ended 10 (titleFields (title e next lines live))) (now (rest .exit)) r ⌝ }
 {
-    let i = put_edition(rest);
+    let i = put_edition(rest, e);
     let j = put_counts(&mut rest[i..], next, lines, live);
     i + j
 }
 
-pub fn title_length(next: u32, lines: u32, live: u32) -> usize
-    ensures { λ r. ⌜ Measured (ended 10 (titleFields (title next lines live))) 40 r ⌝ }
+pub fn title_length(e: Edition, next: u32, lines: u32, live: u32) -> usize
+    ensures { λ r. ⌜ Measured (ended 10 (titleFields (title e next lines live))) 40 r ⌝ }
 {
     digits_length(next) + digits_length(lines) + digits_length(live) + 10
 }

@@ -1,16 +1,17 @@
-//! The till's limits: sizes about 64, wordings about 200, live coupons about 512.
+//! The till's limits: sizes about 64, wordings about 200, live coupons about 2,048 (document 02, ask 8), which M10
+//! reaches.
 
-use super::form::Kind;
+use super::papers;
 use super::rng::Rng;
 use super::session::{Desk, Session};
-use super::wording::*;
 
-pub const CAPACITY: [&str; 17] = [
+pub const CAPACITY: [&str; 21] = [
     "size 63", "size 64", "size 65", "size far over 64", "199 wordings there", "200 wordings there",
-    "line there already", "line there already, 200 there", "issue at 511 live", "issue at 512 live",
-    "book at 512 live, a single held", "book at 512 live, none held",
-    "book at 512 live, singles and standing",
-    "book at 511 live, none held", "place made by a withdraw", "place made by a booking", "far from full",
+    "line there already", "line there already, 200 there", "issue about 512 live", "book at 512 live, none held",
+    "issue at 2,046 live", "issue at 2,047 live", "issue at 2,048 live", "book at 2,048 live, a single held",
+    "book at 2,048 live, singles held", "book at 2,048 live, none held", "book at 2,048 live, singles and standing",
+    "book at 2,046 live, none held", "book at 2,047 live, none held", "place made by a withdraw",
+    "place made by a booking",
 ];
 
 fn sizes() -> Session {
@@ -78,20 +79,11 @@ fn wordings() -> Session {
     desk.session("wordings", 0)
 }
 
-/// Five standing coupons first, then singles up to the number of live ones.
-fn filled(desk: &mut Desk, live: usize) {
-    for _ in 0..5 {
-        desk.issue(Kind::Standing, &atom(9, 7), window(0, 9));
-    }
-    while desk.model.live.len() < live {
-        desk.issue(Kind::Single, &atom(9, 7), window(0, 9));
-    }
-}
-
+/// A booking of the wording numbered 2, or of the ⊗ that the till has last.
 fn book(desk: &mut Desk, holds: &[u32], steps: &str, good: bool, name: &'static str) {
     let (h, n) = (holds.len(), steps.split('|').count());
     let lines: String = holds.iter().map(|s| format!("hold,{s}|")).collect();
-    let goal = if steps.starts_with("tr") { 1 } else { 0 };
+    let goal = if steps.starts_with("tr") { desk.model.lines.len() - 1 } else { 2 };
     let answer = if good { format!("ok,{}", desk.model.given + 1) } else { "no,22,0".to_string() };
     desk.script(&format!("book,3,{goal},2,8,0,0,{h},{n}|{lines}{steps}"), &answer, name);
 }
@@ -99,34 +91,43 @@ fn book(desk: &mut Desk, holds: &[u32], steps: &str, good: bool, name: &'static 
 /// An issue of each kind when the till is full, or one that has place.
 fn issue(desk: &mut Desk, kind: char, good: bool, name: &'static str) {
     let answer = if good { format!("ok,{}", desk.model.given + 1) } else { "no,22,0".to_string() };
-    desk.script(&format!("issue,{kind},0,0,9,0,0"), &answer, name);
+    desk.script(&format!("issue,{kind},2,0,9,0,0"), &answer, name);
 }
 
+fn withdraw(desk: &mut Desk, serial: u32) {
+    desk.script(&format!("withdraw,{serial}"), &format!("ok,{serial}"), "");
+}
+
+/// M10, which leaves a full till: serial 1 is standing, all others are singles. What 22 says from there on.
 fn coupons(seed: u64) -> Session {
     let mut rng = Rng::new(seed);
-    let mut desk = Desk::new();
-    desk.words(&["a,9,7", "t,0,0"]);
-    filled(&mut desk, 510);
-    book(&mut desk, &[1], "cp,0|ax,1", true, "far from full");
-    let kind = rng.pick(&['s', 'r']);
-    issue(&mut desk, kind, true, "issue at 511 live");
-    issue(&mut desk, 's', false, "issue at 512 live");
-    issue(&mut desk, 'r', false, "issue at 512 live");
-    book(&mut desk, &[2], "cp,0|ax,1", false, "book at 512 live, none held");
-    book(&mut desk, &[2, 3, 4], "cp,2|ax,3", false, "book at 512 live, none held");
-    book(&mut desk, &[20], "ax,0", true, "book at 512 live, a single held");
+    let mut desk = papers::m10();
+    issue(&mut desk, 's', false, "issue at 2,048 live");
+    issue(&mut desk, 'r', false, "issue at 2,048 live");
+    book(&mut desk, &[1], "cp,0|ax,1", false, "book at 2,048 live, none held");
+    book(&mut desk, &[20], "ax,0", true, "book at 2,048 live, a single held");
     let last = desk.model.given;
-    book(&mut desk, &[3, last], "ax,1", true, "book at 512 live, singles and standing");
-    desk.script("withdraw,6", "ok,6", "");
-    issue(&mut desk, 's', true, "place made by a withdraw");
-    desk.script("withdraw,5", "ok,5", "");
-    book(&mut desk, &[2], "cp,0|ax,1", true, "book at 511 live, none held");
-    book(&mut desk, &[2], "cp,0|ax,1", false, "book at 512 live, none held");
-    book(&mut desk, &[30, 31], "tr,0000000000000001|ax,0|ax,1", true, "book at 512 live, a single held");
+    book(&mut desk, &[1, last], "ax,1", true, "book at 2,048 live, singles and standing");
+    withdraw(&mut desk, 6);
+    let kind = rng.pick(&['s', 'r']);
+    issue(&mut desk, kind, true, "place made by a withdraw");
+    issue(&mut desk, kind, false, "issue at 2,048 live");
+    withdraw(&mut desk, 2_047);
+    issue(&mut desk, 'r', true, "issue at 2,047 live");
+    let second = desk.model.given;
+    book(&mut desk, &[second, 1], "cp,0|ax,2", false, "book at 2,048 live, none held");
+    withdraw(&mut desk, 5);
+    book(&mut desk, &[second], "cp,0|ax,1", true, "book at 2,047 live, none held");
+    book(&mut desk, &[second], "cp,0|ax,1", false, "book at 2,048 live, none held");
+    desk.words(&["t,2,2"]);
+    book(&mut desk, &[30, 1_999], "tr,0000000000000001|ax,0|ax,1", true, "book at 2,048 live, singles held");
     issue(&mut desk, 'r', true, "place made by a booking");
-    issue(&mut desk, 'r', false, "issue at 512 live");
+    issue(&mut desk, 'r', false, "issue at 2,048 live");
+    withdraw(&mut desk, 700);
+    withdraw(&mut desk, 1_500);
+    book(&mut desk, &[1], "cp,0|ax,1", true, "book at 2,046 live, none held");
     desk.tallies(&mut rng, 5);
-    desk.session("coupons", seed)
+    desk.session("M10 and coupons", seed)
 }
 
 pub fn sessions(seed: u64) -> Vec<Session> {

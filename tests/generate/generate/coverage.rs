@@ -46,6 +46,10 @@ fn required_of_texts() -> Vec<(&'static str, Vec<String>)> {
         ("as word and issue answer", all(&text_rules::ASKED)),
         ("50 and 51 at once", all(&text_rules::BOTH)),
         ("closed and opened between sheets", all(&text_life::PACKED)),
+        ("first lines that closing writes", all(&editions::CLOSED)),
+        ("first lines that opening reads or refuses", all(&editions::OPENED)),
+        ("a rule broken behind a first line", all(&editions::BEHIND)),
+        ("tills opened from till,2 go on", all(&editions::ON)),
     ]
 }
 

@@ -6,7 +6,7 @@ use super::derivation::{af, ax, left, sr, tr, Deriv, Hyp};
 use super::form::Kind;
 use super::grow::Grower;
 use super::life::booked_as;
-use super::model::{Coupon, Model};
+use super::model::{Coupon, Model, MOST_LIVE};
 use super::relation::set;
 use super::rng::Rng;
 use super::session::{Desk, Session};
@@ -186,22 +186,23 @@ fn deep() -> Vec<Session> {
     all.into_iter().map(played).collect()
 }
 
-/// 512 coupons of 32 seats each, one in four of the house.
+/// 2,048 coupons of 32 seats each; of the first 512 one in four is of the house, of the others all.
 fn full() -> Session {
     let mut desk = with_words(&["a,1,7", "t,0,0", "t,1,1", "t,2,2", "t,3,3", "t,4,4", "s,1,5", "s,2,5"]);
     let (mut house, mut other) = (0, 0);
-    for n in 0..512 {
-        if n % 4 == 0 { house += 32 } else { other += 32 }
-        issue(&mut desk, [6, 7, 5, 7][n % 4], window(0, 9));
-        if n % 32 == 31 {
+    for n in 0..MOST_LIVE {
+        let wording = if n < 512 { [6, 7, 5, 7][n % 4] } else { 6 };
+        if wording == 6 { house += 32 } else { other += 32 }
+        issue(&mut desk, wording, window(0, 9));
+        if n % if n < 512 { 32 } else { 256 } == 31 || n + 1 == MOST_LIVE {
             desk.script("tally,7,9", &format!("ok,{house},{other},0"), HOUSE_SEATS[11]);
             desk.script("tally,7,10", &format!("ok,0,{},0", house + other), HOUSE_SEATS[11]);
         }
     }
     desk.script("withdraw,1", "ok,1", HOUSE_SEATS[7]);
     issue(&mut desk, 6, window(10, 19));
-    desk.script("tally,7,9", "ok,4064,12320,0", HOUSE_SEATS[11]);
-    desk.script("tally,7,10", "ok,32,16352,0", HOUSE_SEATS[11]);
+    desk.script("tally,7,9", "ok,53216,12320,0", HOUSE_SEATS[11]);
+    desk.script("tally,7,10", "ok,32,65504,0", HOUSE_SEATS[11]);
     desk.session("house: full till", 0)
 }
 

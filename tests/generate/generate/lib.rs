@@ -1,5 +1,5 @@
 //! Seeded sessions of sheets for the booking till, with the answers that document 01 demands, and document 02 so far as
-//! it has landed (asks 1 to 4 and 7, and 5 in sessions of its own).
+//! it has landed (asks 1 to 4, 7 and 8, and 5 with what 8 says of texts in sessions of its own).
 
 pub mod arrivals;
 pub mod balance;
@@ -10,6 +10,7 @@ pub mod coverage;
 pub mod damage;
 pub mod derivation;
 pub mod drills;
+pub mod editions;
 pub mod follow;
 pub mod form;
 pub mod full;
@@ -103,9 +104,11 @@ fn to_pack(seed: u64, seen: &mut Seen) -> Vec<(Session, u32)> {
     all.extend([full::session(seed), life::fixed(), life::session(seed, 120), balance::random(seed)]);
     all.extend(spans::sessions(seed));
     all.extend(drills::DRILLS.iter().map(|letters| drills::session(letters, true, seed, seen)));
+    // Where the till is filled its texts are long.
     let apart = |session: Session| {
         let sheets = session.cases.len() as u32;
-        (session, 20 + sheets / 40)
+        let issues = session.cases.iter().filter(|case| case.sheet.starts_with(b"issue,")).count();
+        (session, if issues > 2_000 { sheets / 10 } else { 20 + sheets / 40 })
     };
     all.into_iter().map(apart).collect()
 }
@@ -116,6 +119,7 @@ fn with_texts(wish: &Wish) -> Vec<Session> {
     let mut all = text_form::sessions(wish.seed);
     all.extend(text_rules::sessions(wish.seed));
     all.extend(text_life::sessions(wish.seed));
+    all.extend(editions::sessions());
     let to_pack = to_pack(wish.seed, &mut seen);
     all.extend(to_pack.iter().map(|(session, apart)| text_life::packed(session, wish.seed, *apart)));
     let random = random(wish, &mut seen);

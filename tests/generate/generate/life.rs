@@ -5,7 +5,7 @@ use super::derivation::{Deriv, Hyp};
 use super::drills::exercise;
 use super::form::Kind;
 use super::grow::Grower;
-use super::model::{Coupon, Steps};
+use super::model::{Coupon, Steps, MOST_LIVE};
 use super::rng::Rng;
 use super::session::{Desk, Session};
 use super::wording::*;
@@ -200,7 +200,7 @@ pub fn many(seed: u64) -> Session {
     let mut desk = Desk::new();
     let w = window(0, 9);
     let seats = [atom(1, 7), says(HOUSE, &atom(1, 7))];
-    while desk.model.live.len() < 512 {
+    while desk.model.live.len() < MOST_LIVE {
         desk.issue(Kind::Single, &rng.pick(&seats), w);
     }
     for n in 0..8_000 {

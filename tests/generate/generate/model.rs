@@ -65,6 +65,9 @@ pub struct Model {
     pub given: u32,
 }
 
+/// No more coupons are live at a time (document 02, ask 8).
+pub const MOST_LIVE: usize = 2_048;
+
 /// A refusal number other than 40 to 42.
 type Check<T> = Result<T, u32>;
 
@@ -138,7 +141,7 @@ impl Model {
 
     /// Checks 22 and 23, then the new coupon.
     fn add(&mut self, kind: Kind, wording: Part, window: Window, freed: &[u32]) -> Check<Answer> {
-        ensure(self.live.len() - freed.len() < 512, 22)?;
+        ensure(self.live.len() - freed.len() < MOST_LIVE, 22)?;
         ensure(self.given < 999_999, 23)?;
         self.live.retain(|c| !freed.contains(&c.serial));
         self.given += 1;

@@ -1,7 +1,7 @@
 //! Sheets that break two checks at once: the first in document 01's order answers.
 
 use super::form::Kind;
-use super::model::Answer;
+use super::model::{Answer, MOST_LIVE};
 use super::rng::Rng;
 use super::session::{Desk, Session};
 use super::wording::*;
@@ -10,7 +10,9 @@ use super::wording::*;
 #[derive(Clone)]
 struct Pieces {
     now: u32,
-    goal: u32,
+    /// The numbers of the four goals, and the one wanted; 999 stands for itself.
+    goals: [u32; 4],
+    goal: usize,
     window: Window,
     holds: Vec<u32>,
     /// The steps, unless `steps` says otherwise: copy label 0, close with the copy.
@@ -23,13 +25,16 @@ struct Pieces {
 const BOOK: [u32; 13] = [1, 2, 3, 43, 10, 53, 20, 30, 24, 31, 40, 41, 42];
 /// Goals: 0 is right, 1 not plain, 2 has holder 0 outside `q`, and 3 both.
 const GOALS: [&str; 4] = ["a,9,7", "o", "n,9,7,0", "t,1,2"];
+/// A serial that no session here gives.
+const NEVER_GIVEN: u32 = 7_777;
 /// Breaks that fit neither 0..9 nor 9..8.
 const BAD_BREAKS: [(u32, u32); 6] = [(0, 5), (5, 0), (6, 5), (4, 9), (9, 9), (12, 13)];
 
 impl Pieces {
-    fn good(standing: u32) -> Pieces {
+    fn good(standing: u32, goals: [u32; 4]) -> Pieces {
         Pieces {
             now: 5,
+            goals,
             goal: 0,
             window: window(0, 9),
             holds: vec![standing],
@@ -65,7 +70,7 @@ impl Pieces {
             30 => self.now = if self.window.from == 0 { 10 } else { 0 },
             24 => {
                 let place = rng.below(self.holds.len() + 1).max(1);
-                self.holds.insert(place, 777);
+                self.holds.insert(place, NEVER_GIVEN);
             }
             31 => self.holds.push(self.holds[0]),
             40 => {
@@ -89,7 +94,8 @@ impl Pieces {
     fn sheet(&self) -> Vec<u8> {
         let steps = self.steps();
         let (h, n) = (self.holds.len(), steps.len());
-        let mut text = format!("book,{},{},{},{h},{n}{}\n", self.now, self.goal, self.window.text(), self.damage);
+        let goal = self.goals.get(self.goal).copied().unwrap_or(999);
+        let mut text = format!("book,{},{goal},{},{h},{n}{}\n", self.now, self.window.text(), self.damage);
         self.holds.iter().for_each(|s| text += &format!("hold,{s}\n"));
         steps.iter().for_each(|s| text += &format!("{s}\n"));
         if self.overlong {
@@ -116,15 +122,18 @@ fn answer_of(number: u32, pieces: &Pieces, both: &[u32]) -> Answer {
     }
 }
 
-/// Every pair of checks that one booking can break, on a till with room or a full one.
-fn bookings(seed: u64, full: bool) -> Session {
-    let mut rng = Rng::new(seed);
+/// On a till with room.
+fn bookings(seed: u64) -> Session {
     let mut desk = Desk::new();
     desk.words(&GOALS);
     let standing = desk.issue(Kind::Standing, &atom(9, 7), window(0, 9));
-    while full && desk.model.live.len() < 512 {
-        desk.issue(Kind::Single, &atom(9, 7), window(0, 9));
-    }
+    booking_pairs(&mut desk, seed, standing, [0, 1, 2, 3]);
+    desk.session("pairs: bookings", seed)
+}
+
+/// Every pair of checks that one booking can break, on a till with room or a full one.
+fn booking_pairs(desk: &mut Desk, seed: u64, standing: u32, goals: [u32; 4]) {
+    let mut rng = Rng::new(seed);
     for (i, first) in BOOK.iter().enumerate() {
         for second in BOOK[i..].iter() {
             // Of a wording that is not there no other check can tell.
@@ -132,7 +141,7 @@ fn bookings(seed: u64, full: bool) -> Session {
                 continue;
             }
             for _ in 0..2 {
-                let mut pieces = Pieces::good(standing);
+                let mut pieces = Pieces::good(standing, goals);
                 // Faults in holds come before those in steps, which count the holds.
                 let mut both = vec![*second, *first];
                 both.sort_by_key(|n| (matches!(n, 40..=42), *n == 40));
@@ -143,11 +152,11 @@ fn bookings(seed: u64, full: bool) -> Session {
             }
         }
     }
-    let good = Pieces::good(standing).sheet();
+    let good = Pieces::good(standing, goals).sheet();
+    let full = desk.model.live.len() == MOST_LIVE;
     let answer = if full { Answer::Refused(22, 0) } else { Answer::Done(desk.model.given + 1) };
     desk.expect(&good, answer, if full { &["pair: book 22"] } else { &[] });
-    step_order(&mut desk, standing);
-    desk.session(if full { "pairs: bookings, full till" } else { "pairs: bookings" }, seed)
+    step_order(desk, standing);
 }
 
 /// 40 to 42 are found step by step; 24 before 31; 3, then 43, in any line before the others, 2 before them. The last
@@ -175,8 +184,8 @@ fn step_order(desk: &mut Desk, standing: u32) {
     for (tail, answer, name) in tries {
         desk.script(&format!("book,5,0,0,9,0,0,1,{tail}"), answer, name);
     }
-    for holds in ["777|hold,S|hold,S", "S|hold,S|hold,777", "S|hold,777|hold,S", "777|hold,777|hold,S"] {
-        let holds = holds.replace('S', &standing.to_string());
+    for holds in ["X|hold,S|hold,S", "S|hold,S|hold,X", "S|hold,X|hold,S", "X|hold,X|hold,S"] {
+        let holds = holds.replace('S', &standing.to_string()).replace('X', &NEVER_GIVEN.to_string());
         desk.script(&format!("book,5,0,0,9,0,0,3,1|hold,{holds}|af"), "no,24,0", "pair: 24 before 31");
     }
     let last = desk.model.given.to_string();
@@ -294,7 +303,7 @@ const ISSUES: [(&str, &str); 45] = [
 
 fn other_calls(desk: &mut Desk) {
     let long = "0".repeat(16_400);
-    let full = desk.model.live.len() == 512;
+    let full = desk.model.live.len() == MOST_LIVE;
     for (text, answer) in ISSUES {
         let mark = match (answer, full) {
             ("no,43,0", true) => "pair: issue 43, full till",
@@ -314,20 +323,34 @@ fn other_calls(desk: &mut Desk) {
     }
 }
 
-fn calls() -> Session {
+/// Coupon 1 is standing; then seats, and two bookings that hold no single, until the till is full.
+fn fill(desk: &mut Desk) {
+    desk.script("issue,r,0,0,9,0,0", "ok,1", "");
+    while desk.model.live.len() < MOST_LIVE {
+        let next = format!("ok,{}", desk.model.given + 1);
+        match desk.model.live.len() {
+            511 | 512 => {
+                desk.script("book,5,0,0,9,0,0,1,2|hold,1|cp,0|ax,1", &next, "book at 512 live, none held");
+            }
+            _ => desk.script("issue,s,8,0,9,0,0", &next, ""),
+        }
+    }
+}
+
+/// All on one till, which is full in the end.
+fn calls(seed: u64) -> Session {
     let mut desk = Desk::new();
     words(&mut desk);
     other_calls(&mut desk);
-    while desk.model.live.len() < 512 {
-        desk.script("issue,s,8,0,9,0,0", &format!("ok,{}", desk.model.given + 1), "");
-    }
+    fill(&mut desk);
     other_calls(&mut desk);
     desk.script("issue,s,8,0,9,0,0", "no,22,0", "pair: issue");
+    booking_pairs(&mut desk, seed, 1, [0, 9, 11, 12]);
     desk.tally(7, 9);
     desk.tally(7, 10);
-    desk.session("pairs: calls", 0)
+    desk.session("pairs: calls", seed)
 }
 
 pub fn sessions(seed: u64) -> Vec<Session> {
-    vec![bookings(seed, false), bookings(seed + 1, true), calls()]
+    vec![bookings(seed), calls(seed + 1)]
 }

@@ -1,4 +1,4 @@
-//! Document 01's own sessions M1 to M10, with 0,0 in each window (document 02, ask 2).
+//! Document 01's own sessions M1 to M10, with 0,0 in each window (document 02, ask 2), M10 by document 02, ask 8.
 
 use super::session::{Desk, Session};
 
@@ -65,26 +65,33 @@ fn m9() -> Desk {
     desk
 }
 
-fn m10() -> Desk {
+/// M10 with 2,047 singles (document 02, ask 8). It is long: `capacity.rs` goes on where it ends.
+pub fn m10() -> Desk {
     let mut desk = Desk::new();
     desk.words(&WORDS);
     desk.script("issue,r,2,0,9,0,0", "ok,1", "");
-    for serial in 2..513 {
-        desk.script("issue,s,2,0,9,0,0", &format!("ok,{serial}"), "");
+    for serial in 2..=2_048 {
+        let name = match serial - 1 {
+            511 | 512 | 513 => "issue about 512 live",
+            2_046 => "issue at 2,046 live",
+            2_047 => "issue at 2,047 live",
+            _ => "",
+        };
+        desk.script("issue,s,2,0,9,0,0", &format!("ok,{serial}"), name);
     }
-    desk.script("book,0,2,0,9,0,0,1,1|hold,2|ax,0", "ok,513", "");
+    desk.script("book,0,2,0,9,0,0,1,1|hold,2|ax,0", "ok,2049", "");
     desk.script("book,0,2,0,9,0,0,1,2|hold,1|cp,0|ax,1", "no,22,0", "M10");
     desk
 }
 
 pub const PAPERS: [&str; 10] = ["M1", "M2", "M3", "M4", "M5", "M6", "M7", "M8", "M9", "M10"];
 
+/// M1 to M9; M10 is the beginning of a session of `capacity.rs`.
 pub fn sessions() -> Vec<Session> {
     let desk = |n: usize| match n {
         8 => m8(),
         9 => m9(),
-        10 => m10(),
         _ => variant(n),
     };
-    (1..=10).map(|n| desk(n).session(PAPERS[n - 1], 0)).collect()
+    (1..=9).map(|n| desk(n).session(PAPERS[n - 1], 0)).collect()
 }

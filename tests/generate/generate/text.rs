@@ -1,10 +1,21 @@
-//! The till as text (document 02, ask 5): the text that closing writes, and what opening answers to one.
+//! The till as text (document 02, asks 5 and 8): the text that closing writes, and what opening answers to one.
 
 use super::form::{self, Kind, Sheet};
-use super::model::Model;
+use super::model::{Model, MOST_LIVE};
 
-/// The longest text: 23 bytes, 200 lines `g` of 66 and 512 coupons of 45.
-pub const LONGEST: usize = 36_263;
+/// The longest text: 24 bytes, 200 lines `g` of 66 and 2,048 coupons of 45. The longest that begins `till,1` has a byte
+/// less in its first line and 512 coupons.
+pub const LONGEST: usize = 105_384;
+pub const LONGEST_FIRST: usize = 36_263;
+
+/// With more live coupons a till is written with `till,2`.
+const MOST_IN_FIRST: usize = 512;
+
+/// The edition of a till with these wording lines and so many live coupons.
+fn edition(wordings: &[&str], coupons: usize) -> &'static str {
+    let named = |line: &&str| line.starts_with("n,") || line.starts_with("q,");
+    if coupons > MOST_IN_FIRST || wordings.iter().any(named) { "2" } else { "1" }
+}
 
 fn letter(kind: Kind) -> char {
     if kind == Kind::Single { 's' } else { 'r' }
@@ -13,7 +24,8 @@ fn letter(kind: Kind) -> char {
 /// The text of a till: its first line, the wording lines in order, the live coupons, serials rising.
 pub fn written(model: &Model) -> Vec<u8> {
     let (next, wordings, coupons) = (model.given + 1, model.lines.len(), model.live.len());
-    let mut text = format!("till,1,{next},{wordings},{coupons}\n");
+    let lines: Vec<&str> = model.lines.iter().map(String::as_str).collect();
+    let mut text = format!("till,{},{next},{wordings},{coupons}\n", edition(&lines, coupons));
     model.lines.iter().for_each(|line| text += &format!("{line}\n"));
     let mut live = model.live.clone();
     live.sort_by_key(|c| c.serial);
@@ -39,13 +51,15 @@ fn coupon_line(line: &str) -> Option<(u32, &str)> {
     Some((form::serial(serial)?, line.split_once(',')?.1))
 }
 
-/// Form and ranges, the counts and that the serials rise: None gives 50.
+/// Form and ranges, the counts, that the serials rise, and that closing would write this first line over these lines,
+/// whether or not they keep the rules: None gives 50.
 fn lines(text: &str) -> Option<Lines<'_>> {
     let lines: Vec<&str> = text.strip_suffix('\n')?.split('\n').collect();
     let first: Vec<&str> = lines[0].split(',').collect();
-    let ["till", "1", next, wordings, coupons] = first.as_slice() else { return None };
+    let ["till", written, next, wordings, coupons] = first.as_slice() else { return None };
     let next = form::number(next, 1, 1_000_000)?;
-    let (wordings, coupons) = (form::number(wordings, 0, 200)? as usize, form::number(coupons, 0, 512)? as usize);
+    let wordings = form::number(wordings, 0, 200)? as usize;
+    let coupons = form::number(coupons, 0, MOST_LIVE as u32)? as usize;
     if lines.len() != 1 + wordings + coupons {
         return None;
     }
@@ -55,6 +69,7 @@ fn lines(text: &str) -> Option<Lines<'_>> {
     }
     let coupons = coupons.iter().map(|line| coupon_line(line)).collect::<Option<Vec<_>>>()?;
     coupons.windows(2).all(|two| two[0].0 < two[1].0).then_some(())?;
+    (*written == edition(wordings, coupons.len())).then_some(())?;
     Some(Lines { next, wordings: wordings.to_vec(), coupons })
 }
 

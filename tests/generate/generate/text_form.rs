@@ -6,9 +6,9 @@ use super::rng::Rng;
 use super::session::{sheet_of, Desk, Session};
 use super::wording::{LAST_HOLDER, LAST_MINUTE, LAST_SESSION};
 
-pub const FORM: [&str; 38] = [
-    "50: no bytes", "50: a line end alone", "50: no first line", "50: first word", "50: edition",
-    "50: fields of the first line", "50: next 0", "50: next over 1,000,000", "50: 201 wordings", "50: 513 coupons",
+pub const FORM: [&str; 37] = [
+    "50: no bytes", "50: a line end alone", "50: no first line", "50: first word",
+    "50: fields of the first line", "50: next 0", "50: next over 1,000,000", "50: 201 wordings", "50: 2,049 coupons",
     "50: a wording too few", "50: a wording too many", "50: a coupon too few", "50: a coupon too many",
     "50: a wording counted as a coupon", "50: a coupon counted as a wording", "50: a count far off",
     "50: serial twice", "50: serials fall", "50: serials rise as digits alone", "50: kind", "50: fields of a coupon",
@@ -29,7 +29,7 @@ fn mark_of(name: &str) -> &'static str {
 }
 
 /// A text with every sort of line.
-pub const GOOD: &str = "till,1,30,14,3|a,1,7|a,9,65535|o|t,0,1|w,0,0|p,0,0|l,0,0|u,1,1|b,1|h,1,10,40,20,30|s,12,0\
+pub const GOOD: &str = "till,2,30,14,3|a,1,7|a,9,65535|o|t,0,1|w,0,0|p,0,0|l,0,0|u,1,1|b,1|h,1,10,40,20,30|s,12,0\
     |g,10,40,0,0,12,38,20,30|n,9,7,0|q,12|1,s,0,0,99,0,0|12,r,6,10,60,20,50|29,s,10,5,9999,0,0";
 
 /// A till that is none of the texts here, with a house seat, a place and an offer.
@@ -68,29 +68,24 @@ fn first_line(desk: &mut Desk) {
     let (first, rest) = GOOD.split_once('|').expect("lines");
     no(rest, "no first line");
     for word in ["", "Till", "TILL", "tills", "til", "word", "1", " till", "till ", "tally", "book"] {
-        no(&format!("{word},1,30,14,3|{rest}"), "first word");
-    }
-    for edition in [
-        "0", "2", "3", "9", "10", "11", "12", "01", "001", "1.0", "+1", "-1", "", " 1", "1 ", "x", "256", "257",
-        "65537", "4294967297", "18446744073709551617",
-    ] {
-        no(&format!("till,{edition},30,14,3|{rest}"), "edition");
-        no(&format!("till,{edition},1,0,0"), "edition");
+        no(&format!("{word},2,30,14,3|{rest}"), "first word");
+        no(&format!("{word},1,1,0,0"), "first word");
     }
     for line in [
-        "till", "till,1", "till,1,30", "till,1,30,14", "till,1,30,14,3,0", "till,1,30,14,3,", "till,1,30,14,3,1",
-        "till,30,14,3", "1,30,14,3", "till,1,14,3", "till1,30,14,3", "till;1;30;14;3", "till,1,,14,3", "till,1,30,,3",
-        "till,1,30,14,", ",till,1,30,14,3",
+        "till", "till,2", "till,2,30", "till,2,30,14", "till,2,30,14,3,0", "till,2,30,14,3,", "till,2,30,14,3,1",
+        "till,30,14,3", "2,30,14,3", "till,2,14,3", "till2,30,14,3", "till;2;30;14;3", "till,2,,14,3", "till,2,30,,3",
+        "till,2,30,14,", ",till,2,30,14,3",
     ] {
         no(&format!("{line}|{rest}"), "fields of the first line");
         no(line, "fields of the first line");
+        no(&line.replace('2', "1").replace("30,14,3", "1,0,0"), "fields of the first line");
     }
     for next in ["0", "00", "-1"] {
-        no(&format!("till,1,{next},14,3|{rest}"), "next 0");
+        no(&format!("till,2,{next},14,3|{rest}"), "next 0");
         no(&format!("till,1,{next},0,0"), "next 0");
     }
     for next in beyond(1_000_000) {
-        no(&format!("till,1,{next},14,3|{rest}"), "next over 1,000,000");
+        no(&format!("till,2,{next},14,3|{rest}"), "next over 1,000,000");
         no(&format!("till,1,{next},0,0"), "next over 1,000,000");
     }
     for text in [&format!("{first}|{first}|{rest}"), &format!("{GOOD}|{GOOD}"), "till,1,1,0,0|till,1,1,0,0"] {
@@ -105,12 +100,12 @@ fn counts(desk: &mut Desk) {
     let lines: Vec<&str> = rest.split('|').collect();
     let without = |place: usize| {
         let kept: Vec<&str> = (0..17).filter(|n| *n != place).map(|n| lines[n]).collect();
-        format!("till,1,30,14,3|{}", kept.join("|"))
+        format!("till,2,30,14,3|{}", kept.join("|"))
     };
     let with = |place: usize, line: &str| {
         let mut more = lines.clone();
         more.insert(place, line);
-        format!("till,1,30,14,3|{}", more.join("|"))
+        format!("till,2,30,14,3|{}", more.join("|"))
     };
     (0..14).for_each(|n| no(&without(n), "a wording too few"));
     (14..17).for_each(|n| no(&without(n), "a coupon too few"));
@@ -125,7 +120,7 @@ fn counts(desk: &mut Desk) {
 fn counted_otherwise(desk: &mut Desk) {
     let mut no = |text: &str, name: &str| refuse(desk, &sheet_of(text), 50, mark_of(name));
     let rest = GOOD.split_once('|').expect("lines").1;
-    let counted = |wordings: usize, coupons: usize| format!("till,1,30,{wordings},{coupons}|{rest}");
+    let counted = |wordings: usize, coupons: usize| format!("till,2,30,{wordings},{coupons}|{rest}");
     no(&counted(15, 3), "a wording too few");
     no(&counted(13, 3), "a wording too many");
     no(&counted(14, 4), "a coupon too few");
@@ -134,37 +129,46 @@ fn counted_otherwise(desk: &mut Desk) {
     no(&counted(0, 17), "a wording counted as a coupon");
     no(&counted(15, 2), "a coupon counted as a wording");
     no(&counted(17, 0), "a coupon counted as a wording");
-    for (wordings, coupons) in [(0, 0), (3, 14), (200, 512), (200, 3), (14, 512), (14, 0), (0, 3)] {
+    for (wordings, coupons) in [(0, 0), (3, 14), (200, 2048), (200, 3), (14, 512), (14, 2048), (14, 0), (0, 3)] {
         no(&counted(wordings, coupons), "a count far off");
     }
-    no("till,1,30,14,3", "a count far off");
+    no("till,2,30,14,3", "a count far off");
     for count in beyond(200).into_iter().chain(["270", "65550", "4294967310"].map(String::from)) {
-        no(&format!("till,1,30,{count},3|{rest}"), "a count far off");
+        no(&format!("till,2,30,{count},3|{rest}"), "a count far off");
     }
-    for count in beyond(512).into_iter().chain(["259", "515", "65539", "4294967299"].map(String::from)) {
-        no(&format!("till,1,30,14,{count}|{rest}"), "a count far off");
+    for count in beyond(2048).into_iter().chain(["259", "515", "2051", "65539", "4294967299"].map(String::from)) {
+        no(&format!("till,2,30,14,{count}|{rest}"), "a count far off");
     }
+}
+
+/// The text with the first line that its lines want, where it begins `till,?`.
+pub fn headed(text: &str) -> String {
+    let mut lines = text.split(['|', '\n']);
+    let coupons = lines.next().and_then(|first| first.rsplit(',').next()?.parse::<u32>().ok());
+    let named = lines.any(|line| line.starts_with("n,") || line.starts_with("q,"));
+    let later = named || coupons.is_some_and(|count| count > 512);
+    text.replacen("till,?", if later { "till,2" } else { "till,1" }, 1)
 }
 
 /// So many wordings and live coupons: atoms, singles of the first of them.
 pub fn large(wordings: usize, coupons: usize) -> String {
     let lines: String = (0..wordings).map(|n| format!("|a,{},{n}", 1 + n % 3)).collect();
     let live: String = (0..coupons).map(|n| format!("|{},s,{},0,9,0,0", 2 * n + 1, n % wordings)).collect();
-    format!("till,1,{},{wordings},{coupons}{lines}{live}", 2 * coupons + 1)
+    headed(&format!("till,?,{},{wordings},{coupons}{lines}{live}", 2 * coupons + 1))
 }
 
 /// Counts at their ends and past them, with as many lines.
 fn ends_of_counts(desk: &mut Desk) {
-    for (wordings, coupons) in [(199, 511), (200, 512), (1, 512), (200, 0), (200, 1), (1, 0)] {
+    for (wordings, coupons) in [(199, 2047), (200, 2048), (1, 2048), (200, 512), (200, 0), (200, 1), (1, 0)] {
         accept(desk, &sheet_of(&large(wordings, coupons)), "text: high end");
     }
-    for (wordings, coupons) in [(201, 0), (201, 5), (201, 512), (202, 3), (255, 1), (256, 0), (257, 0), (999, 1)] {
+    for (wordings, coupons) in [(201, 0), (201, 5), (201, 513), (202, 3), (255, 1), (256, 0), (257, 0), (999, 1)] {
         refuse(desk, &sheet_of(&large(wordings, coupons)), 50, mark_of("201 wordings"));
     }
-    for (wordings, coupons) in [(1, 513), (200, 513), (5, 514), (5, 767), (5, 768), (5, 1024), (1, 5000)] {
-        refuse(desk, &sheet_of(&large(wordings, coupons)), 50, mark_of("513 coupons"));
+    for (wordings, coupons) in [(1, 2049), (200, 2049), (5, 2050), (5, 2304), (1, 5000)] {
+        refuse(desk, &sheet_of(&large(wordings, coupons)), 50, mark_of("2,049 coupons"));
     }
-    refuse(desk, &sheet_of(&large(201, 513)), 50, mark_of("513 coupons"));
+    refuse(desk, &sheet_of(&large(201, 2049)), 50, mark_of("2,049 coupons"));
     accept(desk, b"till,1,1,0,0\n", "text: low end");
 }
 
@@ -172,7 +176,7 @@ fn ends_of_counts(desk: &mut Desk) {
 fn serials(desk: &mut Desk) {
     let text = |serials: &[u32]| {
         let lines: String = serials.iter().map(|s| format!("|{s},s,0,0,9,0,0")).collect();
-        sheet_of(&format!("till,1,1000000,1,{}|a,1,7{lines}", serials.len()))
+        sheet_of(&headed(&format!("till,?,1000000,1,{}|a,1,7{lines}", serials.len())))
     };
     for serials in [&[1, 1][..], &[5, 5], &[1, 2, 2], &[1, 1, 2], &[7, 8, 9, 9, 10], &[999_999, 999_999], &[3, 3, 3]] {
         refuse(desk, &text(serials), 50, mark_of("serial twice"));
@@ -188,8 +192,8 @@ fn serials(desk: &mut Desk) {
         &[9, 99, 999, 9_999, 99_999, 999_999], &[44, 300]] {
         accept(desk, &text(serials), "text: high end");
     }
-    let many: Vec<u32> = (1..=512).collect();
-    for (place, serial) in [(1, 1), (255, 255), (256, 256), (300, 44), (511, 511), (511, 1), (0, 2)] {
+    let many: Vec<u32> = (1..=2048).collect();
+    for (place, serial) in [(1, 1), (256, 256), (512, 512), (1_024, 44), (2_047, 2_047), (2_047, 1), (0, 2)] {
         let mut bad = many.clone();
         bad[place] = serial;
         let name = if serial <= place as u32 { "serial twice" } else { "serials fall" };
@@ -222,12 +226,14 @@ fn coupon_lines(desk: &mut Desk) {
 /// Wording lines that are none, and lines of later asks.
 fn wording_lines(desk: &mut Desk) {
     let mut no = |text: &str, name: &str| refuse(desk, &sheet_of(text), 50, mark_of(name));
-    let worded = |line: &str| format!("till,1,30,3,0|a,1,7|l,0,0|{line}");
+    let worded = |line: &str| headed(&format!("till,?,30,3,0|a,1,7|l,0,0|{line}"));
     for line in ["h,0,0,9", "g,0,9,0,9", "g,0,9,0,0,0,9", "g,0,9,0,9,0,0"] {
         no(&worded(line), "a line of the old length");
     }
     for line in ["n", "n,9", "n,9,7", "n,9,7,5,0", "n,9,7,5,", "n,9,7,", "q", "q,", "q,0,0", "q,0,", "q,9,7,0"] {
-        no(&worded(line), "fields of n or q");
+        for edition in ["1", "2"] {
+            no(&format!("till,{edition},30,3,0|a,1,7|l,0,0|{line}"), "fields of n or q");
+        }
     }
     for line in ["word,a,2,7", "word,o", "2,a,2,7", "wording,a,2,7"] {
         no(&worded(line), "a sheet's word before a line");
@@ -248,7 +254,7 @@ fn wording_lines(desk: &mut Desk) {
 /// Lines of ask 7 that are read.
 fn named_lines(desk: &mut Desk) {
     for line in ["n,9,7,5", "n,9,7,0", "n,1,7,65535", "q,0", "q,1"] {
-        accept(desk, &sheet_of(&format!("till,1,30,3,0|a,1,7|l,0,0|{line}")), "");
+        accept(desk, &sheet_of(&format!("till,2,30,3,0|a,1,7|l,0,0|{line}")), "");
     }
 }
 
@@ -317,10 +323,12 @@ fn first_fields(desk: &mut Desk) {
     field(desk, "till,1,{},1,1|a,1,7|1,s,0,0,9,0,0", (1, 51), (1_000_000, 0));
     field(desk, "till,1,1,{},0", (0, 0), (200, 50));
     field(desk, "till,1,1,0,{}", (0, 0), (512, 50));
+    field(desk, "till,2,1,0,{}", (0, 50), (2048, 50));
+    field(desk, "till,2,{},1,0|n,9,7,5", (1, 0), (1_000_000, 0));
 }
 
 fn wording_fields(desk: &mut Desk) {
-    let with = |line: &str| format!("till,1,1,2,0|a,9,7|{line}");
+    let with = |line: &str| headed(&format!("till,?,1,2,0|a,9,7|{line}"));
     field(desk, &with("a,{},65535"), (0, 0), (255, 0));
     for predicate in [0, 1, 2, 255] {
         field(desk, &with(&format!("a,{predicate},{{}}")), (0, 0), (LAST_SESSION, 0));
@@ -399,9 +407,9 @@ fn noise(seed: u64) -> Session {
         let bytes: Vec<u8> = (0..length).map(|_| rng.next() as u8).collect();
         refuse(&mut desk, &bytes, 50, mark_of("bytes at random"));
     }
-    let fields = ["till", "1", "0", "2", "a", "s", "r", "t", "l", "h", "n", "q", "7", "9", "30", "512", "\n", "\n"];
+    let fields = ["till", "1", "0", "2", "a", "s", "r", "t", "l", "h", "n", "q", "7", "9", "30", "513", "\n", "\n"];
     for n in 0..400 {
-        let mut text = String::from(if n % 2 == 0 { "" } else { "till,1,2,1,1\n" });
+        let mut text = String::from(["", "till,1,2,1,1\n", "", "till,2,2,1,1\n"][n % 4]);
         for _ in 0..rng.below(40) {
             text += rng.pick(&fields);
             text += rng.pick(&[",", ",", ",", ",", "\n"]);
@@ -410,11 +418,11 @@ fn noise(seed: u64) -> Session {
             refuse(&mut desk, text.as_bytes(), 50, mark_of("fields at random"));
         }
     }
-    for (byte, length) in [(b'x', 1_000_000), (b'\n', 1_000_000), (b'0', 300_000), (b',', 36_264), (0, 36_263)] {
+    for (byte, length) in [(b'x', 1_000_000), (b'\n', 1_000_000), (b'0', 300_000), (b',', 105_385), (0, 105_384)] {
         refuse(&mut desk, &vec![byte; length], 50, mark_of("a long text"));
     }
     let first = "till,1,1,0,0\n";
-    for (first, fill) in [(first, b'\n'), (first, b' '), ("till,1,1,0,", b'0'), ("till,1,", b'1')] {
+    for (first, fill) in [(first, b'\n'), (first, b' '), ("till,1,1,0,", b'0'), ("till,1,", b'1'), ("till,2,", b'2')] {
         let mut text = first.as_bytes().to_vec();
         text.resize(200_000, fill);
         refuse(&mut desk, &text, 50, mark_of("a long text"));
@@ -440,7 +448,7 @@ pub fn sessions(seed: u64) -> Vec<Session> {
     };
     let mut all: Vec<Session> = parts.into_iter().map(played).collect();
     all.extend([GOOD, "till,1,1,0,0", "till,1,9,1,1|a,9,0|8,r,0,0,9,0,0"].map(damaged));
-    all.extend([GOOD, "till,1,1,0,0"].map(single_bytes));
+    all.extend([GOOD, "till,1,1,0,0", "till,2,1,1,0|n,9,7,0"].map(single_bytes));
     all.push(noise(seed));
     all
 }

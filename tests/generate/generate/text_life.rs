@@ -4,17 +4,18 @@
 use super::damage::at_random;
 use super::form::Kind;
 use super::life;
+use super::model::MOST_LIVE;
 use super::papers::{m1_booking, WORDS};
 use super::rng::Rng;
 use super::session::{sheet_of, Call, Desk, Session};
-use super::text::{opened, written, LONGEST};
-use super::text_form::{large, own_till, refuse, GOOD};
+use super::text::{opened, written, LONGEST, LONGEST_FIRST};
+use super::text_form::{headed, large, own_till, refuse, GOOD};
 use super::wording::*;
 
 pub const CLOSED: [&str; 11] = [
     "closed: empty", "closed: M1 before its booking", "closed: M1 after its booking", "closed: twice",
     "closed: every sort of line", "closed: gaps among serials", "closed: none live, serials given",
-    "closed: after refusals", "closed: the longest text", "closed: 200 wordings and 512 coupons",
+    "closed: after refusals", "closed: the longest text", "closed: 200 wordings and 2,048 coupons",
     "closed: as it was opened",
 ];
 pub const OPENED: [&str; 9] = [
@@ -29,7 +30,12 @@ pub const AFTER: [&str; 19] = [
     "after: single withdrawn", "after: standing withdrawn", "after: booked coupon withdrawn", "after: tally in a break",
     "after: 12 with a line of the text", "after: 20 and 21", "after: booked again",
 ];
-pub const PACKED: [&str; 3] = ["packed: between sheets", "packed: damaged first", "packed: another till by chance"];
+pub const PACKED: [&str; 8] = [
+    "packed: between sheets", "packed: damaged first", "packed: another till by chance", "packed: 511 live",
+    "packed: 512 live", "packed: 513 live", "packed: 2,047 live", "packed: 2,048 live",
+];
+/// Numbers of live coupons about which the text changes, or the till is full; those of `PACKED` from its fourth on.
+const EDGES: [usize; 5] = [511, 512, 513, 2_047, 2_048];
 
 /// Closes the till; the text is as written here.
 fn closes(desk: &mut Desk, text: &str, mark: &'static str) {
@@ -109,32 +115,32 @@ fn goes_on() -> Session {
     desk.script("withdraw,29", "ok,29", AFTER[12]);
     desk.script("withdraw,12", "ok,12", AFTER[13]);
     let rest = &GOOD[GOOD.find('|').expect("lines")..GOOD.find("|1,s").expect("coupons")];
-    closes(&mut desk, &format!("till,1,33,16,2{rest}|a,2,7|s,1,14|30,s,15,0,99,40,60|32,s,0,11,19,0,0"), CLOSED[5]);
+    closes(&mut desk, &format!("till,2,33,16,2{rest}|a,2,7|s,1,14|30,s,15,0,99,40,60|32,s,0,11,19,0,0"), CLOSED[5]);
     desk.reopen(OPENED[0]);
     desk.script("withdraw,30", "ok,30", AFTER[12]);
     desk.script("withdraw,32", "ok,32", AFTER[14]);
-    closes(&mut desk, &format!("till,1,33,16,0{rest}|a,2,7|s,1,14"), CLOSED[6]);
+    closes(&mut desk, &format!("till,2,33,16,0{rest}|a,2,7|s,1,14"), CLOSED[6]);
     desk.reopen(OPENED[0]);
     desk.script("issue,s,0,0,9,0,0", "ok,33", AFTER[2]);
     desk.script("tally,7,5", "ok,0,1,0", "");
     desk.session("text: goes on", 0)
 }
 
-/// Tills at their limits after opening: 200 wordings, 512 coupons, the last serial given.
+/// Tills at their limits after opening: 200 wordings, 2,048 coupons, the last serial given.
 fn limits() -> Session {
     let mut desk = Desk::new();
-    reads(&mut desk, &large(200, 512), OPENED[1]);
-    closes(&mut desk, &large(200, 512), CLOSED[9]);
+    reads(&mut desk, &large(200, 2_048), OPENED[1]);
+    closes(&mut desk, &large(200, 2_048), CLOSED[9]);
     desk.script("word,a,9,999", "no,14,0", AFTER[6]);
     desk.script("word,a,1,0", "no,13,0", AFTER[4]);
     desk.script("issue,s,0,0,9,0,0", "no,22,0", AFTER[7]);
     desk.script("issue,r,2,0,9,0,0", "no,22,0", AFTER[7]);
-    desk.script("book,5,0,0,9,0,0,1,1|hold,1|ax,0", "ok,1025", AFTER[2]);
-    desk.script("withdraw,1023", "ok,1023", AFTER[12]);
-    desk.script("issue,r,2,0,9,3,4", "ok,1026", AFTER[2]);
+    desk.script("book,5,0,0,9,0,0,1,1|hold,1|ax,0", "ok,4097", AFTER[2]);
+    desk.script("withdraw,4095", "ok,4095", AFTER[12]);
+    desk.script("issue,r,2,0,9,3,4", "ok,4098", AFTER[2]);
     desk.script("issue,r,2,0,9,3,4", "no,22,0", AFTER[7]);
     desk.reopen(OPENED[0]);
-    desk.script("tally,0,9", "ok,0,3,0", "");
+    desk.script("tally,0,9", "ok,0,11,0", "");
     reads(&mut desk, "till,1,1000000,3,2|a,1,7|s,1,0|a,9,7|999,r,2,0,9,0,0|999999,s,1,0,9,4,5", OPENED[6]);
     desk.script("tally,7,3", "ok,1,0,0", "");
     desk.script("tally,7,5", "ok,0,1,0", AFTER[15]);
@@ -185,10 +191,10 @@ fn unreached() -> Session {
     }
     desk.script("book,5,0,0,9,0,0,1,2|hold,5|cp,0|ax,1", "ok,900000", AFTER[2]);
     desk.script("book,5,0,0,9,0,0,1,1|hold,900000|ax,0", "ok,900001", AFTER[18]);
-    let full: String = (1..=512).map(|n| format!("|{n},r,0,0,9,0,0")).collect();
-    reads(&mut desk, &format!("till,1,5000,1,512|a,9,7{full}"), OPENED[5]);
+    let full: String = (1..=2_048).map(|n| format!("|{n},r,0,0,9,0,0")).collect();
+    reads(&mut desk, &format!("till,2,5000,1,2048|a,9,7{full}"), OPENED[5]);
     desk.script("issue,r,0,0,9,0,0", "no,22,0", AFTER[7]);
-    desk.script("withdraw,512", "ok,512", AFTER[13]);
+    desk.script("withdraw,2048", "ok,2048", AFTER[13]);
     desk.script("issue,r,0,0,9,0,0", "ok,5000", AFTER[2]);
     desk.close(&[CLOSED[5]]);
     desk.session("text: never reached by calls", 0)
@@ -200,17 +206,18 @@ fn long() -> Session {
     let window = |n: u32| format!("{},9999999,9999990,999999{}", 9_000_000 + n, n % 9);
     let other = |n: u32| window(n).replace("9999990", "9999980");
     let lines: String = (0..200).map(|n| format!("|g,{},{}", window(n), other(n + 1))).collect();
-    let live: String = (0..512).map(|n| format!("|{},r,{},{}", 500_000 + 7 * n, 100 + n % 100, window(n))).collect();
-    let text = format!("till,1,1000000,200,512{lines}{live}");
+    let live: String = (0..2_048).map(|n| format!("|{},r,{},{}", 500_000 + 7 * n, 100 + n % 100, window(n))).collect();
+    let text = format!("till,2,1000000,200,2048{lines}{live}");
     assert_eq!(sheet_of(&text).len(), LONGEST, "the longest text");
     reads(&mut desk, &text, OPENED[6]);
     closes(&mut desk, &text, CLOSED[8]);
     desk.script("withdraw,500007", "ok,500007", AFTER[13]);
     desk.script("tally,7,9500000", "ok,0,0,0", "");
     desk.reopen(OPENED[0]);
-    for about in [16_383, 16_384, 16_385, 32_767, 32_768, 32_769, 36_262] {
-        let fewer = |count: usize| format!("till,1,1000000,200,{count}{lines}{}", &live[..45 * count]);
-        let longer = (0..=512).map(fewer).find(|text| text.len() + 1 >= about).expect("as long as that");
+    let fewer = |count: usize| headed(&format!("till,?,1000000,200,{count}{lines}{}", &live[..45 * count]));
+    assert_eq!(sheet_of(&fewer(512)).len(), LONGEST_FIRST, "the longest text that begins till,1");
+    for about in [16_383, 16_384, 16_385, 32_767, 32_768, 36_262, 36_263, 36_264, 65_535, 65_536, 65_537, 105_383] {
+        let longer = (0..=2_048).map(fewer).find(|text| text.len() + 1 >= about).expect("as long as that");
         let text = sheet_of(&shortened(&longer, longer.len() + 1 - about));
         assert_eq!(text.len(), about);
         desk.read_text(&text, OPENED[8]);
@@ -255,7 +262,7 @@ fn many(seed: u64) -> Session {
     let mut rng = Rng::new(seed);
     let mut desk = Desk::new();
     let seats = [atom(1, 7), says(HOUSE, &atom(1, 7)), atom(2, 7)];
-    while desk.model.live.len() < 512 {
+    while desk.model.live.len() < 600 {
         let w = rng.pick(&[window(0, 9), with_break(0, 9, 3, 5), window(7, 7)]);
         desk.issue(Kind::Single, &rng.pick(&seats), w);
     }
@@ -288,16 +295,16 @@ fn worn(seed: u64) -> Session {
     let mut rng = Rng::new(seed);
     let mut desk = Desk::new();
     let seats = [atom(1, 7), says(HOUSE, &atom(1, 7))];
-    for goal in [1_500, 3_300] {
+    for goal in [2_600, 4_300] {
         while desk.model.given < goal {
-            if desk.model.live.len() == 512 || (desk.model.live.len() > 400 && rng.chance(1, 2)) {
+            if desk.model.live.len() == MOST_LIVE || (desk.model.live.len() > 1_900 && rng.chance(1, 2)) {
                 let serial = rng.pick(&desk.model.live).serial;
                 desk.script(&format!("withdraw,{serial}"), &format!("ok,{serial}"), "");
             } else {
                 desk.issue(Kind::Single, &rng.pick(&seats), window(0, rng.between(0, 20)));
             }
             let given = desk.model.given;
-            if given % 100 == 0 || (1_020..1_030).contains(&given) || (1_498..1_502).contains(&given) {
+            if given % 400 == 0 || (2_045..2_052).contains(&given) || (4_094..4_099).contains(&given) {
                 desk.close(&[CLOSED[5]]);
             }
         }
@@ -311,11 +318,11 @@ fn worn(seed: u64) -> Session {
 /// A large till gives way to a small one: nothing of it is left, and the small one grows as if it had never been.
 fn shrinks() -> Session {
     let mut desk = Desk::new();
-    reads(&mut desk, &large(200, 512), OPENED[1]);
+    reads(&mut desk, &large(200, 2_048), OPENED[1]);
     reads(&mut desk, "till,1,3,1,1|a,9,9|2,r,0,0,9,0,0", OPENED[1]);
     for (sheet, answer) in [
         ("word,t,1,0", "no,10,0"), ("issue,s,1,0,9,0,0", "no,10,0"), ("withdraw,1", "no,24,0"),
-        ("withdraw,3", "no,24,0"), ("withdraw,1023", "no,24,0"), ("tally,0,5", "ok,0,0,0"), ("tally,198,5", "ok,0,0,0"),
+        ("withdraw,3", "no,24,0"), ("withdraw,4095", "no,24,0"), ("tally,0,5", "ok,0,0,0"), ("tally,198,5", "ok,0,0,0"),
     ] {
         desk.script(sheet, answer, AFTER[3]);
     }
@@ -323,17 +330,29 @@ fn shrinks() -> Session {
         desk.script(&format!("word,a,{},{n}", 1 + n % 3), &format!("ok,{}", n + 1), AFTER[5]);
     }
     desk.script("word,a,5,5", "no,14,0", AFTER[6]);
-    for n in 0..511 {
-        desk.script(&format!("issue,s,{},0,9,3,4", n % 200), &format!("ok,{}", n + 3), AFTER[2]);
-    }
+    grows(&mut desk);
     desk.script("issue,s,1,0,9,0,0", "no,22,0", AFTER[7]);
-    desk.script("tally,0,5", "ok,0,3,0", "");
+    desk.script("tally,0,5", "ok,0,11,0", "");
     desk.reopen(OPENED[0]);
-    desk.script("tally,1,3", "ok,0,0,3", AFTER[15]);
+    desk.script("tally,1,3", "ok,0,0,11", AFTER[15]);
     reads(&mut desk, "till,1,1,0,0", OPENED[2]);
     closes(&mut desk, "till,1,1,0,0", CLOSED[0]);
     desk.script("tally,0,5", "ok,0,0,0", "");
     desk.session("text: a large till gives way", 0)
+}
+
+/// By issues alone to 2,048 live, the till closed on the way and not opened.
+fn grows(desk: &mut Desk) {
+    for n in 0..MOST_LIVE as u32 - 1 {
+        desk.script(&format!("issue,s,{},0,9,3,4", n % 200), &format!("ok,{}", n + 3), AFTER[2]);
+        let live = desk.model.live.len();
+        if EDGES.contains(&live) {
+            let edition = if live > 512 { 2 } else { 1 };
+            let text = desk.close(&[]);
+            let first = format!("till,{edition},{},200,{live}\n", n + 4);
+            assert!(text.starts_with(first.as_bytes()), "the first line at {live} live coupons");
+        }
+    }
 }
 
 /// Whether the sheet can stand in a file between commands.
@@ -382,14 +401,19 @@ fn other_text(desk: &mut Desk, rng: &mut Rng, text: &[u8]) {
     }
 }
 
-/// The sheets of a session, the till closed and opened between them, one time in so many.
+/// The sheets of a session, the till closed and opened between them, one time in so many and where it first comes to
+/// one of `EDGES`.
 pub fn packed(session: &Session, seed: u64, apart: u32) -> Session {
     let mut rng = Rng::new(seed);
-    let mut desk = Desk::new();
+    let (mut desk, mut seen) = (Desk::new(), [false; EDGES.len()]);
     let sheets = session.cases.iter().filter(|c| c.call == Call::Sheet && carried(&c.sheet));
     for case in sheets {
         let Some(answer) = case.expected else { break };
-        if rng.chance(1, apart) {
+        let edge = EDGES.iter().position(|live| *live == desk.model.live.len()).filter(|edge| !seen[*edge]);
+        if let Some(edge) = edge {
+            seen[edge] = true;
+            desk.reopen(PACKED[3 + edge]);
+        } else if rng.chance(1, apart) {
             let text = desk.close(&[]);
             for _ in 0..rng.below(3) {
                 other_text(&mut desk, &mut rng, &text);

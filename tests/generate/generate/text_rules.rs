@@ -6,10 +6,10 @@ use super::capacity;
 use super::form::read;
 use super::holders;
 use super::midday;
-use super::model::{Answer, Steps};
+use super::model::{Answer, Steps, MOST_LIVE};
 use super::pairs;
-use super::session::{sheet_of, Call, Desk, Session};
-use super::text_form::{accept, large, own_till, refuse, GOOD};
+use super::session::{sheet_of, Call, Case, Desk, Session};
+use super::text_form::{accept, headed, large, own_till, refuse, GOOD};
 use super::tour;
 use super::wording::window;
 
@@ -33,7 +33,12 @@ fn mark_of(name: &str) -> &'static str {
 }
 
 fn no(desk: &mut Desk, text: &str, name: &str) {
-    refuse(desk, &sheet_of(text), 51, mark_of(name));
+    refuse(desk, &sheet_of(&headed(text)), 51, mark_of(name));
+}
+
+/// The text is read.
+fn yes(desk: &mut Desk, text: &str) {
+    accept(desk, &sheet_of(&headed(text)), "");
 }
 
 /// Places of a window in a text, those of 3 and 43 in `RULES`.
@@ -59,7 +64,7 @@ fn windows(desk: &mut Desk) {
             }
             let pauses = [(a + 1, a + 1), (b - 1, b - 1), (a + 1, b - 1)];
             for (first, last) in pauses.into_iter().filter(|_| b - a >= 2) {
-                accept(desk, &sheet_of(&text.replace("{}", &format!("{a},{b},{first},{last}"))), "");
+                yes(desk, &text.replace("{}", &format!("{a},{b},{first},{last}")));
             }
         }
     }
@@ -72,19 +77,19 @@ fn names(desk: &mut Desk) {
         "h,{},0,9,0,0", "s,1,{}", "q,{}",
     ];
     for line in lines {
-        let text = |name: u32| format!("till,1,9,4,0|a,9,7|a,9,8|{}|a,9,9", line.replace("{}", &name.to_string()));
-        [0, 1].iter().for_each(|name| accept(desk, &sheet_of(&text(*name)), ""));
+        let text = |name: u32| format!("till,?,9,4,0|a,9,7|a,9,8|{}|a,9,9", line.replace("{}", &name.to_string()));
+        [0, 1].iter().for_each(|name| yes(desk, &text(*name)));
         no(desk, &text(2), "10, its own number");
         no(desk, &text(3), "10, a later line");
         [4, 5, 199, 200, 256, 257, 511, 999].iter().for_each(|name| no(desk, &text(*name), "10, past the last line"));
-        let first = format!("till,1,9,1,0|{}", line.replace("{}", "0"));
+        let first = format!("till,?,9,1,0|{}", line.replace("{}", "0"));
         no(desk, &first, "10, its own number");
-        let first = format!("till,1,9,2,0|{}|a,9,7", line.replace("{}", "1"));
+        let first = format!("till,?,9,2,0|{}|a,9,7", line.replace("{}", "1"));
         no(desk, &first, "10, a later line");
     }
     for kind in ["s", "r"] {
         let text = |name: u32| format!("till,1,9,3,1|a,9,7|a,9,8|a,9,9|5,{kind},{name},0,9,0,0");
-        [0, 1, 2].iter().for_each(|name| accept(desk, &sheet_of(&text(*name)), ""));
+        [0, 1, 2].iter().for_each(|name| yes(desk, &text(*name)));
         [3, 4, 199, 200, 256, 258, 999].iter().for_each(|name| no(desk, &text(*name), "10 in a coupon"));
         no(desk, &format!("till,1,9,0,1|5,{kind},0,0,9,0,0"), "10 in a coupon");
     }
@@ -94,22 +99,22 @@ fn names(desk: &mut Desk) {
 fn sizes(desk: &mut Desk) {
     let lines = "a,9,7|t,0,0|t,1,1|t,2,2|t,3,3|t,4,4";
     for line in ["b,5", "h,5,0,9,0,0", "s,1,5", "q,5"] {
-        accept(desk, &sheet_of(&format!("till,1,9,7,0|{lines}|{line}")), "");
+        yes(desk, &format!("till,?,9,7,0|{lines}|{line}"));
         for more in ["b,6", "h,6,0,9,0,0", "s,1,6", "t,6,0", "t,0,6", "w,5,0", "p,0,5", "l,5,1", "u,5,5", "t,6,6"] {
-            no(desk, &format!("till,1,9,8,0|{lines}|{line}|{more}"), "12");
+            no(desk, &format!("till,?,9,8,0|{lines}|{line}|{more}"), "12");
         }
     }
     for letter in ["t", "w", "p", "l", "u"] {
         // 32 + 31 and one: 64; 32 + 32 and one: 65.
-        accept(desk, &sheet_of(&format!("till,1,9,8,0|{lines}|s,1,4|{letter},6,4")), "");
-        accept(desk, &sheet_of(&format!("till,1,9,8,0|{lines}|s,1,4|{letter},4,6")), "");
+        yes(desk, &format!("till,1,9,8,0|{lines}|s,1,4|{letter},6,4"));
+        yes(desk, &format!("till,1,9,8,0|{lines}|s,1,4|{letter},4,6"));
         no(desk, &format!("till,1,9,8,0|{lines}|s,1,4|{letter},6,6"), "12");
         no(desk, &format!("till,1,9,9,1|{lines}|s,1,4|{letter},6,6|a,9,8|5,s,8,0,9,0,0"), "12");
     }
     let tower: String = (0..199).map(|n| format!("|t,{n},{n}")).collect();
     no(desk, &format!("till,1,9,200,0|a,9,7{tower}"), "12");
     let chain = |last: usize| (0..last).map(|n| format!("|s,1,{n}")).collect::<String>();
-    accept(desk, &sheet_of(&format!("till,1,9,64,0|a,9,7{}", chain(63))), "");
+    yes(desk, &format!("till,1,9,64,0|a,9,7{}", chain(63)));
     no(desk, &format!("till,1,9,65,0|a,9,7{}", chain(64)), "12");
 }
 
@@ -118,15 +123,15 @@ fn equal(desk: &mut Desk) {
     let lines = ["a,9,8", "o", "t,0,1", "w,0,1", "p,0,1", "l,0,1", "u,0,1", "b,0", "h,0,1,9,3,4", "s,1,0",
         "g,1,9,3,4,0,9,0,0", "n,9,7,5", "n,9,7,0", "q,0"];
     let all = lines.join("|");
-    accept(desk, &sheet_of(&format!("till,1,9,16,0|a,9,7|a,1,7|{all}")), "");
+    yes(desk, &format!("till,?,9,16,0|a,9,7|a,1,7|{all}"));
     for line in lines {
-        no(desk, &format!("till,1,9,4,0|a,9,7|a,1,7|{line}|{line}"), "13, next to it");
-        no(desk, &format!("till,1,9,17,0|a,9,7|a,1,7|{all}|{line}"), "13, far apart");
+        no(desk, &format!("till,?,9,4,0|a,9,7|a,1,7|{line}|{line}"), "13, next to it");
+        no(desk, &format!("till,?,9,17,0|a,9,7|a,1,7|{all}|{line}"), "13, far apart");
     }
-    no(desk, &format!("till,1,9,17,0|a,9,7|a,1,7|{all}|a,9,7"), "13, far apart");
+    no(desk, &format!("till,?,9,17,0|a,9,7|a,1,7|{all}|a,9,7"), "13, far apart");
     for more in ["h,0,1,9,0,0", "h,0,1,9,3,3", "g,1,9,3,4,0,9,3,4", "t,1,0", "s,2,0", "a,9,264", "a,8,9",
         "n,9,7,261", "n,9,5,7", "q,1"] {
-        accept(desk, &sheet_of(&format!("till,1,9,17,0|a,9,7|a,1,7|{all}|{more}")), "");
+        yes(desk, &format!("till,?,9,17,0|a,9,7|a,1,7|{all}|{more}"));
     }
     let text = large(200, 3);
     let last = text.replace("|a,2,199|", "|a,1,0|");
@@ -136,25 +141,25 @@ fn equal(desk: &mut Desk) {
 
 /// `q` within `q`, next to it and further up; and coupons with holder 0 outside `q`.
 fn of_holders(desk: &mut Desk) {
-    let text = |lines: &str| format!("till,1,9,{},0|n,9,7,0|q,0|a,9,7|{lines}", 3 + lines.split('|').count());
+    let text = |lines: &str| format!("till,?,9,{},0|n,9,7,0|q,0|a,9,7|{lines}", 3 + lines.split('|').count());
     let ways = ["t,1,2", "t,2,1", "w,1,2", "w,2,1", "p,1,2", "p,2,1", "l,1,2", "l,2,1", "u,1,2", "u,2,1", "b,1",
         "h,1,0,9,3,4", "s,1,1"];
     no(desk, &text("q,1"), "53, q within q");
     for way in ways {
-        accept(desk, &sheet_of(&text(way)), "");
+        yes(desk, &text(way));
         no(desk, &text(&format!("{way}|q,3")), "53, q within q");
         no(desk, &text(&format!("{way}|s,1,3|b,4|q,5|a,9,8")), "53, q within q");
     }
     ["q,2", "t,0,0|q,3", "t,1,1", "t,0,1", "l,0,2|q,3|t,4,1"].iter().for_each(|lines| {
-        accept(desk, &sheet_of(&text(lines)), "");
+        yes(desk, &text(lines));
     });
     let lines = "n,9,7,0|q,0|n,9,7,5|t,0,2|t,1,0|t,2,2";
-    let coupon = |kind: &str, name: u32| format!("till,1,9,6,1|{lines}|5,{kind},{name},0,9,0,0");
+    let coupon = |kind: &str, name: u32| format!("till,?,9,6,1|{lines}|5,{kind},{name},0,9,0,0");
     for kind in ["s", "r"] {
         [0, 3, 4].iter().for_each(|name| no(desk, &coupon(kind, *name), "53 in a coupon"));
-        [2, 5].iter().for_each(|name| accept(desk, &sheet_of(&coupon(kind, *name)), ""));
+        [2, 5].iter().for_each(|name| yes(desk, &coupon(kind, *name)));
     }
-    accept(desk, &sheet_of(&coupon("r", 1)), "");
+    yes(desk, &coupon("r", 1));
 }
 
 /// Serials and next.
@@ -166,7 +171,7 @@ fn below_next(desk: &mut Desk) {
     let equal = [(1, &[1][..]), (5, &[5]), (5, &[3, 5]), (9, &[1, 4, 9]), (999_999, &[999_999]), (256, &[255, 256])];
     for (next, serials) in equal {
         no(desk, &text(next, serials), "serial is next");
-        accept(desk, &sheet_of(&text(next + 1, serials)), "");
+        yes(desk, &text(next + 1, serials));
     }
     let above = [
         (1, &[2][..]), (5, &[6]), (5, &[3, 4, 5, 6]), (1, &[999_999]), (10, &[9, 11]), (44, &[300]), (2, &[65_537]),
@@ -176,7 +181,7 @@ fn below_next(desk: &mut Desk) {
         no(desk, &text(next, serials), "serial above next");
     }
     for (next, serials) in [(2, &[1][..]), (1_000_000, &[1]), (1_000_000, &[999_999]), (500, &[]), (1_000_000, &[])] {
-        accept(desk, &sheet_of(&text(next, serials)), "");
+        yes(desk, &text(next, serials));
     }
 }
 
@@ -186,7 +191,7 @@ fn places(desk: &mut Desk) {
         "till,1,2,1,1|a,1,7|1,r,0,0,9,0,0"] {
         no(desk, text, "in the first line that can");
     }
-    let text = large(200, 512);
+    let text = large(200, 2_048);
     let swapped = |old: &str, new: &str| {
         assert!(text.contains(old), "{old} stands there");
         text.replace(old, new)
@@ -197,24 +202,25 @@ fn places(desk: &mut Desk) {
     for (old, new) in [("|a,2,199|", "|b,199|"), ("|a,2,199|", "|b,999|")] {
         no(desk, &swapped(old, new), "in the last line");
     }
-    let last = "|1023,s,111,0,9,0,0";
-    for new in ["|1023,s,111,9,0,0,0", "|1023,s,200,0,9,0,0", "|1023,s,111,0,9,5,9", "|1025,s,111,0,9,0,0",
-        "|1026,s,111,0,9,0,0"] {
+    let last = "|4095,s,47,0,9,0,0";
+    for new in ["|4095,s,47,9,0,0,0", "|4095,s,200,0,9,0,0", "|4095,s,47,0,9,5,9", "|4097,s,47,0,9,0,0",
+        "|4098,s,47,0,9,0,0"] {
         no(desk, &swapped(last, new), "in the last line");
     }
-    no(desk, &text.replace(last, "|1023,r,111,0,9,0,0"), "in the last line");
-    accept(desk, &sheet_of(&text.replace(last, "|1024,s,199,0,9,3,4")), "");
+    no(desk, &text.replace(last, "|4095,r,48,0,9,0,0"), "in the last line");
+    yes(desk, &text.replace(last, "|4096,s,199,0,9,3,4"));
 }
 
 /// What breaks a rule in `GOOD`, and what breaks its form.
 const UNRULY: [(&str, &str); 15] = [
     ("|o|", "|b,2|"), ("|t,0,1|", "|t,3,1|"), ("|w,0,0|", "|w,0,11|"), ("|b,1|", "|t,0,1|"),
     ("|h,1,10,40,20,30|", "|h,1,40,10,0,0|"), ("|h,1,10,40,20,30|", "|h,1,10,40,20,40|"), ("|1,s,0,", "|1,s,6,"),
-    ("|1,s,0,", "|1,s,14,"), ("|12,r,6,", "|12,r,0,"), ("|29,s,10,5,", "|29,s,10,10000,"), ("till,1,30,", "till,1,29,"),
+    ("|1,s,0,", "|1,s,14,"), ("|12,r,6,", "|12,r,0,"), ("|29,s,10,5,", "|29,s,10,10000,"), ("till,2,30,", "till,2,29,"),
     ("|1,s,0,", "|1,s,12,"), ("|12,r,6,", "|12,r,12,"), ("|n,9,7,0|", "|q,0|"), ("|q,12|", "|q,13|"),
 ];
-const BROKEN: [(&str, &str); 20] = [
-    ("till,1,", "till,2,"), ("till,1,", "till,01,"), (",14,3|", ",14,4|"), (",14,3|", ",15,3|"), (",14,3|", ",14,2|"),
+const BROKEN: [(&str, &str); 22] = [
+    ("till,2,", "till,1,"), ("till,2,", "till,02,"), ("till,2,", "till,3,"), ("till,2,", "till,2"),
+    (",14,3|", ",14,4|"), (",14,3|", ",15,3|"), (",14,3|", ",14,2|"),
     ("|a,1,7|", "|a,1,07|"), ("|a,1,7|", "|a,256,7|"), ("|a,1,7|", "|word,a,1,7|"), ("|p,0,0|", "|p,0,1000|"),
     ("|u,1,1|", "|u,1|"), ("|s,12,0|", "|s,256,0|"), ("|12,r", "|1,r"), ("|12,r", "|30,r"), ("|12,r", "|12,x"),
     (",99,0,0|", ",99,0|"), (",60,20,50", ",60,20,10000000"), (",9999,0,0", ",9999,0,00"), (",9999,0,0", ",9999,0,0|"),
@@ -234,7 +240,7 @@ fn both(desk: &mut Desk) {
         let open = sheet_of(&wrong);
         refuse(desk, &open[..open.len() - 1], 50, BOTH[0]);
     }
-    for (wordings, coupons) in [(201, 3), (5, 513), (201, 513)] {
+    for (wordings, coupons) in [(201, 3), (5, 2_049), (201, 2_049)] {
         let text = large(wordings, coupons);
         for (was, is) in [("|a,1,0|", "|b,0|"), ("|a,2,1|", "|a,1,0|"), ("|1,s,0,0,9,", "|1,s,0,9,0,")] {
             refuse(desk, &sheet_of(&text.replacen(was, is, 1)), 50, BOTH[1]);
@@ -242,7 +248,7 @@ fn both(desk: &mut Desk) {
     }
 }
 
-/// What opening answers where word or issue gave this answer. Where 14 or 22 was, the counts are over 200 or 512.
+/// What opening answers where word or issue gave this answer. Where 14 or 22 was, the counts are over 200 or 2,048.
 fn due(answer: Answer) -> (u32, &'static str) {
     match answer {
         Answer::Refused(2, _) => (50, ASKED[0]),
@@ -267,19 +273,31 @@ fn with_line(text: &str, desk: &Desk, sheet: &str) -> Option<(String, &'static s
     let cut: usize = desk.model.lines.iter().map(|line| line.len() + 1).sum();
     let (worded, live) = lines.split_at(cut);
     if let Some(line) = sheet.strip_prefix("word,") {
-        return Some((format!("till,1,{next},{},{coupons}\n{worded}{line}{live}", wordings + 1), ASKED[10]));
+        let text = format!("till,?,{next},{},{coupons}\n{worded}{line}{live}", wordings + 1);
+        return Some((headed(&text), ASKED[10]));
     }
     let line = sheet.strip_prefix("issue,")?;
     let (after, more) = (next + 1, coupons + 1);
-    Some((format!("till,1,{after},{wordings},{more}\n{worded}{live}{next},{line}"), ASKED[11]))
+    Some((headed(&format!("till,?,{after},{wordings},{more}\n{worded}{live}{next},{line}")), ASKED[11]))
 }
 
-/// For every word and issue of a session: opening refuses the text with that line as the sheet was refused, and reads
+/// Whether the text with a sheet's line is opened. Texts of many coupons are long: where the same sheet comes again and
+/// again, or the till is large, one in so many is, and those about 512 and 2,048 coupons.
+fn worth_asking(till: &Desk, answer: Answer, again: bool, index: usize) -> bool {
+    match till.model.live.len() {
+        0..=60 | 511..=513 | 2_046..=2_047 => true,
+        61..=510 if !again => true,
+        _ => matches!(answer, Answer::Refused(22, _)) || index % 24 == 0,
+    }
+}
+
+/// For the words and issues of a session: opening refuses the text with that line as the sheet was refused, and reads
 /// it where it was accepted.
 fn asked(session: &Session) -> Session {
     let mut till = Desk::new();
     let mut desk = own_till();
-    for case in session.cases.iter().filter(|c| c.call == Call::Sheet) {
+    let cases: Vec<&Case> = session.cases.iter().filter(|c| c.call == Call::Sheet).collect();
+    for (index, case) in cases.iter().enumerate() {
         let sheet = String::from_utf8_lossy(&case.sheet).into_owned();
         let text = String::from_utf8(super::text::written(&till.model)).expect("texts are ASCII");
         let steps = match case.expected {
@@ -288,9 +306,11 @@ fn asked(session: &Session) -> Session {
         };
         let made = with_line(&text, &till, &sheet).filter(|_| sheet.ends_with('\n') && sheet.len() < 1_000);
         let answer = till.model.answer(&case.sheet, steps).expect("an answer");
-        let Some((text, mark)) = made else { continue };
+        let again = index > 0 && cases[index - 1].sheet == case.sheet;
+        let Some((text, mark)) = made.filter(|_| worth_asking(&till, answer, again, index)) else { continue };
         if matches!(answer, Answer::Refused(..)) || read(&case.sheet).is_err() {
-            let full = if mark == ASKED[10] { till.model.lines.len() == 200 } else { till.model.live.len() == 512 };
+            let (wordings, coupons) = (till.model.lines.len(), till.model.live.len());
+            let full = if mark == ASKED[10] { wordings == 200 } else { coupons == MOST_LIVE };
             let (number, mark) = due(answer);
             refuse(&mut desk, text.as_bytes(), if full { 50 } else { number }, mark);
         } else {

@@ -142,8 +142,8 @@ fn serials_rise_in_whatever_order_the_coupons_lie() {
     let mut till = till_after(&["word,a,9,7"]);
     let mut live: Vec<usize> = Vec::new();
     let mut last = 0;
-    for turn in 0..3000 {
-        if live.len() == 512 || !live.is_empty() && numbers.below(if turn < 1500 { 4 } else { 2 }) == 0 {
+    for turn in 0..9000 {
+        if live.len() == 2048 || !live.is_empty() && numbers.below(if turn < 4500 { 4 } else { 2 }) == 0 {
             let serial = live.remove(numbers.below(live.len()));
             assert_eq!(ask(&mut till, &format!("withdraw,{serial}")), Done(serial as u32));
         } else {
@@ -151,7 +151,7 @@ fn serials_rise_in_whatever_order_the_coupons_lie() {
             assert_eq!(ask(&mut till, &format!("issue,s,0,{last},9999999,0,0")), Done(last as u32));
             live.push(last);
         }
-        if turn % 10 == 0 || live.len() == 512 {
+        if turn % 20 == 0 || [512, 513, 2048].contains(&live.len()) {
             let lines: Vec<String> = live.iter().map(|at| format!("{at},s,0,{at},9999999,0,0")).collect();
             let lines: Vec<&str> = lines.iter().map(String::as_str).collect();
             assert_eq!(text_of(&till), text(last as u32 + 1, &["a,9,7"], &lines));
@@ -246,11 +246,11 @@ fn a_shorter_text_leaves_the_longer_one_below_it() {
     assert_eq!(buffer[length..], before[length..]);
 }
 
-/// 200 lines `g` and 512 coupons with numbers of full length.
+/// 200 lines `g` and 2,048 coupons with numbers of full length.
 fn longest() -> String {
     let window = "1000000,9999999,1000001,9999998";
     let words = (0..200).map(|n| format!("g,{window},1000000,9999999,{},9999998", 1_000_001 + n));
-    let coupons = (0..512).map(|n| format!("{},r,{},{window}", 999_488 + n, 100 + n % 100));
+    let coupons = (0..2048).map(|n| format!("{},r,{},{window}", 997_952 + n, 100 + n % 100));
     let (words, coupons): (Vec<_>, Vec<_>) = (words.collect(), coupons.collect());
     let words: Vec<&str> = words.iter().map(String::as_str).collect();
     let coupons: Vec<&str> = coupons.iter().map(String::as_str).collect();
@@ -258,11 +258,12 @@ fn longest() -> String {
 }
 
 #[test]
-fn the_longest_text_has_36_263_bytes() {
+fn the_longest_text_has_105_384_bytes() {
     let longest = longest();
-    assert_eq!(longest.len(), 36_263);
-    assert_eq!(MAX_TEXT, 36_263);
+    assert_eq!(longest.len(), 105_384);
+    assert_eq!(MAX_TEXT, 105_384);
     let mut till = opened(&longest);
+    assert_eq!(till.reopen(longest.as_bytes()), Ok(MAX_TEXT));
     assert_eq!(ask(&mut till, "word,o"), Refused(14, 0));
     assert_eq!(ask(&mut till, "issue,r,199,0,9,0,0"), Refused(22, 0));
     let mut short = [b'x'; MAX_TEXT - 1];
@@ -281,23 +282,23 @@ fn a_full_till_made_by_sheets() {
     for word in &words {
         ask(&mut till, &format!("word,{word}"));
     }
-    let coupon = |serial: u32| format!("s,{},{serial},700,0,0", serial % 200);
-    for serial in 1..=600 {
-        if serial > 512 {
-            assert_eq!(ask(&mut till, &format!("withdraw,{}", serial - 512)), Done(serial - 512));
+    let coupon = |serial: u32| format!("s,{},{serial},7000,0,0", serial % 200);
+    for serial in 1..=2136 {
+        if serial > 2048 {
+            assert_eq!(ask(&mut till, &format!("withdraw,{}", serial - 2048)), Done(serial - 2048));
         }
         assert_eq!(ask(&mut till, &format!("issue,{}", coupon(serial))), Done(serial));
     }
-    let lines: Vec<String> = (89..=600).map(|serial| format!("{serial},{}", coupon(serial))).collect();
+    let lines: Vec<String> = (89..=2136).map(|serial| format!("{serial},{}", coupon(serial))).collect();
     let words: Vec<&str> = words.iter().map(String::as_str).collect();
     let lines: Vec<&str> = lines.iter().map(String::as_str).collect();
-    let closed = text(601, &words, &lines);
+    let closed = text(2137, &words, &lines);
     assert_eq!(text_of(&till), closed);
     for mut till in [till, opened(&closed)] {
         assert_eq!(ask(&mut till, "word,o"), Refused(14, 0));
         assert_eq!(ask(&mut till, "issue,s,0,0,9,0,0"), Refused(22, 0));
         assert_eq!(ask(&mut till, "withdraw,88"), Refused(24, 0));
         assert_eq!(ask(&mut till, "withdraw,89"), Done(89));
-        assert_eq!(ask(&mut till, "issue,s,0,0,9,0,0"), Done(601));
+        assert_eq!(ask(&mut till, "issue,s,0,0,9,0,0"), Done(2137));
     }
 }

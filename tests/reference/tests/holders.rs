@@ -219,7 +219,7 @@ fn issue_and_book_53_come_after_10_and_before_20_21_30_and_24() {
     assert_eq!(ask(&mut till, &booking("5,0,5,6,0,0", &[1], &["or"])), Refused(53, 0));
     // in a full till
     let mut till = worded(&["n,9,7,0", "n,9,7,1", "b,0"]);
-    for serial in 1..=512 {
+    for serial in 1..=2048 {
         assert_eq!(ask(&mut till, "issue,s,1,0,9,0,0"), Done(serial));
     }
     for line in ["s,0", "r,0", "s,2", "r,2"] {

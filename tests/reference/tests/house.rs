@@ -147,14 +147,14 @@ fn thirty_two_seats_under_one_principal() {
     let under = |principal: &str| figures(&[&tensors[..], &[principal]].concat(), 7);
     assert_eq!(under("s,1,8"), (32, 0, 0));
     assert_eq!(under("s,2,8"), (0, 32, 0));
-    // 512 such coupons
+    // 2,048 such coupons
     let mut till = worded(&[&tensors[..], &["s,1,8"]].concat());
-    for serial in 1..=512 {
-        assert_eq!(ask(&mut till, &format!("issue,s,9,{serial},999,0,0")), Done(serial));
+    for serial in 1..=2048 {
+        assert_eq!(ask(&mut till, &format!("issue,s,9,{serial},9999,0,0")), Done(serial));
     }
-    assert_eq!(ask(&mut till, "tally,7,512"), Counted(16_384, 0, 0));
-    assert_eq!(ask(&mut till, "tally,7,100"), Counted(3200, 13_184, 0));
-    assert_eq!(ask(&mut till, "tally,7,0"), Counted(0, 16_384, 0));
+    assert_eq!(ask(&mut till, "tally,7,2048"), Counted(65_536, 0, 0));
+    assert_eq!(ask(&mut till, "tally,7,100"), Counted(3200, 62_336, 0));
+    assert_eq!(ask(&mut till, "tally,7,0"), Counted(0, 65_536, 0));
 }
 
 #[test]

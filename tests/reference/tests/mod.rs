@@ -7,6 +7,7 @@ use super::{Answer, Till};
 
 mod breaks;
 mod closing;
+mod editions;
 mod holders;
 mod house;
 mod opening;
@@ -84,9 +85,16 @@ fn refusal_of(text: &[u8]) -> u32 {
     }
 }
 
-/// A text from next, wording lines and coupon lines.
+/// A text from next, wording lines and coupon lines, in the edition in which they are written.
 fn text(next: u32, words: &[&str], coupons: &[&str]) -> String {
-    let mut text = format!("till,1,{next},{},{}\n", words.len(), coupons.len());
+    let holders = words.iter().any(|line| line.starts_with("n,") || line.starts_with("q,"));
+    let edition = if holders || coupons.len() > 512 { "2" } else { "1" };
+    text_in(edition, next, words, coupons)
+}
+
+/// A text in any edition.
+fn text_in(edition: &str, next: u32, words: &[&str], coupons: &[&str]) -> String {
+    let mut text = format!("till,{edition},{next},{},{}\n", words.len(), coupons.len());
     for line in words.iter().chain(coupons) {
         text += line;
         text += "\n";

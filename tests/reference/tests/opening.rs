@@ -22,14 +22,18 @@ fn the_sample_opens() {
 
 #[test]
 fn refusal_50_for_another_edition() {
-    let rest = ["0", "2", "3", "01", "1.0", "+1", " 1", "1 ", "", "11", "10", "4294967297", "65537", "257", "x"];
-    for edition in rest {
+    let rest = ["0", "3", "9", "01", "1.0", "+1", " 1", "1 ", "", "11", "10", "4294967297", "65537", "257", "x"];
+    let more = ["02", "2.0", "+2", " 2", "2 ", "12", "22", "20", "1,2", "2,1", "4294967298", "65538", "258", "-", "?"];
+    for edition in rest.into_iter().chain(more) {
         let head = format!("till,{edition},");
-        assert_eq!(refusal_of(sample().replacen("till,1,", &head, 1).as_bytes()), 50, "{edition}");
+        assert_eq!(refusal_of(sample().replacen("till,2,", &head, 1).as_bytes()), 50, "{edition}");
         assert_eq!(refusal_of(format!("{head}1,0,0\n").as_bytes()), 50, "{edition}");
+        assert_eq!(refusal_of(counted(1, 512, "1,512").replacen("till,1,", &head, 1).as_bytes()), 50, "{edition}");
+        assert_eq!(refusal_of(counted(1, 513, "1,513").replacen("till,2,", &head, 1).as_bytes()), 50, "{edition}");
     }
-    for word in ["Till", "till ", "tills", "til", "", " till", "word", "close", "\u{feff}till"] {
+    for word in ["Till", "till ", "tills", "til", "", " till", "word", "close", "\u{feff}till", "TILL"] {
         assert_eq!(refusal_of(format!("{word},1,1,0,0\n").as_bytes()), 50, "{word}");
+        assert_eq!(refusal_of(sample().replacen("till", word, 1).as_bytes()), 50, "{word}");
     }
 }
 
@@ -38,7 +42,7 @@ fn refusal_50_for_a_first_line_of_another_form() {
     let lines = [
         "till,1,1,0", "till,1,1,0,0,0", "till,1,1,0,0,", "till,1,1,0,", "till,1,1", "till,1,", "till,1", "till",
         "till,1,,0,0", "till,1,1,,0", "till,1,1,0,0 ", "till,1,1,0,-0", "till,1;1,0,0", "till,1,1,0;0", "till1,1,0,0",
-        "till,1,1,0,0\r", "till,1,1,0,0\0", "\0till,1,1,0,0",
+        "till,1,1,0,0\r", "till,1,1,0,0\0", "\0till,1,1,0,0", "till,2,1,0", "till,2,1,0,0,0", "till,2,", "till,2",
     ];
     for line in lines {
         assert_eq!(refusal_of(format!("{line}\n").as_bytes()), 50, "{line}");
@@ -62,22 +66,37 @@ fn next_is_1_to_1_000_000() {
 
 /// A text with so many wordings and coupons, and these counts in its first line.
 fn counted(wordings: usize, coupons: usize, count: &str) -> String {
+    let edition = if coupons > 512 { 2 } else { 1 };
     let words = (0..wordings).map(|session| format!("a,3,{session}\n"));
     let coupons = (1..=coupons).map(|serial| format!("{serial},s,0,0,9,0,0\n"));
-    format!("till,1,1000000,{count}\n{}", words.chain(coupons).collect::<String>())
+    format!("till,{edition},1000000,{count}\n{}", words.chain(coupons).collect::<String>())
+}
+
+/// What opening answers to a text of `counted` in either edition, which must be the same.
+fn in_both(text: &str) -> u32 {
+    let found = refusal_of(text.as_bytes());
+    for edition in ["till,1,", "till,2,"] {
+        let text = format!("{edition}{}", &text[7..]);
+        assert_eq!(refusal_of(text.as_bytes()), found, "{edition}");
+    }
+    found
 }
 
 #[test]
-fn counts_end_at_200_and_512() {
-    opened(&counted(200, 512, "200,512"));
-    opened(&counted(200, 0, "200,0"));
-    opened(&counted(1, 512, "1,512"));
-    for (wordings, coupons) in [(201, 0), (201, 512), (200, 513), (1, 513), (201, 513), (256, 0), (1000, 0), (1, 768)] {
-        let text = counted(wordings, coupons, &format!("{wordings},{coupons}"));
-        assert_eq!(refusal_of(text.as_bytes()), 50, "{wordings} {coupons}");
+fn counts_end_at_200_and_2048() {
+    for coupons in [0, 1, 511, 512, 513, 768, 1023, 1024, 1025, 2047, 2048] {
+        opened(&counted(200, coupons, &format!("200,{coupons}")));
+        opened(&counted(1, coupons, &format!("1,{coupons}")));
     }
-    for count in ["4294967296,0", "256,0", "0,65536", "0,512000000000000000000"] {
-        assert_eq!(refusal_of(counted(0, 0, count).as_bytes()), 50, "{count}");
+    let high = [
+        (201, 0), (201, 512), (201, 513), (201, 2048), (200, 2049), (1, 2049), (201, 2049), (256, 0), (1000, 0),
+        (1, 2050), (1, 2560), (1, 3072), (1, 4096), (1, 9999),
+    ];
+    for (wordings, coupons) in high {
+        assert_eq!(in_both(&counted(wordings, coupons, &format!("{wordings},{coupons}"))), 50, "{wordings} {coupons}");
+    }
+    for count in ["4294967296,0", "256,0", "0,65536", "0,512000000000000000000", "0,4294967296", "0,2049"] {
+        assert_eq!(in_both(&counted(0, 0, count)), 50, "{count}");
     }
 }
 
@@ -93,14 +112,16 @@ fn refusal_50_if_counts_do_not_match() {
         }
     }
     // as many lines as the highest counts have, parted otherwise
-    for (wordings, coupons) in [(199, 512), (200, 511)] {
-        for count in ["200,512", "200,511", "199,512"] {
-            let due = if count == format!("{wordings},{coupons}") { 0 } else { 50 };
-            assert_eq!(refusal_of(counted(wordings, coupons, count).as_bytes()), due, "{wordings} {coupons} {count}");
+    for (wordings, coupons) in [(199, 2048), (200, 2047), (199, 513), (200, 512)] {
+        opened(&counted(wordings, coupons, &format!("{wordings},{coupons}")));
+        for count in ["200,2048", "200,2047", "199,2048", "200,512", "200,513", "199,513", "200,511"] {
+            if count != format!("{wordings},{coupons}") {
+                assert_eq!(in_both(&counted(wordings, coupons, count)), 50, "{wordings} {coupons} {count}");
+            }
         }
     }
-    assert_eq!(refusal_of(counted(199, 513, "200,512").as_bytes()), 50);
-    assert_eq!(refusal_of(counted(201, 511, "200,512").as_bytes()), 50);
+    assert_eq!(in_both(&counted(199, 2049, "200,2048")), 50);
+    assert_eq!(in_both(&counted(201, 2047, "200,2048")), 50);
 }
 
 #[test]
@@ -412,8 +433,9 @@ fn refusal_50_comes_before_51_anywhere_in_the_text() {
         "till,1,9,1,1\na,1,7\n3,r,0,0,9,0,0\n",
         "till,1,9,1,1\no\n3,r,1,0,9,0,0\n",
         "till,1,9,1,1\no\n9,r,0,0,9,0,0\n",
-        "till,1,9,1,1\nn,9,7,0\n3,r,0,0,9,0,0\n",
-        "till,1,9,3,1\nn,9,7,0\nq,0\nq,1\n3,r,1,0,9,0,0\n",
+        "till,2,9,1,1\nn,9,7,0\n3,r,0,0,9,0,0\n",
+        "till,2,9,3,1\nn,9,7,0\nq,0\nq,1\n3,r,1,0,9,0,0\n",
+        "till,2,9,1,1\nq,0\n3,r,0,0,9,0,0\n",
         "till,1,9,1,1\no\n3,r,0,9,0,0,0\n",
         "till,1,9,1,1\no\n3,r,0,0,9,0,9\n",
         "till,1,9,7,0\na,9,7\nt,0,0\nt,1,1\nt,2,2\nt,3,3\nt,4,4\nt,5,5\n",
@@ -431,16 +453,17 @@ fn refusal_50_comes_before_51_anywhere_in_the_text() {
             format!("{last},\n"),
             format!("{last},0\n"),
             format!("{last}00000000\n"),
-            text.replacen("till,1,9", "till,1,0", 1),
-            text.replacen("till,1,9", "till,1,09", 1),
-            text.replacen("till,1,9", "till,2,9", 1),
+            text.replacen(",9,", ",0,", 1),
+            text.replacen(",9,", ",09,", 1),
+            format!("till,{},{}", if text.starts_with("till,1") { 2 } else { 1 }, &text[7..]),
+            format!("till,3,{}", &text[7..]),
         ];
         for broken in broken {
             assert_eq!(refusal_of(broken.as_bytes()), 50, "{broken}");
         }
     }
     // with one more line, right or not
-    for text in &against_rules[..12] {
+    for text in &against_rules[..13] {
         let more = |line: &str| refusal_of(format!("{}{line}\n", text.replacen(",1\n", ",2\n", 1)).as_bytes());
         assert_eq!(more("10,r,0,0,9,0,0"), 51, "{text}");
         for line in ["2,r,0,0,9,0,0", "3,r,0,0,9,0,0", "10,r,0,0,9,0,10000000", "10,r,1000,0,9,0,0", "10,r,0,0,9", ""] {
@@ -451,13 +474,13 @@ fn refusal_50_comes_before_51_anywhere_in_the_text() {
 
 #[test]
 fn refusal_50_after_a_rule_broken_in_the_second_line_of_a_full_text() {
-    let mut lines: Vec<String> = counted(200, 512, "200,512").lines().map(String::from).collect();
+    let mut lines: Vec<String> = counted(200, 2048, "200,2048").lines().map(String::from).collect();
     // a line equal to the next, a later wording, a window that ends before it begins
     for second in ["a,3,1", "b,199", "h,0,9,0,0,0"] {
         lines[1] = second.to_string();
         assert_eq!(refusal_of((lines.join("\n") + "\n").as_bytes()), 51, "{second}");
         let last = lines.pop().unwrap();
-        for broken in ["512,s,0,0,9,0", "511,s,0,0,9,0,0", "512,s,0,0,9,0,00", "512,s,1000,0,9,0,0", ""] {
+        for broken in ["2048,s,0,0,9,0", "2047,s,0,0,9,0,0", "2048,s,0,0,9,0,00", "2048,s,1000,0,9,0,0", ""] {
             assert_eq!(refusal_of((lines.join("\n") + "\n" + broken + "\n").as_bytes()), 50, "{second} {broken}");
         }
         lines.push(last);
@@ -466,17 +489,17 @@ fn refusal_50_after_a_rule_broken_in_the_second_line_of_a_full_text() {
 
 #[test]
 fn there_is_no_refusal_for_length() {
-    for length in [1, 16_384, 16_385, 36_263, 36_264, 100_000, 1_000_000] {
+    for length in [1, 16_384, 16_385, 65_536, 105_384, 105_385, 1_000_000] {
         for byte in [0, 10, b'0', b'9', b',', b'x', 0xff] {
             assert_eq!(refusal_of(&vec![byte; length]), 50);
         }
     }
     let nines = "9".repeat(100_000);
-    for start in ["till,1,", "till,1,1,0,", "till,1,1,1,0\na,", "till,1,2,1,1\no\n"] {
+    for start in ["till,1,", "till,2,", "till,1,1,0,", "till,1,1,1,0\na,", "till,2,1,1,0\nn,", "till,1,2,1,1\no\n"] {
         assert_eq!(refusal_of(format!("{start}{nines},1\n").as_bytes()), 50);
     }
     // a good text and as much again
-    let long = counted(200, 512, "200,512");
+    let long = counted(200, 2048, "200,2048");
     assert_eq!(refusal_of(format!("{long}{long}{long}").as_bytes()), 50);
 }
 

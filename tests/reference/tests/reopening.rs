@@ -92,14 +92,14 @@ fn a_till_opened_at_next_1_000_000_gives_no_serial() {
 
 #[test]
 fn a_full_till_opened_answers_22_before_23() {
-    let coupons: Vec<String> = (0..512).map(|n| format!("{},s,0,0,9,0,0", 999_488 + n)).collect();
+    let coupons: Vec<String> = (0..2048).map(|n| format!("{},s,0,0,9,0,0", 997_952 + n)).collect();
     let coupons: Vec<&str> = coupons.iter().map(String::as_str).collect();
     let mut till = opened(&text(1_000_000, &["a,9,7"], &coupons));
     assert_eq!(ask(&mut till, "issue,s,0,0,9,0,0"), Refused(22, 0));
     assert_eq!(ask(&mut till, &booking("0,0,0,9,0,0", &[999_500], &["ax,0"])), Refused(23, 0));
-    assert_eq!(ask(&mut till, "withdraw,999488"), Done(999_488));
+    assert_eq!(ask(&mut till, "withdraw,997952"), Done(997_952));
     assert_eq!(ask(&mut till, "issue,s,0,0,9,0,0"), Refused(23, 0));
-    for serial in 999_489..=999_999 {
+    for serial in 997_953..=999_999 {
         assert_eq!(ask(&mut till, &format!("withdraw,{serial}")), Done(serial));
     }
     assert_eq!(text_of(&till), text(1_000_000, &["a,9,7"], &[]));
@@ -208,14 +208,14 @@ fn a_till_that_is_closed_and_opened_answers_as_one_that_is_not() {
     }
 }
 
-/// The fields of the first line, if it is in form.
-fn head(line: &str) -> Option<[usize; 3]> {
+/// The fields of the first line after `till`, if it is in form.
+fn head(line: &str) -> Option<[usize; 4]> {
     let mut fields = line.split(',');
-    if fields.next() != Some("till") || fields.next() != Some("1") {
+    if fields.next() != Some("till") {
         return None;
     }
-    let mut numbers = [0; 3];
-    for (number, (low, high)) in numbers.iter_mut().zip([(1, 1_000_000), (0, 200), (0, 512)]) {
+    let mut numbers = [0; 4];
+    for (number, (low, high)) in numbers.iter_mut().zip([(1, 2), (1, 1_000_000), (0, 200), (0, 2048)]) {
         *number = spelled(fields.next()?).filter(|found| (low..=high).contains(found))?;
     }
     fields.next().is_none().then_some(numbers)
@@ -248,8 +248,12 @@ fn due(text: &[u8], scratch: &mut Till) -> u32 {
 /// the sheets do not show it.
 fn sheets_of(text: &[u8]) -> Option<(usize, Vec<String>, Vec<usize>)> {
     let lines: Vec<&str> = std::str::from_utf8(text).ok()?.strip_suffix('\n')?.split('\n').collect();
-    let [next, wordings, coupons] = head(lines[0])?;
+    let [edition, next, wordings, coupons] = head(lines[0])?;
     if lines.len() != 1 + wordings + coupons {
+        return None;
+    }
+    let holders = lines[1..=wordings].iter().any(|line| line.starts_with(['n', 'q']));
+    if edition != 1 + usize::from(holders || coupons > 512) {
         return None;
     }
     let mut sheets: Vec<String> = lines[1..=wordings].iter().map(|line| format!("word,{line}")).collect();
@@ -262,7 +266,7 @@ fn sheets_of(text: &[u8]) -> Option<(usize, Vec<String>, Vec<usize>)> {
     Some((next, sheets, serials))
 }
 
-/// A text of random lines, many of them against a rule.
+/// A text of random lines, many of them against a rule, at times in the other edition.
 fn random_text(numbers: &mut Numbers) -> String {
     let words: Vec<String> = (0..numbers.below(7)).map(|count| random_wording(numbers, count)).collect();
     let mut serial = 0;
@@ -277,7 +281,11 @@ fn random_text(numbers: &mut Numbers) -> String {
     let next = if numbers.below(9) == 0 { 1 + numbers.below(serial + 1) } else { serial + 1 + numbers.below(3) };
     let words: Vec<&str> = words.iter().map(String::as_str).collect();
     let coupons: Vec<&str> = coupons.iter().map(String::as_str).collect();
-    text(next as u32, &words, &coupons)
+    let text = text(next as u32, &words, &coupons);
+    match numbers.below(8) {
+        0 => format!("till,{}{}", 1 + numbers.below(2), &text[6..]),
+        _ => text,
+    }
 }
 
 #[test]
@@ -298,7 +306,9 @@ fn opening_asks_what_word_and_issue_ask() {
 fn opening_asks_the_same_of_a_text_with_any_byte_changed_put_in_or_left_out() {
     let words = ["a,1,7", "o", "t,0,0", "l,0,0", "h,1,0,9,3,4", "g,10,11,0,0,0,9,0,0", "n,9,7,0", "q,6", "n,1,7,5"];
     let coupons = ["2,r,3,0,12,3,4", "10,s,2,5,6,0,0", "11,s,0,9,9,0,0", "12,r,7,0,9,0,0", "13,s,8,0,9,0,0"];
-    let text = text(14, &words, &coupons).into_bytes();
+    // the edition hangs on one letter in the second and third
+    let (with_q, without) = (["a,1,7", "o", "q,1"], ["a,1,7", "o", "b,1"]);
+    let texts = [text(14, &words, &coupons), text(1, &with_q, &[]), text(1, &without, &[])];
     let mut scratch = Till::new();
     let mut seen = [0; 52];
     let mut check = |text: &[u8]| {
@@ -306,9 +316,17 @@ fn opening_asks_the_same_of_a_text_with_any_byte_changed_put_in_or_left_out() {
         assert_eq!(found, due(text, &mut scratch), "{}", String::from_utf8_lossy(text));
         seen[found as usize] += 1;
     };
-    check(&text);
+    for text in texts {
+        with_any_byte_changed(text.as_bytes(), &mut check);
+    }
+    assert!(seen[0] > 300 && seen[50] > 1000 && seen[51] > 300, "{} {} {}", seen[0], seen[50], seen[51]);
+}
+
+/// The text itself, and all with one byte of it changed, put in or left out.
+fn with_any_byte_changed(text: &[u8], check: &mut impl FnMut(&[u8])) {
+    check(text);
     for at in 0..text.len() {
-        let mut changed = text.clone();
+        let mut changed = text.to_vec();
         changed.remove(at);
         check(&changed);
         for &byte in b"0123456789abghlnopqrstuwilx,\n\r \0-+\xff" {
@@ -319,7 +337,6 @@ fn opening_asks_the_same_of_a_text_with_any_byte_changed_put_in_or_left_out() {
             changed.drain(at..at + 2);
         }
     }
-    assert!(seen[0] > 300 && seen[50] > 1000 && seen[51] > 300, "{} {} {}", seen[0], seen[50], seen[51]);
 }
 
 #[test]

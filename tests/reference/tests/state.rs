@@ -281,26 +281,26 @@ fn a_refused_booking_moves_nothing() {
     assert_eq!(ask(&mut till, &booking("0,1,0,9,0,0", &[1], &right)), Done(2));
 }
 
-/// One standing coupon (serial 1) and 511 singles, all of the free atom 0.
+/// One standing coupon (serial 1) and 2,047 singles, all of the free atom 0.
 fn full() -> Till {
     let mut till = till_after(&["word,a,9,7", "word,a,1,7", "issue,r,0,0,9,0,0"]);
-    for serial in 2..=512 {
+    for serial in 2..=2048 {
         assert_eq!(ask(&mut till, "issue,s,0,0,9,0,0"), Done(serial));
     }
     till
 }
 
 #[test]
-fn refusal_22_at_512_live_less_singles_held() {
+fn refusal_22_at_2048_live_less_singles_held() {
     let mut till = full();
     assert_eq!(ask(&mut till, "issue,s,0,0,9,0,0"), Refused(22, 0));
     assert_eq!(ask(&mut till, "issue,r,0,0,9,0,0"), Refused(22, 0));
     assert_eq!(ask(&mut till, "issue,r,0,0,9,0,9"), Refused(43, 0));
     let copy = ["cp,0", "ax,1"];
     assert_eq!(ask(&mut till, &booking("0,0,0,9,0,0", &[1], &copy)), Refused(22, 0));
-    assert_eq!(ask(&mut till, &booking("0,0,0,9,0,0", &[2], &["ax,0"])), Done(513));
+    assert_eq!(ask(&mut till, &booking("0,0,0,9,0,0", &[2], &["ax,0"])), Done(2049));
     assert_eq!(ask(&mut till, "withdraw,100"), Done(100));
-    assert_eq!(ask(&mut till, &booking("0,0,0,9,0,0", &[1], &copy)), Done(514));
+    assert_eq!(ask(&mut till, &booking("0,0,0,9,0,0", &[1], &copy)), Done(2050));
     assert_eq!(ask(&mut till, &booking("0,0,0,9,0,0", &[1], &copy)), Refused(22, 0));
 }
 
@@ -310,7 +310,7 @@ fn refusals_20_21_24_31_40_42_come_before_22() {
     assert_eq!(ask(&mut till, "word,o"), Done(2));
     assert_eq!(ask(&mut till, "issue,s,2,0,9,0,0"), Refused(20, 0));
     assert_eq!(ask(&mut till, "issue,r,1,0,9,0,0"), Refused(21, 0));
-    assert_eq!(ask(&mut till, &booking("0,0,0,9,0,0", &[513], &["ax,0"])), Refused(24, 0));
+    assert_eq!(ask(&mut till, &booking("0,0,0,9,0,0", &[2049], &["ax,0"])), Refused(24, 0));
     assert_eq!(ask(&mut till, &booking("0,0,0,9,0,0", &[1, 1], &["ax,0"])), Refused(31, 0));
     assert_eq!(ask(&mut till, &booking("0,0,0,9,0,0", &[1], &["ax,0"])), Refused(40, 1));
     assert_eq!(ask(&mut till, &booking("0,0,0,9,0,0", &[1], &["cp,0"])), Refused(42, 2));
@@ -341,7 +341,7 @@ fn refusal_23_after_serial_999_999_and_after_22() {
 #[test]
 fn refusal_22_comes_before_23() {
     let mut till = full();
-    for serial in 513..=999_999 {
+    for serial in 2049..=999_999 {
         let sheet = format!("book,0,0,0,9,0,0,1,1\nhold,{}\nax,0\n", serial - 1);
         assert_eq!(till.call(sheet.as_bytes()), Done(serial));
     }
@@ -358,9 +358,9 @@ fn live_serials_are_found_as_in_a_plain_list() {
     let mut last = 0;
     let mut numbers = Numbers(7);
     for turn in 0..60_000 {
-        let issues = if turn / 3000 % 2 == 0 { 6 } else { 4 };
+        let issues = if turn / 12_000 % 2 == 0 { 6 } else { 4 };
         if numbers.below(10) < issues {
-            let wanted = if live.len() < 512 { Done(last + 1) } else { Refused(22, 0) };
+            let wanted = if live.len() < 2048 { Done(last + 1) } else { Refused(22, 0) };
             assert_eq!(ask(&mut till, "issue,s,1,0,9,0,0"), wanted);
             if let Done(serial) = wanted {
                 live.push(serial);

@@ -42,7 +42,8 @@ returns c =
     let at = c .before .before .before .before in
     let h = c .before .before .before .loop-test .taken in
     let s = at .before .before in
-    sym (has-at (now (s .args .store)) (s .pre) _ (at .loop .i) (omega arith) (tested (c .before) ∙ c .if1 .taken))
+    sym (has-at (now (s .args .store)) (s .pre) (sameRow (s .args .row)) (at .loop .i) (omega arith)
+    (tested (c .before) ∙ c .if1 .taken))
 
 loop-again : tie.Need-loop-again Inv-loop μ-loop
 loop-again c =
@@ -54,7 +55,7 @@ returns-2 : tie.Need-returns-2 Inv-loop μ-loop
 returns-2 c =
     let at = c .before in
     let s = at .before .before in
-    sym (has-none (now (s .args .store)) (s .pre) _ (λ k h. at .loop .inv .1 .1 k (omega arith)))
+    sym (has-none (now (s .args .store)) (s .pre) (sameRow (s .args .row)) (λ k h. at .loop .inv .1 .1 k (omega arith)))
 
 pub has-row-spec : {M : Type 1} → statement M
 has-row-spec =

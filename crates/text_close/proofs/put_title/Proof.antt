@@ -13,13 +13,17 @@ put-title-spec =
     (λ c κs. search needs)
     (λ c κs. search needs)
     (λ c κs. c .before .before .before .pre .0)
+    (λ c κs. c .before .before .before .before .pre .0)
     (λ c κs.
-    let live = c .before in
+    let e = c .before in
+    let live = e .before in
     room-as
-    (sym (title-as _ (live .before .before .next-serial .ensures) (live .before .formula-count .ensures)
-    (live .live-count .ensures))) (live .before .before .before .before .pre .1))
+    (sym (title-as _ (e .edition-of .ensures) (live .before .before .next-serial .ensures)
+    (live .before .formula-count .ensures) (live .live-count .ensures)))
+    (live .before .before .before .before .pre .1))
     (λ c. search needs)
     (λ c.
-    let live = c .before .before .before .before in
-    wrote-as (title-as _ (live .before .before .next-serial .ensures) (live .before .formula-count .ensures)
-    (live .live-count .ensures)) (c .before .before .put-title .ensures)))
+    let e = c .before .before .before .before in
+    let live = e .before in
+    wrote-as (title-as _ (e .edition-of .ensures) (live .before .before .next-serial .ensures)
+    (live .before .formula-count .ensures) (live .live-count .ensures)) (c .before .before .put-title .ensures)))

@@ -17,7 +17,7 @@ Inv-loop store n at₀ i₀ at i = (i ≤ n) × Measured (rowTexts store i) (i *
 abbrev μ-loop : tie.MeasureT-loop
 μ-loop store n at₀ i₀ at i = n - i
 
-few : (c : tie.After-row-count Inv-loop μ-loop) → c .row-count .result ≤ 1024
+few : (c : tie.After-row-count Inv-loop μ-loop) → c .row-count .result ≤ 4096
 few c = omega (arith, c .row-count .ensures, c .before .pre .ordered .few)
 
 loop-again : tie.Need-loop-again Inv-loop μ-loop
@@ -49,7 +49,7 @@ rows-length-spec =
     (λ c.
     let at = c .before .before in
     let small = at .loop .inv .1 .small in
-    fits-under _ _ 69701 (omega (arith, at .loop .inv .0, small, c .row-length .ensures .small, few (at .before))) tt)
+    fits-under _ _ 278597 (omega (arith, at .loop .inv .0, small, c .row-length .ensures .small, few (at .before))) tt)
     (λ c. search needs)
     (λ c. search needs)
     loop-again

@@ -17,7 +17,7 @@ text-length-spec =
     (λ c κs. c .before .before .pre)
     (λ c.
     let formulas = c .before in
-    fits-under _ _ 87673 (omega (
+    fits-under _ _ 296569 (omega (
       arith,
       formulas .before .title-length .ensures .small,
       formulas .formulas-length .ensures .small,

@@ -13,8 +13,10 @@ title-length-spec =
     (λ c κs. search needs)
     (λ c κs. search needs)
     (λ c κs. search needs)
+    (λ c κs. search needs)
     (λ c.
-    let live = c .before in
+    let e = c .before in
+    let live = e .before in
     measured-as
-    (title-as _ (live .before .before .next-serial .ensures) (live .before .formula-count .ensures)
-    (live .live-count .ensures)) (c .title-length .ensures)))
+    (title-as _ (e .edition-of .ensures) (live .before .before .next-serial .ensures)
+    (live .before .formula-count .ensures) (live .live-count .ensures)) (c .title-length .ensures)))

@@ -1,11 +1,11 @@
 -- `build` meets its contract: the first line, the empty ledger, the lines, the credentials, the next serial.
-use mathlib.Core.Path.{sym, subst}
+use mathlib.Core.Path.{sym, subst, _∙_}
 use borrow.Author.Needs.{needs}
 use Rattle.read_fields.proofs.Then.{seen}
 use Rattle.text_read.specs.TextForm.{TitleIs}
 use Rattle.text_open.specs.Opened.{linesLeft}
 use Rattle.text_open.proofs.Building.{not-passing, lines-asked, lines-bad, live-asked, live-bad, left-over}
-use Rattle.text_open.proofs.Building.{built}
+use Rattle.text_open.proofs.Building.{built, other-edition}
 use Rattle.text_open.proofs.build.Statement.{statement}
 use Rattle.text_open.proofs.build.Tie as tie
 
@@ -34,6 +34,38 @@ returns-4 c =
 set-next-requires : tie.Need-set-next-requires
 set-next-requires c κs =
     c .before .before .before .before .before .take-credentials .ensures .1
+
+returns-5 : tie.Need-returns-5
+returns-5 c =
+    let n = c .before .before .before .before in
+    let m = n .before .before .before .before in
+    let x = m .before .before .before .before .before in
+    let y = x .before .before .take-lines .ensures in
+    let s = x .before .before .before .before in
+    let t = s .before .before .before in
+    let h = subst (TitleIs _) (t .title .given .1) (t .before .before .text-title .ensures) in (
+      sym (built h (x .l .given .0 .0) (s .start .ensures) (y .1)
+          (seen (linesLeft _ _) (y .0) (x .l .given .1)) (m .m .given .0 .0)
+          (seen (linesLeft _ _) (m .before .before .take-credentials .ensures .0) (m .m .given .1))
+          (n .before .before .if1 .left) (n .set-next .ensures) (c .before .before .edition-of .ensures)
+          (sym (c .if2 .taken) ∙ c .before .same .ensures)),
+      n .set-next .ensures .good,
+    )
+
+returns-6 : tie.Need-returns-6
+returns-6 c =
+    let n = c .before .before .before .before in
+    let m = n .before .before .before .before in
+    let x = m .before .before .before .before .before in
+    let y = x .before .before .take-lines .ensures in
+    let s = x .before .before .before .before in
+    let t = s .before .before .before in
+    let h = subst (TitleIs _) (t .title .given .1) (t .before .before .text-title .ensures) in
+    sym (other-edition h (x .l .given .0 .0) (s .start .ensures) (y .1)
+    (seen (linesLeft _ _) (y .0) (x .l .given .1)) (m .m .given .0 .0)
+    (seen (linesLeft _ _) (m .before .before .take-credentials .ensures .0) (m .m .given .1))
+    (n .before .before .if1 .left) (n .set-next .ensures) (c .before .before .edition-of .ensures)
+    (sym (c .if2 .left) ∙ c .before .same .ensures))
 
 pub build-spec : {M : Type 1} → statement M
 build-spec =
@@ -68,15 +100,7 @@ build-spec =
     (λ c. search needs)
     returns-4
     set-next-requires
-    (λ c. let m = c .before .before .before .before in
-    let x = m .before .before .before .before .before in
-    let y = x .before .before .take-lines .ensures in
-    let s = x .before .before .before .before in
-    let t = s .before .before .before in
-    let h = subst (TitleIs _) (t .title .given .1) (t .before .before .text-title .ensures) in (
-      sym (built h (x .l .given .0 .0) (s .start .ensures) (y .1)
-          (seen (linesLeft _ _) (y .0) (x .l .given .1)) (m .m .given .0 .0)
-          (seen (linesLeft _ _) (m .before .before .take-credentials .ensures .0) (m .m .given .1))
-          (c .before .before .if1 .left) (c .set-next .ensures)),
-      c .set-next .ensures .good,
-    )))
+    (λ c κs. c .before .set-next .ensures .good)
+    (λ c κs. search needs)
+    returns-5
+    returns-6)

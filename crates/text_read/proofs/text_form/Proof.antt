@@ -1,11 +1,13 @@
 -- `text_form` meets its contract: the first line, the lines that it announces, and nothing after them.
-use mathlib.Core.Path.{subst}
+use mathlib.Core.Path.{ap, subst, _∙_}
+use mathlib.Core.Bool.{Bool}
 use native.Mathlib.Omega.{arith}
 use borrow.Author.Needs.{needs}
+use Rattle.snapshot.specs.Snapshot.{editionBy}
 use Rattle.read_fields.specs.Field.{pastOf}
 use Rattle.read_fields.proofs.Then.{seen}
 use Rattle.text_read.specs.TextForm.{TitleIs}
-use Rattle.text_read.proofs.TextForms.{no-formulas, no-credentials, left-over, text-formed}
+use Rattle.text_read.proofs.TextForms.{no-formulas, no-credentials, left-over, by-edition}
 use Rattle.text_read.proofs.text_form.Statement.{statement}
 use Rattle.text_read.proofs.text_form.Tie as tie
 
@@ -27,6 +29,21 @@ returns-4 c =
     (seen (pastOf _) (l .before .before .past-formulas .ensures) (l .a .given .1)) (c .before .before .b .given .0 .0)
     (seen (pastOf _) (c .before .before .before .before .past-credentials .ensures) (c .before .before .b .given .1))
     (c .if1 .taken)
+
+returns-5 : tie.Need-returns-5
+returns-5 c =
+    let own = c .before .before in
+    let f = own .before .before in
+    let l = f .before .before .before .before .before .before in
+    let t = l .before .before .before .before in
+    by-edition _ (t .title .given .0 .0) (subst (TitleIs _) (t .title .given .1)
+    (t .before .before .text-title .ensures) .reads) (l .a .given .0 .0)
+    (seen (pastOf _) (l .before .before .past-formulas .ensures) (l .a .given .1)) (f .before .before .b .given .0 .0)
+    (seen (pastOf _) (f .before .before .before .before .past-credentials .ensures) (f .before .before .b .given .1))
+    (f .if1 .left) (c .before .same .result) (c .tested .result)
+    (own .edition-by .ensures
+    ∙ ap (λ (x : Bool). editionBy x (t .title .given .0 .0 .live)) (own .before .holders-in .ensures))
+    (c .before .same .ensures) (c .tested .ensures 50)
 
 pub text-form-spec : {M : Type 1} → statement M
 text-form-spec =
@@ -54,10 +71,9 @@ text-form-spec =
     returns-3
     (λ c. search needs)
     returns-4
-    (λ c. let l = c .before .before .before .before .before .before in
-    let t = l .before .before .before .before in
-    text-formed _ (t .title .given .0 .0) (subst (TitleIs _) (t .title .given .1)
-    (t .before .before .text-title .ensures) .reads) (l .a .given .0 .0)
-    (seen (pastOf _) (l .before .before .past-formulas .ensures) (l .a .given .1)) (c .before .before .b .given .0 .0)
-    (seen (pastOf _) (c .before .before .before .before .past-credentials .ensures) (c .before .before .b .given .1))
-    (c .if1 .left)))
+    (λ c κs. let t = c .before .before .before .before .before .before .before .before .before .before in
+    omega (arith, subst (TitleIs _) (t .title .given .1) (t .before .before .text-title .ensures) .short))
+    (λ c κs. search needs)
+    (λ c κs. search needs)
+    (λ c κs. search needs)
+    returns-5)

@@ -3,13 +3,13 @@ use mathlib.Core.List.{[], _∷_}
 use borrow.Author.Needs.{needs}
 use Rattle.request.specs.Text.{bytes}
 use Rattle.request.specs.Write.{digits}
-use Rattle.snapshot.specs.Snapshot.{editionFields, titleFields}
+use Rattle.snapshot.specs.Snapshot.{editionField, editionFields, titleFields}
 use Rattle.text_write.proofs.Puts.{Fields, in-fields, first-room, part-start, part-room, sum-fits, wrote-parts}
 use Rattle.text_write.proofs.put_title.Statement.{statement}
 use Rattle.text_write.proofs.put_title.Tie as tie
 
 parts : (c : tie.Start)
-    → Fields (c .args .rest .now) 10 (bytes "till" ∷ bytes "1" ∷ [])
+    → Fields (c .args .rest .now) 10 (bytes "till" ∷ editionField (c .args .e) ∷ [])
     (digits (c .args .next) ∷ digits (c .args .lines) ∷ digits (c .args .live) ∷ [])
 unfolding titleFields editionFields
 parts c = in-fields _ _ _ tt tt (c .pre)

@@ -6,7 +6,7 @@ use Rattle.text_write.proofs.title_length.Tie as tie
 
 returns : tie.Need-returns
 returns c =
-    title-measured _ _ _ (c .before .before .digits-length .ensures) (c .before .digits-length2 .ensures)
+    title-measured _ _ _ _ (c .before .before .digits-length .ensures) (c .before .digits-length2 .ensures)
     (c .digits-length3 .ensures)
 
 pub title-length-spec : {M : Type 1} → statement M
