@@ -19,6 +19,7 @@ use Rattle.ledger.specs.Checks.{Check, _if_, anyOf, maxSize, maxFormulas, missi
 use Rattle.ledger.specs.Checks.{checks}
 use Rattle.ledger.specs.Calls.{withLine, accept}
 use Rattle.ledger.specs.Statements.{from-start, _▸_}
+use Rattle.logic.specs.Span.{Spans}
 use Rattle.store.specs.Store.{lineOf, ledgerOf, Good, Canonical, StandsFor, Wordable}
 use Rattle.formula_facts.specs.Facts.{Formable, HoldersOf}
 use Rattle.formula_facts.proofs.Named.{none-missing}
@@ -84,8 +85,9 @@ counted l e h = reworded h (ap (leb maxFormulas) e)
 
 module _ {l : List ℕ} {x : Row} {z : ℕ} (f : Fitting l x z) where
   pub word-added : {p b u w : Bool} → p ≡ plain (form (formula (ledgerOf l)) (lineOf x))
-      → b ≡ balanced (form (formula (ledgerOf l)) (lineOf x)) → HoldersOf l x u w → Wordable l x z p b u w
-  word-added q y h = record {
+      → b ≡ balanced (form (formula (ledgerOf l)) (lineOf x)) → HoldersOf l x u w → (low high : ℕ)
+      → Spans (form (formula (ledgerOf l)) (lineOf x)) low high → Wordable l x z p b u w low high
+  word-added q y h low high s = record {
     good = f .named .good;
     room = leb-false maxFormulas (length (ledgerOf l .lines)) (f .room);
     canonical = f .named .canonical;
@@ -96,6 +98,7 @@ module _ {l : List ℕ} {x : Row} {z : ℕ} (f : Fitting l x z) where
     unbound-kept = h .unbound;
     quantified-kept = h .quantified;
     small = ltb-false maxSize z (f .small);
+    spanned = s;
   }
 
   pub word-done : {l′ : List ℕ} {n : ℕ} → n ≡ length (ledgerOf l .lines)

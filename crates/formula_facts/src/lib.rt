@@ -1,14 +1,16 @@
-// What is known of a formula from its row and the store: whether its parts are there, size, plain, holders.
+// What is known of a formula from its row and the store: whether its parts are there, size, plain, holders, sessions.
 use formula_parts::Parts;
 use steps::Row;
 use steps::letters;
 use store::Store;
 ghost use mathlib.Core.Path.{_≡_};
 ghost use mathlib.Core.Bool.{not};
+ghost use Prim.Native.Nat.{_≤_};
 ghost use Rattle.logic.specs.Formula.{size, plain};
 ghost use Rattle.ledger.specs.Table.{form, names};
 ghost use Rattle.ledger.specs.Ledger.{formula};
 ghost use Rattle.ledger.specs.Checks.{anyOf, missing, nests};
+ghost use Rattle.logic.specs.Span.{Spans};
 ghost use Rattle.store.specs.Store.{lineOf, ledgerOf, Canonical};
 ghost use Rattle.formula_facts.specs.Facts.{Formable, PartsHoldersOf, HoldersOf};
 
@@ -102,4 +104,46 @@ pub fn row_nested(store: &Store, row: Row) -> bool
         return false;
     }
     store::quantified_at(store, row.a)
+}
+
+// Two numbers between which the sessions of a formula's atoms are, so that a tally of another session passes it by.
+pub struct Span {
+    pub low: u32,
+    pub high: u32,
+}
+
+fn least(a: u32, b: u32) -> u32
+    ensures { λ r. ⌜ (r ≤ a) × (r ≤ b) ⌝ }
+{
+    if a < b { a } else { b }
+}
+
+fn most(a: u32, b: u32) -> u32
+    ensures { λ r. ⌜ (a ≤ r) × (b ≤ r) ⌝ }
+{
+    if a < b { b } else { a }
+}
+
+// In the row's formula: an atom's session twice, and of a formula that has no atom two numbers with none between them.
+pub fn row_span(store: &Store, row: Row) -> Span
+    requires { ⌜ Formable (now store) row ⌝ }
+    ensures { λ r. ⌜ Spans (form (formula (ledgerOf (now (store .entry)))) (lineOf row)) (r .low) (r .high) ⌝ }
+{
+    if (row.letter == letters::ATOM) | (row.letter == letters::NAMED) {
+        return Span {
+            low: row.b,
+            high: row.b,
+        };
+    }
+    match formula_parts::parts_of(row) {
+        Parts::Nothing => Span { low: 1, high: 0 },
+        Parts::One(i) => Span {
+            low: store::low_at(store, i),
+            high: store::high_at(store, i),
+        },
+        Parts::Two(i, j) => Span {
+            low: least(store::low_at(store, i), store::low_at(store, j)),
+            high: most(store::high_at(store, i), store::high_at(store, j)),
+        },
+    }
 }

@@ -50,7 +50,7 @@ module _ (t : Ledger) where
   pub early-all : (k : ℕ) → early t (length (t .lines)) k ≡ formula t k
   early-all k = ap (λ (ls : List Line). nth (formulas ls) k) (take-length (t .lines))
 
-  early-is : (k i : ℕ) → k < i → i ≤ length (t .lines) → early t i k ≡ formula t k
+  pub early-is : (k i : ℕ) → k < i → i ≤ length (t .lines) → early t i k ≡ formula t k
   early-is k i h le =
       let n = length (t .lines) in
       let e : i + (n - i) ≡ n = omega arith in
@@ -60,6 +60,10 @@ module _ (t : Ledger) where
   early-past k i le =
       List·getD-eq-default (formulas (take i (t .lines))) one {n = k}
       (omega (arith, formulas-length (take i (t .lines)), length-take i (t .lines)))
+
+  -- so a number that no line has reads as 1
+  pub formula-past : (k : ℕ) → length (t .lines) ≤ k → formula t k ≡ one
+  formula-past k le = sym (early-all k) ∙ early-past k (length (t .lines)) le
 
   -- no early formula is over the size that every formula has
   pub early-small : ((n : ℕ) → size (formula t n) ≤ maxSize) → (i k : ℕ) → i ≤ length (t .lines)

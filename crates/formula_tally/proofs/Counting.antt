@@ -1,14 +1,12 @@
 -- The column of counts, row by row.
 use mathlib.Core.Path.{_≡_, refl, sym, ap, ap₂, subst, fun-ext, _∙_}
-use mathlib.Core.List.{List, [], _∷_}
+use mathlib.Core.List.{List}
 use mathlib.Core.Bool.{Bool, true, false, _&&_}
-use Prim.Native.Nat.{ℕ, zero, suc, _+_, _*_, _%_, _≤_, _<_}
-use Prim.Native.Char.{code}
+use Prim.Native.Nat.{ℕ, _+_, _*_, _%_, _≤_, _<_}
 use native.Mathlib.Omega.{arith}
-use native.Mathlib.Numerals.{add-one}
 use native.Mathlib.Nat.{add-zero}
 use lib.Dec.{eqb}
-use lib.ListN.{length, set, replicate}
+use lib.ListN.{length, set}
 use borrow.Author.Tests.{eqb-true}
 use Rattle.logic.specs.Formula.{Formula, says, size, count, seat, place, house, seats, places, houseUnder, bit}
 use Rattle.logic.specs.Choice.{pick}
@@ -16,18 +14,17 @@ use Rattle.logic.specs.Multiset.{Every, sum}
 use Rattle.logic.proofs.Multisets.{every-map}
 use Rattle.logic.proofs.Stores.{replicate-is}
 use Rattle.request.specs.Request.{Line}
-use Rattle.steps.specs.declared.Row.{Row}
 use Rattle.ledger.specs.Table.{form, names, rowOf}
 use Rattle.ledger.specs.Checks.{maxSize, maxFormulas}
 use Rattle.ledger.specs.Bounds.{lineAt}
 use Rattle.store_cells.specs.Layout.{rowAt}
 use Rattle.store.specs.Store.{ledgerOf, Good}
 use Rattle.store.proofs.Views.{row-is}
-use Rattle.formula_parts.specs.Parts.{partsOf, atomic}
+use Rattle.formula_parts.specs.Parts.{partsOf}
 use Rattle.formula_parts.proofs.PartsOfRows.{parts-row}
 use Rattle.formula_tally.specs.Column.{entry, early, placeUnit, houseUnit, underUnit, entryMost}
 use Rattle.formula_tally.specs.Column.{Countable}
-use Rattle.formula_tally.specs.Tally.{counts, houseIn, underIn, atomCounts, saidCounts, rowCounts, atomOf}
+use Rattle.formula_tally.specs.Tally.{counts, houseIn, underIn, atomCounts, saidCounts, rowCounts}
 use Rattle.formula_tally.specs.Tally.{Blank, Counted}
 use Rattle.formula_tally.proofs.CountLimits.{counts-le, Unpacked, unpacked}
 use Rattle.formula_tally.proofs.Columns.{column-start, column-next, early-small}
@@ -82,17 +79,7 @@ module _ (T : ℕ → Formula) (small : (k : ℕ) → size (T k) ≤ maxSize) wh
   row-counts s (Line.named p t k) = atom-counts s p t
   row-counts s (Line.forEvery i) = omega arith
 
-sum-zero : (f : ℕ → ℕ) → ((k : ℕ) → f k ≡ 0) → (ns : List ℕ) → sum f ns ≡ 0
-unfolding sum
-sum-zero f z [] = refl
-sum-zero f z (n ∷ ns) = omega (arith, z n, sum-zero f z ns)
-
-set-zero : (n i : ℕ) → set {A = ℕ} (replicate n 0) i 0 ≡ replicate n 0
-set-zero zero i = refl
-set-zero (suc n) zero = refl
-set-zero (suc n) (suc i) = ap (λ (xs : List ℕ). 0 ∷ xs) (set-zero n i)
-
-blank-zero : (xs : List ℕ) → Blank xs → (k : ℕ) → entry xs k ≡ 0
+pub blank-zero : (xs : List ℕ) → Blank xs → (k : ℕ) → entry xs k ≡ 0
 blank-zero xs e k = ap (λ (ys : List ℕ). entry ys k) e ∙ replicate-is 0 maxFormulas k
 
 module _ (l : List ℕ) (s : ℕ) where
@@ -129,36 +116,6 @@ module _ (l : List ℕ) (s : ℕ) where
           (e ∙ ap₂ (rowCounts s) (fun-ext (c .holds)) (sym (row-is l g i))
           ∙ sym (row-counts (early (ledgerOf l) i)
           (λ k. early-small (ledgerOf l) (g .bounded .sizes) i k (omega arith)) s (lineAt (ledgerOf l) i)))
-
-    -- before the first atom there is nothing to count
-    nothing : (xs : List ℕ) → ((k : ℕ) → entry xs k ≡ 0) → (i : ℕ) → atomOf s (rowAt l i) ≡ false
-        → rowCounts s (entry xs) (rowAt l i) ≡ 0
-    unfolding rowCounts
-    nothing xs z i e = go (atomic (r .letter)) (eqb (r .letter) (code "s")) refl
-      where
-        r : Row
-        r = rowAt l i
-
-        said : (b : Bool) (n : ℕ) → n ≡ 0
-            → n % houseUnit + (houseUnit + underUnit) * pick b (underIn n) (houseIn n) ≡ 0
-        said true n h = omega arith
-        said false n h = omega arith
-
-        go : (b c : Bool) → atomic (r .letter) ≡ b
-            → pick b (atomCounts s (r .a) (r .b))
-            (pick c (saidCounts (r .a) (sum (entry xs) (partsOf r))) (sum (entry xs) (partsOf r))) ≡ 0
-        go true c q = rw (rw q at e)
-        go false true q = said (eqb (r .a) house) (sum (entry xs) (partsOf r)) (sum-zero (entry xs) z (partsOf r))
-        go false false q = sum-zero (entry xs) z (partsOf r)
-
-    pub none-counted : (xs : List ℕ) → Blank xs → (i : ℕ) → i ≤ length (ledgerOf l .lines)
-        → ((k : ℕ) → k < i → atomOf s (rowAt l k) ≡ false) → Counted l s i xs
-    none-counted xs e zero h f = counted-start xs e
-    none-counted xs e (suc i) h f =
-        let c = none-counted xs e i (omega arith) (λ k q. f k (omega arith)) in
-        let v = sym (nothing xs (blank-zero xs e) i (f i (omega arith))) in
-        let kept : set xs i 0 ≡ xs = ap (λ (ys : List ℕ). set ys i 0) e ∙ set-zero maxFormulas i ∙ sym e in
-        subst (Counted l s (suc i)) kept (rw (add-one i) at (counted-next i xs h c 0 v))
 
   -- every formula is counted
   pub counted-all : (i j : ℕ) (xs : List ℕ) → i ≡ j → Counted l s i xs → Counted l s j xs

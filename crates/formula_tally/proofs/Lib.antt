@@ -1,4 +1,6 @@
-pub mod CountLimits
 pub mod Columns
+pub mod CountLimits
 pub mod Counting
-pub mod Tallies
+pub mod ByFormula
+pub mod Walks
+pub mod Tallied

@@ -1,6 +1,7 @@
 pub mod Tests
 pub mod Intervals
 pub mod Multisets
+pub mod Spans
 pub mod Stores
 pub mod Weights
 pub mod Balance

@@ -1,6 +1,7 @@
 pub mod Choice
 pub mod Interval
 pub mod Formula
+pub mod Span
 pub mod Weight
 pub mod Multiset
 pub mod Derives

@@ -13,19 +13,22 @@ use Rattle.request.specs.declared.Kind.the-variants.{Unrestricted}
 use Rattle.ledger.specs.declared.Credential.{Credential}
 use Rattle.ledger.specs.Ledger.{Ledger, empty, consSome}
 use Rattle.ledger.specs.Bounds.{Bounded}
+use Rattle.ledger.specs.Checks.{maxFormulas}
 use Rattle.ledger.proofs.Bounds.{empty-bounded}
 use Rattle.store.specs.Tab.{tab, present}
 use Rattle.store_cells.specs.Layout.{cells, lineCount, liveCount, nextSerial, rowCount, credentialAt, gapAt, entryAt}
+use Rattle.store_cells.specs.Layout.{linkAt}
 use Rattle.store.specs.Store.{ledgerOf, RowsOrdered, StandsFor}
 use Rattle.store.proofs.Tabs.{tab-ext, present-sum}
+use Rattle.store.proofs.Chains.{chain-none, chain-same}
 use Rattle.store_cells.proofs.CellWrites.{stays-entry, stays-credential, stays-serial, SameLive}
 use Rattle.store_cells.proofs.CredentialRows.{gap-kind}
 
 -- The empty ledger.
 pub empty-stands : (l : List ℕ) → length l ≡ cells → lineCount l ≡ 0 → liveCount l ≡ 0 → nextSerial l ≡ 1
-    → rowCount l ≡ 0 → StandsFor l empty
+    → rowCount l ≡ 0 → ((n : ℕ) → n < maxFormulas → linkAt l n ≡ 0) → StandsFor l empty
 unfolding ledgerOf tab present
-empty-stands l h a b c d =
+empty-stands l h a b c d z =
     let e : ledgerOf l ≡ empty = rw (a, c, d) in
     record {
       good = record {
@@ -37,6 +40,7 @@ empty-stands l h a b c d =
           between = λ i j p q. absurd (omega arith);
           below = λ i q. absurd (omega arith);
           named = λ i q. absurd (omega arith);
+          chained = rw d (chain-none l z);
         };
         canonical = λ i q. absurd (omega arith);
         sizes = λ i q. absurd (omega arith);
@@ -44,6 +48,7 @@ empty-stands l h a b c d =
         balances = λ i q. absurd (omega arith);
         unbounds = λ i q. absurd (omega arith);
         quantifieds = λ i q. absurd (omega arith);
+        spans = λ i q. absurd (omega arith);
         bounded = subst Bounded (sym e) empty-bounded;
       };
       ledger = e;
@@ -77,6 +82,8 @@ module _ (l m : List ℕ) (s : SameLive l m) (o : RowsOrdered l) where
     );
     below = λ i q. omega (arith, same-serial i q, s .next, s .used, o .below i (omega (arith, s .used)));
     named = λ i q. omega (arith, same-of i q, s .used, o .named i (omega (arith, s .used)));
+    chained = rw (s .used)
+        (chain-same l m (rowCount l) (o .chained) (λ i q. same-of i (omega (arith, s .used))) (s .links));
   }
 
 -- A tally over the live credentials is one over all rows, where it sees no unrestricted credential: a gap reads as one.

@@ -1,2 +1,3 @@
 pub mod Tab
+pub mod Chain
 pub mod Store

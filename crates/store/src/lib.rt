@@ -16,7 +16,9 @@ ghost use Rattle.request.specs.declared.Kind.the-variants.{Linear};
 ghost use Rattle.request.specs.Request.{Line};
 ghost use Rattle.ledger.specs.Table.{rowOf};
 ghost use Rattle.ledger.specs.Ledger.{empty, formula, isKind};
-ghost use Rattle.store_cells.specs.Layout.{rowCount, rowAt, credentialAt};
+ghost use Rattle.ledger.specs.Checks.{maxFormulas};
+ghost use Rattle.store_cells.specs.Layout.{rowCount, rowAt, credentialAt, ofAt, lowAt, highAt};
+ghost use Rattle.store.specs.Chain.{lastOf};
 ghost use Rattle.store.specs.Store.{ledgerOf, Good, StandsFor};
 
 pub type Store = store_cells::Store;
@@ -122,6 +124,21 @@ pub fn quantified_at(store: &Store, n: u32) -> bool
     lines::quantified(store, n) == 1
 }
 
+// The two numbers kept with a formula of the ledger between which the sessions of its atoms are.
+pub fn low_at(store: &Store, n: u32) -> u32
+    requires { ⌜ Good (now store) × (n < length (ledgerOf (now store) .lines)) ⌝ }
+    ensures { λ r. ⌜ r ≡ lowAt (now (store .entry)) n ⌝ }
+{
+    lines::low(store, n)
+}
+
+pub fn high_at(store: &Store, n: u32) -> u32
+    requires { ⌜ Good (now store) × (n < length (ledgerOf (now store) .lines)) ⌝ }
+    ensures { λ r. ⌜ r ≡ highAt (now (store .entry)) n ⌝ }
+{
+    lines::high(store, n)
+}
+
 // How many credential rows are in use, gaps too.
 pub fn row_count(store: &Store) -> u32
     ensures { λ r. ⌜ r ≡ rowCount (now (store .entry)) ⌝ }
@@ -135,6 +152,22 @@ pub fn credential_at(store: &Store, i: u32) -> Credential
     ensures { λ r. ⌜ r ≡ credentialAt (now (store .entry)) i ⌝ }
 {
     credentials::credential(store, i)
+}
+
+// The rows of a formula, gaps too, from the last to the first: the last one of a formula, and the one before a row that
+// is of the same formula; each by its number and one, 0 where there is none.
+pub fn last_row(store: &Store, formula: u32) -> u32
+    requires { ⌜ Good (now store) × (formula < maxFormulas) ⌝ }
+    ensures { λ r. ⌜ r ≡ lastOf (ofAt (now (store .entry))) formula (rowCount (now (store .entry))) ⌝ }
+{
+    credentials::link(store, formula)
+}
+
+pub fn row_before(store: &Store, i: u32) -> u32
+    requires { ⌜ Good (now store) × (i < rowCount (now store)) ⌝ }
+    ensures { λ r. ⌜ r ≡ lastOf (ofAt (now (store .entry))) (ofAt (now (store .entry)) i) i ⌝ }
+{
+    credentials::link(store, ledger::MAX_FORMULAS + i)
 }
 
 // Whether the credential of a row is linear (document 01: single-use), by its kind alone.

@@ -22,7 +22,8 @@ use Rattle.store_cells.specs.Layout.{unboundCell, quantifiedCell, unboun
 use Rattle.store_cells.specs.Layout.{credentialCell, credentialPlace}
 use Rattle.store_cells.specs.Layout.{cells, maxRows, cell, lineCount, liveCount, nextSerial, rowCount, rowFrom}
 use Rattle.store_cells.specs.Layout.{lineCell, rowAt, sizeAt, plainAt, balancedAt, lineCells, putLine, kindFrom}
-use Rattle.store_cells.specs.Layout.{credentialFrom, credentialAt, gapAt, entryAt}
+use Rattle.store_cells.specs.Layout.{credentialFrom, credentialAt, gapAt, entryAt, linkBase, linkAt}
+use Rattle.store_cells.specs.Layout.{lowCell, highCell, lowAt, highAt}
 use Rattle.store_cells.proofs.Cells.{length-putRow, row-same, row-other, put-below, put-above}
 
 -- a row is known by its cells
@@ -119,6 +120,14 @@ module _ (l m : List ℕ) (s : SameLines l m) where
   unfolding quantifiedAt
   same-quantified n h = same-cell n quantifiedCell h (omega arith)
 
+  pub same-low : (n : ℕ) → n < maxFormulas → lowAt m n ≡ lowAt l n
+  unfolding lowAt
+  same-low n h = same-cell n lowCell h (omega arith)
+
+  pub same-high : (n : ℕ) → n < maxFormulas → highAt m n ≡ highAt l n
+  unfolding highAt
+  same-high n h = same-cell n highCell h (omega arith)
+
 -- row i of the credentials stands in m as in l
 abbrev pub Stays : List ℕ → List ℕ → ℕ → Type 0
 Stays l m i = (f : ℕ) → f < credentialWidth → credentialCell m i f ≡ credentialCell l i f
@@ -146,6 +155,7 @@ pub record SameLive (l m : List ℕ) : Type 0 where
   pub next : nextSerial m ≡ nextSerial l
   pub used : rowCount m ≡ rowCount l
   pub rows : (i : ℕ) → i < maxRows → Stays l m i
+  pub links : (k : ℕ) → linkAt m k ≡ linkAt l k
 
 -- One of the numbers before the tables is put.
 module _ (l m : List ℕ) (h v : ℕ) where
@@ -170,6 +180,10 @@ pub head-line : (m : List ℕ) (h v i f : ℕ) → h < lineBase → lineCell (se
 unfolding lineCell cell
 head-line m h v i f q = getD-set-other m h (lineBase + i * lineWidth + f) v 0 (omega arith)
 
+pub head-links : (m : List ℕ) (h v k : ℕ) → h < lineBase → linkAt (set m h v) k ≡ linkAt m k
+unfolding linkAt
+head-links m h v k q = getD-set-other m h (linkBase + k) v 0 (omega arith)
+
 pub count-live : (l m : List ℕ) (v : ℕ) → SameLive l m → SameLive l (set m 0 v)
 count-live l m v s = record {
   long = length-set m 0 v ∙ s .long;
@@ -177,29 +191,33 @@ count-live l m v s = record {
   next = head-other m 0 v 2 (omega arith) ∙ s .next;
   used = head-other m 0 v 3 (omega arith) ∙ s .used;
   rows = λ i q f p. head-stays m 0 v i (omega arith) f p ∙ s .rows i q f p;
+  links = λ k. head-links m 0 v k (omega arith) ∙ s .links k;
 }
 
 -- A formula row is put.
-module _ (m : List ℕ) (i : ℕ) (r : Row) (s : ℕ) (p b u q : Bool) where
+module _ (m : List ℕ) (i : ℕ) (r : Row) (s : ℕ) (p b u q : Bool) (low high : ℕ) where
   pub line-same : length m ≡ cells → i < maxFormulas → (f : ℕ) → f < lineWidth
-      → lineCell (putLine m i r s p b u q) i f ≡ getD (lineCells r s p b u q) f 0
+      → lineCell (putLine m i r s p b u q low high) i f ≡ getD (lineCells r s p b u q low high) f 0
   unfolding lineCell putLine
-  line-same n h f x = row-same m lineBase lineWidth i (lineCells r s p b u q) f (omega arith) (omega arith)
+  line-same n h f x = row-same m lineBase lineWidth i (lineCells r s p b u q low high) f (omega arith) (omega arith)
 
-  pub line-other : (k f : ℕ) → (k ≡ i → ⊥) → f < lineWidth → lineCell (putLine m i r s p b u q) k f ≡ lineCell m k f
+  pub line-other : (k f : ℕ) → (k ≡ i → ⊥) → f < lineWidth
+      → lineCell (putLine m i r s p b u q low high) k f ≡ lineCell m k f
   unfolding lineCell putLine
-  line-other k f h x = row-other m lineBase lineWidth i (lineCells r s p b u q) refl k f h x
+  line-other k f h x = row-other m lineBase lineWidth i (lineCells r s p b u q low high) refl k f h x
 
-  line-before : (k : ℕ) → k < lineBase → getD (putLine m i r s p b u q) k 0 ≡ getD m k 0
+  line-before : (k : ℕ) → k < lineBase → getD (putLine m i r s p b u q low high) k 0 ≡ getD m k 0
   unfolding putLine
-  line-before k h = put-below m lineBase lineWidth i (lineCells r s p b u q) k h
+  line-before k h = put-below m lineBase lineWidth i (lineCells r s p b u q low high) k h
 
-  pub line-live : length m ≡ cells → i < maxFormulas → SameLive m (putLine m i r s p b u q)
-  unfolding putLine cell
+  pub line-live : length m ≡ cells → i < maxFormulas → SameLive m (putLine m i r s p b u q low high)
+  unfolding putLine cell linkAt
   line-live n h = record {
-    long = length-putRow m lineBase lineWidth i (lineCells r s p b u q) ∙ n;
+    long = length-putRow m lineBase lineWidth i (lineCells r s p b u q low high) ∙ n;
     count = line-before 1 (omega arith);
     next = line-before 2 (omega arith);
     used = line-before 3 (omega arith);
-    rows = λ k x f y. put-above m lineBase lineWidth i (lineCells r s p b u q) (credentialPlace k f) (omega arith);
+    rows = λ k x f y.
+        put-above m lineBase lineWidth i (lineCells r s p b u q low high) (credentialPlace k f) (omega arith);
+    links = λ k. put-above m lineBase lineWidth i (lineCells r s p b u q low high) (linkBase + k) (omega arith);
   }

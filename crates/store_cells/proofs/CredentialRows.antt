@@ -4,7 +4,7 @@ use mathlib.Core.Path.{_≡_, refl, ap, _∙_}
 use mathlib.Core.List.{List}
 use mathlib.Core.Bool.{true, false}
 use mathlib.Core.Option.{none, some}
-use Prim.Native.Nat.{ℕ, _+_, _*_, _%_, _<_}
+use Prim.Native.Nat.{ℕ, _+_, _%_, _<_}
 use native.Mathlib.Omega.{arith}
 use borrow.Author.Tests.{eqb-true}
 use lib.Dec.{eqb}
@@ -13,11 +13,13 @@ use lib.Seq.{getD-set-same, getD-set-other}
 use Rattle.request.specs.declared.Kind.{Kind}
 use Rattle.request.specs.declared.Kind.the-variants.{Linear, Unrestricted}
 use Rattle.ledger.specs.declared.Credential.{Credential}
+use Rattle.ledger.specs.Checks.{maxFormulas}
 use Rattle.store_cells.specs.Layout.{cells, maxRows, cell, kindFrom, kindNumber, credentialAt, gapAt, entryAt}
 use Rattle.store_cells.specs.Layout.{credentialBase, credentialWidth, hintBase, gapKind, credentialCell}
 use Rattle.store_cells.specs.Layout.{credentialPlace}
-use Rattle.store_cells.specs.Layout.{credentialCells, putCredential, putGap, putHint}
-use Rattle.store_cells.proofs.Cells.{length-putRow, row-same, row-other, put-below}
+use Rattle.store_cells.specs.Layout.{credentialCells, putCredential, putGap, putHint, links, linkBase, linkAt}
+use Rattle.store_cells.specs.Layout.{putLink, joined}
+use Rattle.store_cells.proofs.Cells.{length-putRow, row-same, row-other, put-below, put-above}
 use Rattle.store_cells.proofs.CellWrites.{credential-ext, SameLines, lines-self, Stays, SameLive}
 
 kind-number : (k : Kind) → kindFrom (kindNumber k) ≡ k
@@ -67,6 +69,11 @@ module _ (m : List ℕ) (i : ℕ) (c : Credential) where
   unfolding putCredential
   credential-before k h = put-below m credentialBase credentialWidth i (credentialCells c) k h
 
+  pub credential-links : i < maxRows → (k : ℕ) → linkAt (putCredential m i c) k ≡ linkAt m k
+  unfolding putCredential linkAt
+  credential-links h k =
+      put-above m credentialBase credentialWidth i (credentialCells c) (linkBase + k) (omega arith)
+
   pub credential-long : length (putCredential m i c) ≡ length m
   unfolding putCredential
   credential-long = length-putRow m credentialBase credentialWidth i (credentialCells c)
@@ -100,6 +107,10 @@ module _ (m : List ℕ) (i : ℕ) where
   unfolding putGap
   gap-before k h = getD-set-other m (credentialPlace i 1) k gapKind 0 (omega arith)
 
+  pub gap-links : i < maxRows → (k : ℕ) → linkAt (putGap m i) k ≡ linkAt m k
+  unfolding putGap linkAt
+  gap-links h k = getD-set-other m (credentialPlace i 1) (linkBase + k) gapKind 0 (omega arith)
+
   pub gap-lines : (l : List ℕ) → SameLines l m → SameLines l (putGap m i)
   unfolding putGap
   gap-lines l s = record {
@@ -126,6 +137,10 @@ module _ (m : List ℕ) (s v : ℕ) where
   unfolding cell
   hint-stays i h f q = hint-before (credentialPlace i f) (omega arith)
 
+  pub hint-links : (k : ℕ) → linkAt (putHint m s v) k ≡ linkAt m k
+  unfolding putHint linkAt
+  hint-links k = getD-set-other m (hintBase + s % maxRows) (linkBase + k) v 0 (omega arith)
+
   pub hint-live : length m ≡ cells → SameLive m (putHint m s v)
   hint-live n = record {
     long = hint-lines m (lines-self m n) .long;
@@ -133,4 +148,58 @@ module _ (m : List ℕ) (s v : ℕ) where
     next = hint-before 2 (omega arith);
     used = hint-before 3 (omega arith);
     rows = hint-stays;
+    links = hint-links;
   }
+
+-- A link is put: all else stays, the other links too.
+module _ (m : List ℕ) (k v : ℕ) where
+  pub link-same : length m ≡ cells → k < links → linkAt (putLink m k v) k ≡ v
+  unfolding linkAt putLink
+  link-same n h = getD-set-same m (linkBase + k) v 0 (omega arith)
+
+  pub link-other : (j : ℕ) → (j ≡ k → ⊥) → linkAt (putLink m k v) j ≡ linkAt m j
+  unfolding linkAt putLink
+  link-other j h = getD-set-other m (linkBase + k) (linkBase + j) v 0 (omega arith)
+
+  pub link-before : (j : ℕ) → j < linkBase → getD (putLink m k v) j 0 ≡ getD m j 0
+  unfolding putLink
+  link-before j h = getD-set-other m (linkBase + k) j v 0 (omega arith)
+
+  pub link-lines : (l : List ℕ) → SameLines l m → SameLines l (putLink m k v)
+  unfolding putLink
+  link-lines l w = record {
+    long = length-set m (linkBase + k) v ∙ w .long;
+    count = link-before 0 (omega arith) ∙ w .count;
+    rows = λ j a b. link-before j (omega arith) ∙ w .rows j a b;
+  }
+
+  pub link-stays : (i : ℕ) → i < maxRows → Stays m (putLink m k v) i
+  unfolding cell
+  link-stays i h f q = link-before (credentialPlace i f) (omega arith)
+
+-- A row joins a chain.
+module _ (m : List ℕ) (i n : ℕ) where
+  abbrev mid : List ℕ
+  mid = putLink m (maxFormulas + i) (linkAt m n)
+
+  pub join-before : (j : ℕ) → j < linkBase → getD (joined m i n) j 0 ≡ getD m j 0
+  join-before j h = link-before mid n (i + 1) j h ∙ link-before m (maxFormulas + i) (linkAt m n) j h
+
+  pub join-lines : (l : List ℕ) → SameLines l m → SameLines l (joined m i n)
+  join-lines l w = link-lines mid n (i + 1) l (link-lines m (maxFormulas + i) (linkAt m n) l w)
+
+  pub join-stays : (k : ℕ) → k < maxRows → Stays m (joined m i n) k
+  join-stays k h f q =
+      link-stays mid n (i + 1) k h f q ∙ link-stays m (maxFormulas + i) (linkAt m n) k h f q
+
+  pub join-last : length m ≡ cells → n < maxFormulas → linkAt (joined m i n) n ≡ i + 1
+  join-last e h =
+      link-same mid n (i + 1) (link-lines m (maxFormulas + i) (linkAt m n) m (lines-self m e) .long) (omega arith)
+
+  pub join-row : length m ≡ cells → i < maxRows → n < maxFormulas → linkAt (joined m i n) (maxFormulas + i) ≡ linkAt m n
+  join-row e h q =
+      link-other mid n (i + 1) (maxFormulas + i) (omega arith)
+      ∙ link-same m (maxFormulas + i) (linkAt m n) e (omega arith)
+
+  pub join-other : (j : ℕ) → (j ≡ n → ⊥) → (j ≡ maxFormulas + i → ⊥) → linkAt (joined m i n) j ≡ linkAt m j
+  join-other j a b = link-other mid n (i + 1) j a ∙ link-other m (maxFormulas + i) (linkAt m n) j b

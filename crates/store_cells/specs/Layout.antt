@@ -6,10 +6,11 @@
 --   1                  the count of live credentials
 --   2                  the next serial
 --   3                  the count of credential rows in use
---   lineBase ..        200 rows of 17: a formula line's (document 01: a wording's) letter, a, b, holder, its first
+--   lineBase ..        200 rows of 19: a formula line's (document 01: a wording's) letter, a, b, holder, its first
 --                      interval and its second, each from, to, first, last; then its formula's size, whether it is
 --                      plain, balanced, has an unbound holder and has a `q` (1 or 0), kept so that no later request
---                      goes through the formula's parts again
+--                      goes through the formula's parts again; and two numbers between which all sessions of its atoms
+--                      are, so that a tally passes it by
 --   credentialBase ..  4,096 rows of 7: a credential's (a coupon's) serial, kind (0 linear: single-use, 1
 --                      unrestricted: standing, 2 for one that has left: a gap), formula number (wording), and its
 --                      interval (window), from, to, first, last. Rows stand in the order of their serials, and a row
@@ -17,6 +18,9 @@
 --                      live, and when all are in use the live ones are moved together
 --   hintBase ..        4,096 hints: at serial mod 4,096 the row where the credential of that serial may stand. A hint
 --                      is only a guess that the search tests first: nothing is asked of its value
+--   linkBase ..        200 links, one for each formula, then 4,096, one for each credential row: the rows of one
+--                      formula are chained, gaps too. A formula's link leads to its last row, a row's link to the row
+--                      before it of the same formula; a link is the row's number and one, or 0 where there is none
 use mathlib.Core.List.{List, [], _∷_}
 use mathlib.Core.Bool.{Bool}
 use mathlib.Core.Option.{Option, none, some}
@@ -24,6 +28,7 @@ use Prim.Native.Nat.{ℕ, _+_, _*_, _%_}
 use lib.Dec.{eqb, ltb}
 use lib.ListN.{getD, set}
 use lib.Seq.{sets}
+use Rattle.logic.specs.declared.Interval.{Interval}
 use Rattle.logic.specs.Interval.{span}
 use Rattle.logic.specs.Formula.{bit}
 use Rattle.request.specs.declared.Kind.{Kind}
@@ -56,8 +61,14 @@ unboundCell = balancedCell + 1
 abbrev pub quantifiedCell : ℕ
 quantifiedCell = unboundCell + 1
 
+abbrev pub lowCell : ℕ
+lowCell = quantifiedCell + 1
+
+abbrev pub highCell : ℕ
+highCell = lowCell + 1
+
 abbrev pub lineWidth : ℕ
-lineWidth = quantifiedCell + 1
+lineWidth = highCell + 1
 
 abbrev pub credentialBase : ℕ
 credentialBase = lineBase + maxFormulas * lineWidth
@@ -72,9 +83,16 @@ maxRows = 2 * maxLive
 abbrev pub hintBase : ℕ
 hintBase = credentialBase + maxRows * credentialWidth
 
+abbrev pub linkBase : ℕ
+linkBase = hintBase + maxRows
+
+-- how many links there are
+abbrev pub links : ℕ
+links = maxFormulas + maxRows
+
 -- how many numbers there are
 abbrev pub cells : ℕ
-cells = hintBase + maxRows
+cells = linkBase + links
 
 -- the kind of a credential that has left
 abbrev pub gapKind : ℕ
@@ -86,6 +104,16 @@ cell l b w i f = getD l (b + i * w + f) 0
 
 unfoldable pub putRow : List ℕ → ℕ → ℕ → ℕ → List ℕ → List ℕ
 putRow l b w i vs = sets l (b + i * w) vs
+
+-- The four numbers of an interval, from a place on
+unfoldable pub intervalAt : List ℕ → ℕ → Interval
+intervalAt l b = span (getD l b 0) (getD l (b + 1) 0) (getD l (b + 2) 0) (getD l (b + 3) 0)
+
+abbrev pub intervalCells : Interval → List ℕ
+intervalCells v = v .from ∷ v .to ∷ v .first ∷ v .last ∷ []
+
+unfoldable pub putInterval : List ℕ → ℕ → Interval → List ℕ
+putInterval l b v = sets l b (intervalCells v)
 
 -- The counts and the next serial
 
@@ -148,16 +176,22 @@ unboundAt l n = lineCell l n unboundCell
 unfoldable pub quantifiedAt : List ℕ → ℕ → ℕ
 quantifiedAt l n = lineCell l n quantifiedCell
 
-abbrev pub lineCells : Row → ℕ → Bool → Bool → Bool → Bool → List ℕ
-lineCells r size plain balanced unbound quantified =
+unfoldable pub lowAt : List ℕ → ℕ → ℕ
+lowAt l n = lineCell l n lowCell
+
+unfoldable pub highAt : List ℕ → ℕ → ℕ
+highAt l n = lineCell l n highCell
+
+abbrev pub lineCells : Row → ℕ → Bool → Bool → Bool → Bool → ℕ → ℕ → List ℕ
+lineCells r size plain balanced unbound quantified low high =
     let v = r .first in
     let w = r .second in
     r .letter ∷ r .a ∷ r .b ∷ r .holder ∷ v .from ∷ v .to ∷ v .first ∷ v .last ∷ w .from ∷ w .to ∷ w .first ∷ w .last ∷
-    size ∷ bit plain ∷ bit balanced ∷ bit unbound ∷ bit quantified ∷ []
+    size ∷ bit plain ∷ bit balanced ∷ bit unbound ∷ bit quantified ∷ low ∷ high ∷ []
 
-unfoldable pub putLine : List ℕ → ℕ → Row → ℕ → Bool → Bool → Bool → Bool → List ℕ
-putLine l i r size plain balanced unbound quantified =
-    putRow l lineBase lineWidth i (lineCells r size plain balanced unbound quantified)
+unfoldable pub putLine : List ℕ → ℕ → Row → ℕ → Bool → Bool → Bool → Bool → ℕ → ℕ → List ℕ
+putLine l i r size plain balanced unbound quantified low high =
+    putRow l lineBase lineWidth i (lineCells r size plain balanced unbound quantified low high)
 
 -- Credential rows
 
@@ -214,3 +248,19 @@ hintAt l s = getD l (hintBase + s % maxRows) 0
 
 unfoldable pub putHint : List ℕ → ℕ → ℕ → List ℕ
 putHint l s i = set l (hintBase + s % maxRows) i
+
+-- Links
+
+unfoldable pub linkAt : List ℕ → ℕ → ℕ
+linkAt l k = getD l (linkBase + k) 0
+
+unfoldable pub putLink : List ℕ → ℕ → ℕ → List ℕ
+putLink l k v = set l (linkBase + k) v
+
+-- the formula of row i
+abbrev pub ofAt : List ℕ → ℕ → ℕ
+ofAt l i = credentialAt l i .formula
+
+-- row i is put before the chain of formula n
+abbrev pub joined : List ℕ → ℕ → ℕ → List ℕ
+joined l i n = putLink (putLink l (maxFormulas + i) (linkAt l n)) n (i + 1)

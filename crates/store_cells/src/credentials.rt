@@ -2,18 +2,20 @@
 use crate::CREDENTIAL_WIDTH;
 use crate::CREDENTIALS;
 use crate::HINTS;
+use crate::LINKS;
 use crate::ROWS;
 use crate::Store;
+use crate::interval;
 use ledger::Credential;
-use logic::Interval;
 use request::Kind;
 ghost use mathlib.Core.Path.{_≡_};
 ghost use Prim.Native.Nat.{_<_};
 ghost use Rattle.request.specs.declared.Kind.the-variants.{Linear};
 ghost use Rattle.ledger.specs.Ledger.{isKind};
+ghost use Rattle.ledger.specs.Checks.{maxFormulas};
 ghost use Rattle.store_cells.specs.Layout.{maxRows};
 ghost use Rattle.store_cells.specs.Layout.{kindFrom, kindNumber, credentialAt, gapAt, putCredential, putGap};
-ghost use Rattle.store_cells.specs.Layout.{hintAt, putHint};
+ghost use Rattle.store_cells.specs.Layout.{hintAt, putHint, links, linkAt, putLink, joined};
 
 // how a kind is kept: linear, unrestricted, that of a credential that has left
 const LINEAR: u32 = 0;
@@ -58,12 +60,7 @@ pub fn credential(store: &Store, i: u32) -> Credential
         serial: store[at],
         kind,
         formula: store[at + 2],
-        interval: Interval {
-            from: store[at + 3],
-            to: store[at + 4],
-            first: store[at + 5],
-            last: store[at + 6],
-        },
+        interval: interval::read(store, at + 3),
     }
 }
 
@@ -95,15 +92,11 @@ pub fn put_credential(store: &mut Store, i: u32, c: Credential)
 {
     let kind = c.kind;
     let k = kind_number(kind);
-    let w = c.interval;
     let at = CREDENTIALS + (i as usize) * CREDENTIAL_WIDTH;
     store[at] = c.serial;
     store[at + 1] = k;
     store[at + 2] = c.formula;
-    store[at + 3] = w.from;
-    store[at + 4] = w.to;
-    store[at + 5] = w.first;
-    store[at + 6] = w.last;
+    interval::put(store, at + 3, c.interval);
 }
 
 // The row where the credential of a serial may stand: any number may be answered.
@@ -117,4 +110,29 @@ pub fn put_hint(store: &mut Store, serial: u32, i: u32)
     ensures { λ _. ⌜ now (store .exit) ≡ putHint (now (store .entry)) serial i ⌝ }
 {
     store[HINTS + (serial % ROWS) as usize] = i;
+}
+
+// A link: of a formula, or of a credential row.
+pub fn link(store: &Store, k: u32) -> u32
+    requires { ⌜ k < links ⌝ }
+    ensures { λ r. ⌜ r ≡ linkAt (now (store .entry)) k ⌝ }
+{
+    store[LINKS + k as usize]
+}
+
+pub fn put_link(store: &mut Store, k: u32, v: u32)
+    requires { ⌜ k < links ⌝ }
+    ensures { λ _. ⌜ now (store .exit) ≡ putLink (now (store .entry)) k v ⌝ }
+{
+    store[LINKS + k as usize] = v;
+}
+
+// A row joins the chain of its formula.
+pub fn join(store: &mut Store, i: u32, formula: u32)
+    requires { ⌜ (i < maxRows) × (formula < maxFormulas) ⌝ }
+    ensures { λ _. ⌜ now (store .exit) ≡ joined (now (store .entry)) i formula ⌝ }
+{
+    let last = link(store, formula);
+    put_link(store, ledger::MAX_FORMULAS + i, last);
+    put_link(store, formula, i + 1);
 }

@@ -1,8 +1,10 @@
 // The numbers of the ledger's state, read and put: the counts at the head of the array (head.rt), the formula rows
-// (lines.rt), the credential rows and the hints (credentials.rt). No other functions know where a number stands in the
-// array. specs/Layout.antt has the layout and its reason.
+// (lines.rt), the credential rows, the hints and the links (credentials.rt), the intervals in rows of both kinds
+// (interval.rt). No other functions know where a number stands in the array. specs/Layout.antt has the layout and its
+// reason.
 pub mod credentials;
 pub mod head;
+mod interval;
 pub mod lines;
 
 // where the formula rows start; how many numbers a line has, and what stands after them; how wide a row is
@@ -18,7 +20,11 @@ const UNBOUND: usize = BALANCED + 1;
 
 const QUANTIFIED: usize = UNBOUND + 1;
 
-const LINE_WIDTH: usize = QUANTIFIED + 1;
+const LOW: usize = QUANTIFIED + 1;
+
+const HIGH: usize = LOW + 1;
+
+const LINE_WIDTH: usize = HIGH + 1;
 
 // where the credential rows start, how wide they are and how many there are: twice as many as may live
 const CREDENTIALS: usize = LINES + ledger::MAX_FORMULAS as usize * LINE_WIDTH;
@@ -30,7 +36,10 @@ pub const ROWS: u32 = 2 * ledger::MAX_LIVE;
 // where the hints start
 const HINTS: usize = CREDENTIALS + ROWS as usize * CREDENTIAL_WIDTH;
 
+// where the links start: one for each formula, then one for each credential row
+const LINKS: usize = HINTS + ROWS as usize;
+
 // how many numbers there are
-pub const CELLS: usize = HINTS + ROWS as usize;
+pub const CELLS: usize = LINKS + ledger::MAX_FORMULAS as usize + ROWS as usize;
 
 pub type Store = [u32; CELLS];

@@ -5,7 +5,7 @@ use mathlib.Core.List.{List, [], _∷_, _++_, append-nil}
 use mathlib.Core.Option.{none, some}
 use mathlib.Core.Bool.{Bool, true, false}
 use native.Mathlib.Omega.{arith}
-use native.Mathlib.Decide.{decLt}
+use native.Mathlib.Decide.{decLt, ℕ-discrete}
 use lib.ListN.{length}
 use Rattle.logic.specs.Choice.{pick}
 use Rattle.logic.specs.Multiset.{Every}
@@ -15,16 +15,22 @@ use Rattle.ledger.proofs.Answers.{some-none, some-inj}
 use Rattle.ledger.specs.Bounds.{Rises, Below}
 use Rattle.store.specs.Tab.{tab, present}
 use Rattle.store_cells.specs.Layout.{maxRows, lineCount, liveCount, nextSerial, rowCount, credentialAt, gapAt, entryAt}
-use Rattle.store_cells.specs.Layout.{putCredential, putRowCount, putHint}
+use Rattle.store_cells.specs.Layout.{putCredential, putRowCount, putHint, cell, credentialPlace, linkAt, putLink}
+use Rattle.store_cells.specs.Layout.{ofAt, joined}
 use Rattle.store.specs.Store.{ledgerOf, RowsOrdered, Good, Compacted}
 use Rattle.store.proofs.Tabs.{length-tab, tab-ext, tab-append, every-tab, every-present, present-next, present-all}
 use Rattle.store_credentials.proofs.RowSerials.{rises-between}
-use Rattle.store_cells.proofs.CellWrites.{SameLines, lines-self, Stays, stays-credential, stays-gap, head-lines}
-use Rattle.store_cells.proofs.CellWrites.{head-same}
-use Rattle.store_cells.proofs.CellWrites.{head-other, head-stays}
+use Rattle.store_cells.proofs.CellWrites.{SameLines, lines-self, Stays, stays-credential, stays-gap, stays-entry}
+use Rattle.store_cells.proofs.CellWrites.{head-lines, head-same, head-other, head-stays, head-links}
 use Rattle.store_cells.proofs.CredentialRows.{entry-gap, entry-there, credential-same, credential-there}
 use Rattle.store_cells.proofs.CredentialRows.{credential-stays}
 use Rattle.store_cells.proofs.CredentialRows.{credential-before, credential-lines, hint-before, hint-lines, hint-stays}
+use Rattle.store_cells.proofs.CredentialRows.{credential-links, hint-links, link-same, link-other, link-before}
+use Rattle.store_cells.proofs.CredentialRows.{link-lines, join-before, join-lines, join-stays}
+use Rattle.ledger.specs.Checks.{maxFormulas}
+use Rattle.store.specs.Chain.{Chained}
+use Rattle.store.proofs.Chains.{last-none, chain-none, chain-same, chain-join}
+use Rattle.store_credentials.specs.Unlinked.{UnlinkedTo, Unlinked}
 use Rattle.store_credentials.proofs.Stands.{stands-live, ledger-live}
 
 -- Every live credential is of a formula of the ledger.
@@ -46,20 +52,73 @@ pub record Gathering (l m : List ℕ) (i k : ℕ) : Type 0 where
   pub moved : tab k (credentialAt m) ≡ present (tab i (entryAt l))
   pub full : (j : ℕ) → j < k → gapAt m j ≡ false
   pub rest : (j : ℕ) → i ≤ j → j < maxRows → Stays l m j
+  pub chained : Chained m k
 
-module _ (l : List ℕ) where
-  pub gather-start : Good l → Gathering l l 0 0
+-- Chains are left, one by one.
+pub unlink-next : (l m : List ℕ) (i : ℕ) → UnlinkedTo l m i → i < maxFormulas → UnlinkedTo l (putLink m i 0) (i + 1)
+unlink-next l m i u h = record {
+  long = link-lines m i 0 m (lines-self m (u .long)) .long;
+  rest = λ k q. link-before m i 0 k q ∙ u .rest k q;
+  none = λ n q. go n q (ℕ-discrete n i);
+  others = λ n q. link-other m i 0 n (omega arith) ∙ u .others n (omega arith);
+}
+  where
+    go : (n : ℕ) → n < i + 1 → Dec (n ≡ i) → linkAt (putLink m i 0) n ≡ 0
+    go n q (yes e) = ap (linkAt (putLink m i 0)) e ∙ link-same m i 0 (u .long) (omega arith)
+    go n q (no e) = link-other m i 0 n e ∙ u .none n (omega arith)
+
+-- A number that no line has yet has no chain.
+pub unlink-done : {l m : List ℕ} {i : ℕ} → Good l → i ≡ lineCount l → UnlinkedTo l m i → Unlinked l m
+unlink-done {l} {m} {i} g e u = record {
+  long = u .long;
+  rest = u .rest;
+  none = λ n q. go n q (decLt n i);
+  others = λ n q. u .others n (omega (arith, g .lines));
+}
+  where
+    go : (n : ℕ) → n < maxFormulas → Dec (n < i) → linkAt m n ≡ 0
+    go n q (yes z) = u .none n z
+    go n q (no z) =
+        u .others n (omega arith) ∙ g .ordered .chained .last n q
+        ∙ last-none (ofAt l) n (rowCount l) (λ j p x. omega (arith, g .ordered .named j p))
+
+-- u is l without chains
+module _ {l u : List ℕ} (w : Unlinked l u) where
+  pub gather-start : Gathering u u 0 0
   unfolding tab present
-  gather-start g = record {
-    lines = lines-self l (g .long);
+  gather-start = record {
+    lines = lines-self u (w .long);
     count = refl;
     next = refl;
     low = omega arith;
     moved = refl;
     full = λ j q. absurd (omega arith);
     rest = λ j q h f p. refl;
+    chained = chain-none u (w .none);
   }
 
+  unlinked-stays : (j : ℕ) → j < maxRows → Stays l u j
+  unfolding cell
+  unlinked-stays j h f p = w .rest (credentialPlace j f) (omega arith)
+
+  pub gather-from : {m : List ℕ} {i k : ℕ} → i ≤ maxRows → Gathering u m i k → Gathering l m i k
+  gather-from {m} {i} {k} h v = record {
+    lines = record {
+      long = v .lines .long;
+      count = v .lines .count ∙ w .rest 0 (omega arith);
+      rows = λ j a b. v .lines .rows j a b ∙ w .rest j (omega arith);
+    };
+    count = v .count ∙ w .rest 1 (omega arith);
+    next = v .next ∙ w .rest 2 (omega arith);
+    low = v .low;
+    moved = v .moved ∙ ap present (tab-ext i (entryAt u) (entryAt l) (λ j q.
+        stays-entry l u j (unlinked-stays j (omega arith))));
+    full = v .full;
+    rest = λ j q z f p. v .rest j q z f p ∙ unlinked-stays j z f p;
+    chained = v .chained;
+  }
+
+module _ (l : List ℕ) where
   module _ (m : List ℕ) (i k : ℕ) (v : Gathering l m i k) where
     -- a gap is passed
     pub gather-gap : i < maxRows → gapAt m i ≡ true → Gathering l m (i + 1) k
@@ -72,18 +131,36 @@ module _ (l : List ℕ) where
           ∙ rw (entry-gap l i (sym (stays-gap l m i (v .rest i (omega arith) h)) ∙ e)) (append-nil _));
       full = v .full;
       rest = λ j q. v .rest j (omega arith);
+      chained = v .chained;
     }
 
+    -- a row's formula is one of the ledger's
+    pub gather-named : Good l → i < rowCount l → (c : Credential) → c ≡ credentialAt m i → c .formula < maxFormulas
+    gather-named g q c e =
+        let z = v .rest i (omega arith) (omega (arith, g .ordered .few)) in
+        let d = ap (λ (x : Credential). x .formula) (e ∙ stays-credential l m i z) in
+        omega (arith, d, g .ordered .named i q, g .lines)
+
     -- a credential moves to row k
-    module _ (c : Credential) (h : i < maxRows) (e : gapAt m i ≡ false) (d : c ≡ credentialAt m i) where
+    module _ (c : Credential) (h : i < maxRows) (e : gapAt m i ≡ false) (d : c ≡ credentialAt m i)
+        (b : c .formula < maxFormulas) where
+      abbrev put : List ℕ
+      put = putCredential m k c
+
       abbrev m′ : List ℕ
-      m′ = putCredential m k c
+      m′ = joined put k (c .formula)
+
+      few : k < maxRows
+      few = omega (arith, v .low)
+
+      moved-stays : (j : ℕ) → j < maxRows → (j ≡ k → ⊥) → Stays m m′ j
+      moved-stays j q x f p = join-stays put k (c .formula) j q f p ∙ credential-stays m k c j x f p
 
       full-next : (j : ℕ) → j < k + 1 → Dec (j < k) → gapAt m′ j ≡ false
-      full-next j q (yes z) = stays-gap m m′ j (credential-stays m k c j (omega arith)) ∙ v .full j z
+      full-next j q (yes z) = stays-gap m m′ j (moved-stays j (omega (arith, few)) (omega arith)) ∙ v .full j z
       full-next j q (no z) =
           let x : j ≡ k = omega arith in
-          rw x (credential-there m k c (v .lines .long) (omega (arith, v .low)))
+          rw x (stays-gap put m′ k (join-stays put k (c .formula) k few) ∙ credential-there m k c (v .lines .long) few)
 
       entry-moved : entryAt l i ≡ some c
       entry-moved =
@@ -93,20 +170,30 @@ module _ (l : List ℕ) where
       moved-next : tab (k + 1) (credentialAt m′) ≡ present (tab (i + 1) (entryAt l))
       moved-next =
           tab-append k (credentialAt m) (credentialAt m′) c
-          (λ j q. stays-credential m m′ j (credential-stays m k c j (omega arith)))
-          (credential-same m k c (v .lines .long) (omega (arith, v .low)))
+          (λ j q. stays-credential m m′ j (moved-stays j (omega (arith, few)) (omega arith)))
+          (stays-credential put m′ k (join-stays put k (c .formula) k few)
+          ∙ credential-same m k c (v .lines .long) few)
           ∙ ap (λ (cs : List Credential). cs ++ (c ∷ [])) (v .moved)
           ∙ sym (rw (present-next i (entryAt l), entry-moved))
 
-      pub gather-move : Gathering l (putCredential m k c) (i + 1) (k + 1)
+      put-chained : Chained put k
+      put-chained =
+          chain-same m put k (v .chained)
+          (λ j q.
+          ap (λ (x : Credential). x .formula) (stays-credential m put j (credential-stays m k c j (omega arith))))
+          (credential-links m k c few)
+
+      pub gather-move : Gathering l (joined (putCredential m k c) k (c .formula)) (i + 1) (k + 1)
       gather-move = record {
-        lines = credential-lines m k c l (v .lines);
-        count = credential-before m k c 1 (omega arith) ∙ v .count;
-        next = credential-before m k c 2 (omega arith) ∙ v .next;
+        lines = join-lines put k (c .formula) l (credential-lines m k c l (v .lines));
+        count = join-before put k (c .formula) 1 (omega arith) ∙ credential-before m k c 1 (omega arith) ∙ v .count;
+        next = join-before put k (c .formula) 2 (omega arith) ∙ credential-before m k c 2 (omega arith) ∙ v .next;
         low = omega (arith, v .low);
         moved = moved-next;
         full = λ j q. full-next j q (decLt j k);
-        rest = λ j q z f p. credential-stays m k c j (omega (arith, v .low)) f p ∙ v .rest j (omega arith) z f p;
+        rest = λ j q z f p. moved-stays j z (omega (arith, v .low)) f p ∙ v .rest j (omega arith) z f p;
+        chained = chain-join put k (c .formula) (credential-lines m k c m (lines-self m (v .lines .long)) .long) few b
+            put-chained (ap (λ (x : Credential). x .formula) (credential-same m k c (v .lines .long) few));
       }
 
     -- a hint changes nothing
@@ -122,6 +209,8 @@ module _ (l : List ℕ) where
           moved = tab-ext k (credentialAt x) (credentialAt m) (λ j q. stays-credential m x j (z j q)) ∙ v .moved;
           full = λ j q. stays-gap m x j (z j q) ∙ v .full j q;
           rest = λ j q y f p. hint-stays m s r j y f p ∙ v .rest j q y f p;
+          chained = chain-same m x k (v .chained)
+              (λ j q. ap (λ (c : Credential). c .formula) (stays-credential m x j (z j q))) (hint-links m s r);
         }
 
   -- when all rows are passed
@@ -179,6 +268,9 @@ module _ (l : List ℕ) where
         every-tab _ k (credentialAt done) (subst (Every _) (sym done-rows) (live-named l (g .ordered))) i
             (omega (arith, done-used)),
       );
+      chained = rw done-used (chain-same m done k (v .chained)
+          (λ j q. ap (λ (c : Credential). c .formula) (stays-credential m done j (done-stays j)))
+          (λ j. head-links m 3 k j (omega arith)));
     }
 
     done-compact : Compacted l done

@@ -16,7 +16,8 @@ use Rattle.store_cells.specs.Layout.{lineCount, nextSerial, rowCount, entryAt, 
 use Rattle.store.specs.Store.{lineOf, ledgerOf, Canonical, RowsOrdered, Good, StandsFor}
 use Rattle.store.proofs.Tabs.{tab-ext}
 use Rattle.store_cells.proofs.CellWrites.{SameLines, lines-self, same-row, same-size, same-plain, same-balanced}
-use Rattle.store_cells.proofs.CellWrites.{same-unbound, same-quantified}
+use Rattle.store_cells.proofs.CellWrites.{same-unbound, same-quantified, same-low, same-high}
+use Rattle.logic.proofs.Spans.{spans-same}
 use Rattle.store_cells.proofs.CredentialRows.{hint-lines, hint-live}
 use Rattle.store.proofs.Live.{same-live, same-ordered}
 
@@ -48,6 +49,8 @@ module _ (l m : List ℕ) (g : Good l) (s : SameLines l m) where
             ∙ ap (λ a. bit (unbound a)) (sym (same-formula i));
         quantifieds = λ i h. same-quantified l m s i (small i (below i h)) ∙ g .quantifieds i (below i h)
             ∙ ap (λ a. bit (quantified a)) (sym (same-formula i));
+        spans = λ i h. spans-same (same-formula i) (same-low l m s i (small i (below i h)))
+            (same-high l m s i (small i (below i h))) (g .spans i (below i h));
         bounded = b;
       }
 

@@ -13,6 +13,7 @@ ghost use Rattle.ledger.specs.Calls.{withLive, withCredential};
 ghost use Rattle.store_cells.specs.Layout.{maxRows, rowCount, credentialAt};
 ghost use Rattle.store.specs.Store.{ledgerOf, Good, StandsFor, Givable, Occupied, Compacted};
 ghost use Rattle.store_credentials.specs.NextSerial.{withNext, Raisable};
+ghost use Rattle.store_credentials.specs.Unlinked.{Unlinked};
 
 // Gaps that may stand among the rows in use however few are live: moving a handful of rows together is not worth it.
 const SPARE_ROWS: u32 = 16;
@@ -28,11 +29,25 @@ pub fn remove(store: &mut Store, at: u32)
     head::put_live_count(store, n - 1);
 }
 
-// The live credentials move together, in order, so that no gap is left.
+// No row is in the chain of its formula. A number that no line has yet has no chain.
+fn unlink(store: &mut Store)
+    requires { ⌜ Good (now store) ⌝ }
+    ensures { λ _. ⌜ Unlinked (now (store .entry)) (now (store .exit)) ⌝ }
+{
+    let lines = head::line_count(store);
+    let mut n = 0;
+    while n < lines {
+        credentials::put_link(store, n, 0);
+        n += 1;
+    }
+}
+
+// The live credentials move together, in order, so that no gap is left; each joins its chain anew.
 fn compact(store: &mut Store)
     requires { ⌜ Good (now store) ⌝ }
     ensures { λ _. ⌜ Compacted (now (store .entry)) (now (store .exit)) ⌝ }
 {
+    unlink(store);
     let used = head::row_count(store);
     let mut i = 0;
     let mut k = 0;
@@ -42,6 +57,7 @@ fn compact(store: &mut Store)
         if !credentials::gap(store, from) {
             let c = credentials::credential(store, from);
             credentials::put_credential(store, k, c);
+            credentials::join(store, k, c.formula);
             credentials::put_hint(store, c.serial, k);
             k += 1;
         }
@@ -90,6 +106,7 @@ fn append(store: &mut Store, kind: Kind, formula: u32, interval: Interval)
         interval,
     };
     credentials::put_credential(store, i, c);
+    credentials::join(store, i, formula);
     head::put_row_count(store, i + 1);
     head::put_live_count(store, n + 1);
     head::put_next(store, serial + 1);

@@ -21,7 +21,9 @@ use Rattle.ledger.proofs.Bounds.{line-bounded}
 use Rattle.store.specs.Tab.{tab}
 use Rattle.store_cells.specs.Layout.{lineCount, lineCell, rowAt, sizeAt, plainAt, balancedAt, lineCells, putLineCount}
 use Rattle.store_cells.specs.Layout.{putLine, sizeCell, plainCell, balancedCell, lineWidth, unboundAt, quantifiedAt}
-use Rattle.store_cells.specs.Layout.{unboundCell, quantifiedCell}
+use Rattle.store_cells.specs.Layout.{unboundCell, quantifiedCell, lowCell, highCell, lowAt, highAt}
+use Rattle.logic.specs.Span.{Spans}
+use Rattle.logic.proofs.Spans.{spans-same}
 use Rattle.store.specs.Store.{lineOf, ledgerOf, Canonical, StandsFor, Wordable}
 use Rattle.store.proofs.Tabs.{tab-append}
 use Rattle.store_cells.proofs.CellWrites.{row-ext, row-below, SameLive, count-live, head-same, head-line, line-same}
@@ -38,13 +40,14 @@ record Right (m : List ℕ) (i : ℕ) : Type 0 where
   balancedly : balancedAt m i ≡ bit (balanced (formula (ledgerOf m) i))
   unbound-kept : unboundAt m i ≡ bit (unbound (formula (ledgerOf m) i))
   quantified-kept : quantifiedAt m i ≡ bit (quantified (formula (ledgerOf m) i))
+  spanned : Spans (formula (ledgerOf m) i) (lowAt m i) (highAt m i)
 
-module _ (l : List ℕ) (r : Row) (s : ℕ) (p b u z : Bool) (a : Wordable l r s p b u z) where
+module _ (l : List ℕ) (r : Row) (s : ℕ) (p b u z : Bool) (low high : ℕ) (a : Wordable l r s p b u z low high) where
   abbrev n : ℕ
   n = lineCount l
 
   abbrev rowed : List ℕ
-  rowed = putLine l n r s p b u z
+  rowed = putLine l n r s p b u z low high
 
   abbrev m : List ℕ
   m = putLineCount rowed (n + 1)
@@ -56,7 +59,7 @@ module _ (l : List ℕ) (r : Row) (s : ℕ) (p b u z : Bool) (a : Wordable l r s
   room = omega (arith, lines-length l, a .room)
 
   rowed-live : SameLive l rowed
-  rowed-live = line-live l n r s p b u z (a .good .long) room
+  rowed-live = line-live l n r s p b u z low high (a .good .long) room
 
   live : SameLive l m
   live = count-live l rowed (n + 1) rowed-live
@@ -64,16 +67,18 @@ module _ (l : List ℕ) (r : Row) (s : ℕ) (p b u z : Bool) (a : Wordable l r s
   count : lineCount m ≡ n + 1
   count = head-same rowed 0 (n + 1) (rowed-live .long) (omega arith)
 
-  new-cell : (f : ℕ) → f < lineWidth → lineCell m n f ≡ getD (lineCells r s p b u z) f 0
-  new-cell f q = head-line rowed 0 (n + 1) n f (omega arith) ∙ line-same l n r s p b u z (a .good .long) room f q
+  new-cell : (f : ℕ) → f < lineWidth → lineCell m n f ≡ getD (lineCells r s p b u z low high) f 0
+  new-cell f q =
+      head-line rowed 0 (n + 1) n f (omega arith) ∙ line-same l n r s p b u z low high (a .good .long) room f q
 
   old-cell : (k f : ℕ) → k < n → f < lineWidth → lineCell m k f ≡ lineCell l k f
-  old-cell k f h q = head-line rowed 0 (n + 1) k f (omega arith) ∙ line-other l n r s p b u z k f (omega arith) q
+  old-cell k f h q =
+      head-line rowed 0 (n + 1) k f (omega arith) ∙ line-other l n r s p b u z low high k f (omega arith) q
 
   new-row : rowAt m n ≡ r
   new-row =
       row-below m n (omega (arith, count)) room
-      ∙ row-ext (lineCell m n) (λ f. getD (lineCells r s p b u z) f 0) (λ f q. new-cell f (omega arith))
+      ∙ row-ext (lineCell m n) (λ f. getD (lineCells r s p b u z low high) f 0) (λ f q. new-cell f (omega arith))
 
   old-row : (k : ℕ) → k < n → rowAt m k ≡ rowAt l k
   old-row k h =
@@ -102,7 +107,7 @@ module _ (l : List ℕ) (r : Row) (s : ℕ) (p b u z : Bool) (a : Wordable l r s
       ap (λ (x : Ledger). formula x k) ledger ∙ formula-stays t (lineOf r) k (omega (arith, lines-length l))
 
   new-right : Right m n
-  unfolding sizeAt plainAt balancedAt unboundAt quantifiedAt
+  unfolding sizeAt plainAt balancedAt unboundAt quantifiedAt lowAt highAt
   new-right = record {
     canonical = subst Canonical (sym new-row) (a .canonical);
     sized = new-cell sizeCell (omega arith) ∙ a .sized ∙ ap size (sym new-formula);
@@ -111,10 +116,11 @@ module _ (l : List ℕ) (r : Row) (s : ℕ) (p b u z : Bool) (a : Wordable l r s
     unbound-kept = new-cell unboundCell (omega arith) ∙ ap bit (a .unbound-kept ∙ ap unbound (sym new-formula));
     quantified-kept = new-cell quantifiedCell (omega arith)
         ∙ ap bit (a .quantified-kept ∙ ap quantified (sym new-formula));
+    spanned = spans-same new-formula (new-cell lowCell (omega arith)) (new-cell highCell (omega arith)) (a .spanned);
   }
 
   old-right : (k : ℕ) → k < n → Right m k
-  unfolding sizeAt plainAt balancedAt unboundAt quantifiedAt
+  unfolding sizeAt plainAt balancedAt unboundAt quantifiedAt lowAt highAt
   old-right k h = record {
     canonical = subst Canonical (sym (old-row k h)) (a .good .canonical k h);
     sized = old-cell k sizeCell h (omega arith) ∙ a .good .sizes k h ∙ ap size (sym (old-formula k h));
@@ -126,6 +132,8 @@ module _ (l : List ℕ) (r : Row) (s : ℕ) (p b u z : Bool) (a : Wordable l r s
         ∙ ap (λ x. bit (unbound x)) (sym (old-formula k h));
     quantified-kept = old-cell k quantifiedCell h (omega arith) ∙ a .good .quantifieds k h
         ∙ ap (λ x. bit (quantified x)) (sym (old-formula k h));
+    spanned = spans-same (old-formula k h) (old-cell k lowCell h (omega arith)) (old-cell k highCell h (omega arith))
+        (a .good .spans k h);
   }
 
   right : (k : ℕ) → k < lineCount m → Right m k
@@ -147,6 +155,7 @@ module _ (l : List ℕ) (r : Row) (s : ℕ) (p b u z : Bool) (a : Wordable l r s
       balances = λ k h. right k h .balancedly;
       unbounds = λ k h. right k h .unbound-kept;
       quantifieds = λ k h. right k h .quantified-kept;
+      spans = λ k h. right k h .spanned;
       bounded = subst Bounded (sym ledger) (line-bounded t (a .good .bounded) (lineOf r) (a .room) (a .there)
           (omega (arith, a .sized, a .small)));
     };
@@ -154,6 +163,6 @@ module _ (l : List ℕ) (r : Row) (s : ℕ) (p b u z : Bool) (a : Wordable l r s
   }
 
   -- by the stores that make it
-  pub add-done : {m₀ m₁ : List ℕ} {i : ℕ} → i ≡ lineCount l → m₀ ≡ putLine l i r s p b u z
+  pub add-done : {m₀ m₁ : List ℕ} {i : ℕ} → i ≡ lineCount l → m₀ ≡ putLine l i r s p b u z low high
       → m₁ ≡ putLineCount m₀ (i + 1) → StandsFor m₁ (withLine (ledgerOf l) (lineOf r))
   add-done e e₀ e₁ = rw (e₁, e₀, e) added

@@ -43,7 +43,7 @@ pub fn has_row(store: &Store, row: Row) -> bool
 }
 
 // One formula line (document 01: a wording) more, with its formula's size, whether it is plain, balanced, has an
-// unbound holder and has a `q`.
+// unbound holder and has a `q`, and two numbers between which the sessions of its atoms are.
 pub fn add_row(
     store: &mut Store,
     row: Row,
@@ -52,11 +52,24 @@ pub fn add_row(
     balanced: bool,
     unbound: bool,
     quantified: bool,
+    low: u32,
+    high: u32,
 )
-    requires { ⌜ Wordable (now store) row size plain balanced unbound quantified ⌝ }
+    requires { ⌜ Wordable (now store) row size plain balanced unbound quantified low high ⌝ }
     ensures { λ _. ⌜ StandsFor (now (store .exit)) (withLine (ledgerOf (now (store .entry))) (lineOf row)) ⌝ }
 {
     let n = head::line_count(store);
-    lines::put_line(store, n, row, size, plain, balanced, unbound, quantified);
+    lines::put_line(
+        store,
+        n,
+        row,
+        size,
+        plain,
+        balanced,
+        unbound,
+        quantified,
+        low,
+        high,
+    );
     head::put_line_count(store, n + 1);
 }
