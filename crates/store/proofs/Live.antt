@@ -4,8 +4,10 @@ use mathlib.Core.Path.{_≡_, refl, sym, ap, subst, _∙_}
 use mathlib.Core.List.{List, []}
 use mathlib.Core.Option.{none, some}
 use mathlib.Core.Bool.{Bool, true, false}
-use Prim.Native.Nat.{ℕ, _<_, _≤_}
+use Prim.Native.Nat.{ℕ, _/_, _%_, _^_, _<_, _≤_}
 use native.Mathlib.Omega.{arith}
+use native.Mathlib.Nat.{zero-div}
+use borrow.Author.Tests.{eqb-true}
 use lib.ListN.{length}
 use Rattle.logic.specs.Choice.{pick}
 use Rattle.logic.specs.Multiset.{sum}
@@ -17,18 +19,26 @@ use Rattle.ledger.specs.Checks.{maxFormulas}
 use Rattle.ledger.proofs.Bounds.{empty-bounded}
 use Rattle.store.specs.Tab.{tab, present}
 use Rattle.store_cells.specs.Layout.{cells, lineCount, liveCount, nextSerial, rowCount, credentialAt, gapAt, entryAt}
-use Rattle.store_cells.specs.Layout.{linkAt}
+use Rattle.store_cells.specs.Layout.{linkAt, groupAt}
+use Rattle.labels.specs.Labels.{_∋_}
 use Rattle.store.specs.Store.{ledgerOf, RowsOrdered, StandsFor}
 use Rattle.store.proofs.Tabs.{tab-ext, present-sum}
 use Rattle.store.proofs.Chains.{chain-none, chain-same}
 use Rattle.store_cells.proofs.CellWrites.{stays-entry, stays-credential, stays-serial, SameLive}
 use Rattle.store_cells.proofs.CredentialRows.{gap-kind}
 
+-- an empty set has nothing
+no-member : {d : ℕ} (j : ℕ) → d ≡ 0 → d ∋ j → ⊥
+no-member {d} j e m =
+    let x = eqb-true (d / 2 ^ j % 2) 1 m in
+    let y : d / 2 ^ j ≡ 0 = ap (λ (n : ℕ). n / 2 ^ j) e ∙ zero-div (2 ^ j) in
+    omega arith
+
 -- The empty ledger.
 pub empty-stands : (l : List ℕ) → length l ≡ cells → lineCount l ≡ 0 → liveCount l ≡ 0 → nextSerial l ≡ 1
-    → rowCount l ≡ 0 → ((n : ℕ) → n < maxFormulas → linkAt l n ≡ 0) → StandsFor l empty
+    → rowCount l ≡ 0 → ((n : ℕ) → n < maxFormulas → linkAt l n ≡ 0) → ((g w : ℕ) → groupAt l g w ≡ 0) → StandsFor l empty
 unfolding ledgerOf tab present
-empty-stands l h a b c d z =
+empty-stands l h a b c d z y =
     let e : ledgerOf l ≡ empty = rw (a, c, d) in
     record {
       good = record {
@@ -49,6 +59,10 @@ empty-stands l h a b c d z =
         unbounds = λ i q. absurd (omega arith);
         quantifieds = λ i q. absurd (omega arith);
         spans = λ i q. absurd (omega arith);
+        grouped = record {
+          within = λ g w j p q r e. absurd (no-member j (y g w) e);
+          near = λ n s q. absurd (omega arith);
+        };
         bounded = subst Bounded (sym e) empty-bounded;
       };
       ledger = e;

@@ -1,3 +1,4 @@
 pub mod Tab
 pub mod Chain
+pub mod Groups
 pub mod Store

@@ -17,6 +17,7 @@ use Rattle.ledger.specs.Checks.{maxSize, maxFormulas, maxLive}
 use Rattle.ledger.specs.Bounds.{There, Bounded}
 use Rattle.store.specs.Tab.{tab, present}
 use Rattle.store.specs.Chain.{Chained}
+use Rattle.store.specs.Groups.{Grouped}
 use Rattle.logic.specs.Span.{Spans}
 use Rattle.store_cells.specs.Layout.{cells, maxRows, lineCount, liveCount, nextSerial, rowCount, rowAt, sizeAt, plainAt}
 use Rattle.store_cells.specs.Layout.{balancedAt, unboundAt, quantifiedAt, lowAt, highAt, credentialAt, entryAt}
@@ -55,6 +56,7 @@ pub record Good (l : List ℕ) : Type 0 where
   pub unbounds : (i : ℕ) → i < lineCount l → unboundAt l i ≡ bit (unbound (formula (ledgerOf l) i))
   pub quantifieds : (i : ℕ) → i < lineCount l → quantifiedAt l i ≡ bit (quantified (formula (ledgerOf l) i))
   pub spans : (i : ℕ) → i < lineCount l → Spans (formula (ledgerOf l) i) (lowAt l i) (highAt l i)
+  pub grouped : Grouped l
   pub bounded : Bounded (ledgerOf l)
 
 -- what a function that changes the store leaves: a good store that stands for the ledger t

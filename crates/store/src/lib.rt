@@ -5,6 +5,7 @@ use ledger::Credential;
 use steps::Row;
 use steps::letters;
 use store_cells::credentials;
+use store_cells::groups;
 use store_cells::head;
 use store_cells::lines;
 ghost use mathlib.Core.Path.{_≡_};
@@ -18,6 +19,7 @@ ghost use Rattle.ledger.specs.Table.{rowOf};
 ghost use Rattle.ledger.specs.Ledger.{empty, formula, isKind};
 ghost use Rattle.ledger.specs.Checks.{maxFormulas};
 ghost use Rattle.store_cells.specs.Layout.{rowCount, rowAt, credentialAt, ofAt, lowAt, highAt};
+ghost use Rattle.store_cells.specs.Layout.{groups, groupWidth, groupAt};
 ghost use Rattle.store.specs.Chain.{lastOf};
 ghost use Rattle.store.specs.Store.{ledgerOf, Good, StandsFor};
 
@@ -137,6 +139,14 @@ pub fn high_at(store: &Store, n: u32) -> u32
     ensures { λ r. ⌜ r ≡ highAt (now (store .entry)) n ⌝ }
 {
     lines::high(store, n)
+}
+
+// A number of the set of lines that have something of a group's sessions: bit j of number w stands for line 32 w + j.
+pub fn near(store: &Store, group: u32, w: u32) -> u32
+    requires { ⌜ (group < groups) × (w < groupWidth) ⌝ }
+    ensures { λ r. ⌜ r ≡ groupAt (now (store .entry)) group w ⌝ }
+{
+    groups::set(store, group, w)
 }
 
 // How many credential rows are in use, gaps too.

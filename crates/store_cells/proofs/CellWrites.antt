@@ -23,7 +23,7 @@ use Rattle.store_cells.specs.Layout.{credentialCell, credentialPlace}
 use Rattle.store_cells.specs.Layout.{cells, maxRows, cell, lineCount, liveCount, nextSerial, rowCount, rowFrom}
 use Rattle.store_cells.specs.Layout.{lineCell, rowAt, sizeAt, plainAt, balancedAt, lineCells, putLine, kindFrom}
 use Rattle.store_cells.specs.Layout.{credentialFrom, credentialAt, gapAt, entryAt, linkBase, linkAt}
-use Rattle.store_cells.specs.Layout.{lowCell, highCell, lowAt, highAt}
+use Rattle.store_cells.specs.Layout.{lowCell, highCell, lowAt, highAt, groupBase, groups, groupWidth, groupAt}
 use Rattle.store_cells.proofs.Cells.{length-putRow, row-same, row-other, put-below, put-above}
 
 -- a row is known by its cells
@@ -128,6 +128,10 @@ module _ (l m : List ℕ) (s : SameLines l m) where
   unfolding highAt
   same-high n h = same-cell n highCell h (omega arith)
 
+  pub same-group : (g w : ℕ) → g < groups → w < groupWidth → groupAt m g w ≡ groupAt l g w
+  unfolding groupAt cell
+  same-group g w h q = s .rows (groupBase + g * groupWidth + w) (omega arith) (omega arith)
+
 -- row i of the credentials stands in m as in l
 abbrev pub Stays : List ℕ → List ℕ → ℕ → Type 0
 Stays l m i = (f : ℕ) → f < credentialWidth → credentialCell m i f ≡ credentialCell l i f
@@ -180,6 +184,10 @@ pub head-line : (m : List ℕ) (h v i f : ℕ) → h < lineBase → lineCell (se
 unfolding lineCell cell
 head-line m h v i f q = getD-set-other m h (lineBase + i * lineWidth + f) v 0 (omega arith)
 
+pub head-group : (m : List ℕ) (h v g w : ℕ) → h < lineBase → groupAt (set m h v) g w ≡ groupAt m g w
+unfolding groupAt cell
+head-group m h v g w q = getD-set-other m h (groupBase + g * groupWidth + w) v 0 (omega arith)
+
 pub head-links : (m : List ℕ) (h v k : ℕ) → h < lineBase → linkAt (set m h v) k ≡ linkAt m k
 unfolding linkAt
 head-links m h v k q = getD-set-other m h (linkBase + k) v 0 (omega arith)
@@ -206,6 +214,11 @@ module _ (m : List ℕ) (i : ℕ) (r : Row) (s : ℕ) (p b u q : Bool) (low high
   unfolding lineCell putLine
   line-other k f h x = row-other m lineBase lineWidth i (lineCells r s p b u q low high) refl k f h x
 
+  pub line-group : i < maxFormulas → (g w : ℕ) → groupAt (putLine m i r s p b u q low high) g w ≡ groupAt m g w
+  unfolding groupAt cell putLine
+  line-group h g w =
+      put-above m lineBase lineWidth i (lineCells r s p b u q low high) (groupBase + g * groupWidth + w) (omega arith)
+
   line-before : (k : ℕ) → k < lineBase → getD (putLine m i r s p b u q low high) k 0 ≡ getD m k 0
   unfolding putLine
   line-before k h = put-below m lineBase lineWidth i (lineCells r s p b u q low high) k h
@@ -220,4 +233,21 @@ module _ (m : List ℕ) (i : ℕ) (r : Row) (s : ℕ) (p b u q : Bool) (low high
     rows = λ k x f y.
         put-above m lineBase lineWidth i (lineCells r s p b u q low high) (credentialPlace k f) (omega arith);
     links = λ k. put-above m lineBase lineWidth i (lineCells r s p b u q low high) (linkBase + k) (omega arith);
+  }
+
+-- All stays but the sets of lines.
+module _ (l m : List ℕ) (n : length m ≡ cells) (below : (k : ℕ) → k < groupBase → getD m k 0 ≡ getD l k 0) where
+  pub below-line : (i f : ℕ) → i < maxFormulas → f < lineWidth → lineCell m i f ≡ lineCell l i f
+  unfolding lineCell cell
+  below-line i f h q = below (lineBase + i * lineWidth + f) (omega arith)
+
+  pub outside-live : ((k : ℕ) → credentialBase ≤ k → getD m k 0 ≡ getD l k 0) → SameLive l m
+  unfolding cell linkAt
+  outside-live above = record {
+    long = n;
+    count = below 1 (omega arith);
+    next = below 2 (omega arith);
+    used = below 3 (omega arith);
+    rows = λ i q f p. above (credentialPlace i f) (omega arith);
+    links = λ k. above (linkBase + k) (omega arith);
   }

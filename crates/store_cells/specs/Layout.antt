@@ -11,6 +11,9 @@
 --                      plain, balanced, has an unbound holder and has a `q` (1 or 0), kept so that no later request
 --                      goes through the formula's parts again; and two numbers between which all sessions of its atoms
 --                      are, so that a tally passes it by
+--   groupBase ..       32 rows of 7: for each group of sessions a set of lines, 32 of them to a number, bit j of number w
+--                      for line 32 w + j. Session s is of group s mod 32, and every line between whose two numbers a
+--                      session is stands in the set of that session's group: a tally looks at one set alone
 --   credentialBase ..  4,096 rows of 7: a credential's (a coupon's) serial, kind (0 linear: single-use, 1
 --                      unrestricted: standing, 2 for one that has left: a gap), formula number (wording), and its
 --                      interval (window), from, to, first, last. Rows stand in the order of their serials, and a row
@@ -24,7 +27,7 @@
 use mathlib.Core.List.{List, [], _∷_}
 use mathlib.Core.Bool.{Bool}
 use mathlib.Core.Option.{Option, none, some}
-use Prim.Native.Nat.{ℕ, _+_, _*_, _%_}
+use Prim.Native.Nat.{ℕ, _+_, _*_, _/_, _%_}
 use lib.Dec.{eqb, ltb}
 use lib.ListN.{getD, set}
 use lib.Seq.{sets}
@@ -34,6 +37,7 @@ use Rattle.logic.specs.Formula.{bit}
 use Rattle.request.specs.declared.Kind.{Kind}
 use Rattle.request.specs.declared.Kind.the-variants.{Linear, Unrestricted}
 use Rattle.request.specs.Request.{Line}
+use Rattle.labels.specs.Labels.{insert}
 use Rattle.steps.specs.declared.Row.{Row}
 use Rattle.ledger.specs.declared.Credential.{Credential}
 use Rattle.ledger.specs.Table.{rowOf}
@@ -70,8 +74,22 @@ highCell = lowCell + 1
 abbrev pub lineWidth : ℕ
 lineWidth = highCell + 1
 
+abbrev pub groupBase : ℕ
+groupBase = lineBase + maxFormulas * lineWidth
+
+-- how many groups of sessions there are
+abbrev pub groups : ℕ
+groups = 32
+
+-- how many lines a number of a set has room for, and how many numbers a set has
+abbrev pub setLines : ℕ
+setLines = 32
+
+abbrev pub groupWidth : ℕ
+groupWidth = 7
+
 abbrev pub credentialBase : ℕ
-credentialBase = lineBase + maxFormulas * lineWidth
+credentialBase = groupBase + groups * groupWidth
 
 abbrev pub credentialWidth : ℕ
 credentialWidth = 7
@@ -192,6 +210,16 @@ lineCells r size plain balanced unbound quantified low high =
 unfoldable pub putLine : List ℕ → ℕ → Row → ℕ → Bool → Bool → Bool → Bool → ℕ → ℕ → List ℕ
 putLine l i r size plain balanced unbound quantified low high =
     putRow l lineBase lineWidth i (lineCells r size plain balanced unbound quantified low high)
+
+-- Groups of sessions
+
+unfoldable pub groupAt : List ℕ → ℕ → ℕ → ℕ
+groupAt l g w = cell l groupBase groupWidth g w
+
+-- line n joins the set of group g
+unfoldable pub putMark : List ℕ → ℕ → ℕ → List ℕ
+putMark l g n =
+    set l (groupBase + g * groupWidth + n / setLines) (insert (groupAt l g (n / setLines)) (n % setLines))
 
 -- Credential rows
 

@@ -1,8 +1,9 @@
 // The numbers of the ledger's state, read and put: the counts at the head of the array (head.rt), the formula rows
-// (lines.rt), the credential rows, the hints and the links (credentials.rt), the intervals in rows of both kinds
+// (lines.rt), the sets of lines (groups.rt), the credential rows, the hints and the links (credentials.rt), the intervals in rows of both kinds
 // (interval.rt). No other functions know where a number stands in the array. specs/Layout.antt has the layout and its
 // reason.
 pub mod credentials;
+pub mod groups;
 pub mod head;
 mod interval;
 pub mod lines;
@@ -26,8 +27,18 @@ const HIGH: usize = LOW + 1;
 
 const LINE_WIDTH: usize = HIGH + 1;
 
+// where the sets of lines start; how many groups of sessions there are, each with a set, and how many numbers a set has,
+// with room for so many lines each
+const GROUP_SETS: usize = LINES + ledger::MAX_FORMULAS as usize * LINE_WIDTH;
+
+pub const GROUPS: u32 = 32;
+
+pub const GROUP_WIDTH: u32 = 7;
+
+pub const SET_LINES: u32 = 32;
+
 // where the credential rows start, how wide they are and how many there are: twice as many as may live
-const CREDENTIALS: usize = LINES + ledger::MAX_FORMULAS as usize * LINE_WIDTH;
+const CREDENTIALS: usize = GROUP_SETS + (GROUPS * GROUP_WIDTH) as usize;
 
 const CREDENTIAL_WIDTH: usize = 7;
 
