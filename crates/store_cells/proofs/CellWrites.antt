@@ -161,6 +161,16 @@ pub record SameLive (l m : List ℕ) : Type 0 where
   pub rows : (i : ℕ) → i < maxRows → Stays l m i
   pub links : (k : ℕ) → linkAt m k ≡ linkAt l k
 
+pub live-again : {l m k : List ℕ} → SameLive l m → SameLive m k → SameLive l k
+live-again s t = record {
+  long = t .long;
+  count = t .count ∙ s .count;
+  next = t .next ∙ s .next;
+  used = t .used ∙ s .used;
+  rows = λ i q f p. t .rows i q f p ∙ s .rows i q f p;
+  links = λ k. t .links k ∙ s .links k;
+}
+
 -- One of the numbers before the tables is put.
 module _ (l m : List ℕ) (h v : ℕ) where
   pub head-lines : 0 < h → h < lineBase → SameLines l m → SameLines l (set m h v)

@@ -1,7 +1,7 @@
 -- What work on credentials leaves: the formula lines, with what is kept beside them.
 use mathlib.Core.Path.{_≡_, sym, ap, subst, _∙_}
 use mathlib.Core.List.{List}
-use Prim.Native.Nat.{ℕ, _<_}
+use Prim.Native.Nat.{ℕ, _/_, _%_, _<_}
 use native.Mathlib.Omega.{arith}
 use Rattle.logic.specs.Formula.{size, plain, bit, unbound, quantified}
 use Rattle.logic.specs.Counts.{balanced}
@@ -12,11 +12,11 @@ use Rattle.ledger.specs.Ledger.{Ledger, formula}
 use Rattle.ledger.specs.Checks.{maxFormulas}
 use Rattle.ledger.specs.Bounds.{Bounded}
 use Rattle.store.specs.Tab.{tab, present}
-use Rattle.store_cells.specs.Layout.{lineCount, nextSerial, rowCount, entryAt, putHint}
+use Rattle.store_cells.specs.Layout.{lineCount, nextSerial, rowCount, entryAt, putHint, groups, setLines}
 use Rattle.store.specs.Store.{lineOf, ledgerOf, Canonical, RowsOrdered, Good, StandsFor}
 use Rattle.store.proofs.Tabs.{tab-ext}
 use Rattle.store_cells.proofs.CellWrites.{SameLines, lines-self, same-row, same-size, same-plain, same-balanced}
-use Rattle.store_cells.proofs.CellWrites.{same-unbound, same-quantified, same-low, same-high}
+use Rattle.store_cells.proofs.CellWrites.{same-unbound, same-quantified, same-low, same-high, same-group}
 use Rattle.logic.proofs.Spans.{spans-same}
 use Rattle.store_cells.proofs.CredentialRows.{hint-lines, hint-live}
 use Rattle.store.proofs.Live.{same-live, same-ordered}
@@ -51,6 +51,13 @@ module _ (l m : List ℕ) (g : Good l) (s : SameLines l m) where
             ∙ ap (λ a. bit (quantified a)) (sym (same-formula i));
         spans = λ i h. spans-same (same-formula i) (same-low l m s i (small i (below i h)))
             (same-high l m s i (small i (below i h))) (g .spans i (below i h));
+        grouped = record {
+          within = λ f w j p q r e. rw (s .count) (g .grouped .within f w j p q r (rw (same-group l m s f w p q) at e));
+          near = λ n t h a c.
+              rw (same-group l m s (t % groups) (n / setLines) (omega arith) (omega (arith, small n (below n h))))
+              (g .grouped .near n t (below n h) (rw (same-low l m s n (small n (below n h))) at a)
+              (rw (same-high l m s n (small n (below n h))) at c));
+        };
         bounded = b;
       }
 
