@@ -68,6 +68,11 @@ def panel(most, bookings):
     return words(session_lines()) + [f"issue,{part},0,{600 + n},0,0" for n, part in enumerate(parts)], turns
 
 
+def bookings_alone(lists):
+    begin, turns = lists
+    return begin, [turn for turn in turns if turn.startswith("book")]
+
+
 def three_live(rounds):
     """M1's booking, a tally and a withdrawal over and over: a seat and a token are issued, tallied and booked with the
     offer, and the place is withdrawn. Three coupons are live at the tally, and each round three come and go."""
@@ -203,8 +208,8 @@ LISTS = {
     "opening_longest": lambda: ([], [longest(), ":close"] * 20),
 }
 
-# for the whole program: a million sheets
-PROGRAM = {"three_live": lambda: three_live(200000)}
+# for the whole programs: a million sheets for tillrun, the panel's bookings for the kiosk, which tallies by itself
+PROGRAM = {"three_live": lambda: three_live(200000), "panel": lambda: bookings_alone(panel(2048, 1000))}
 
 
 def stream(sheets):
