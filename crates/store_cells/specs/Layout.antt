@@ -6,11 +6,12 @@
 --   1                  the count of live credentials
 --   2                  the next serial
 --   3                  the count of credential rows in use
---   lineBase ..        200 rows of 19: a formula line's (document 01: a wording's) letter, a, b, holder, its first
+--   lineBase ..        200 rows of 20: a formula line's (document 01: a wording's) letter, a, b, holder, its first
 --                      interval and its second, each from, to, first, last; then its formula's size, whether it is
 --                      plain, balanced, has an unbound holder and has a `q` (1 or 0), kept so that no later request
---                      goes through the formula's parts again; and two numbers between which all sessions of its atoms
---                      are, so that a tally passes it by
+--                      goes through the formula's parts again; two numbers between which all sessions of its atoms are,
+--                      so that a tally passes it by; and what the formula gives of the lower of these sessions, in one
+--                      number
 --   credentialBase ..  4,096 rows of 7: a credential's (a coupon's) serial, kind (0 linear: single-use, 1
 --                      unrestricted: standing, 2 for one that has left: a gap), formula number (wording), and its
 --                      interval (window), from, to, first, last. Rows stand in the order of their serials, and a row
@@ -67,8 +68,11 @@ lowCell = quantifiedCell + 1
 abbrev pub highCell : ℕ
 highCell = lowCell + 1
 
+abbrev pub givesCell : ℕ
+givesCell = highCell + 1
+
 abbrev pub lineWidth : ℕ
-lineWidth = highCell + 1
+lineWidth = givesCell + 1
 
 abbrev pub credentialBase : ℕ
 credentialBase = lineBase + maxFormulas * lineWidth
@@ -182,16 +186,19 @@ lowAt l n = lineCell l n lowCell
 unfoldable pub highAt : List ℕ → ℕ → ℕ
 highAt l n = lineCell l n highCell
 
-abbrev pub lineCells : Row → ℕ → Bool → Bool → Bool → Bool → ℕ → ℕ → List ℕ
-lineCells r size plain balanced unbound quantified low high =
+unfoldable pub givesAt : List ℕ → ℕ → ℕ
+givesAt l n = lineCell l n givesCell
+
+abbrev pub lineCells : Row → ℕ → Bool → Bool → Bool → Bool → ℕ → ℕ → ℕ → List ℕ
+lineCells r size plain balanced unbound quantified low high gives =
     let v = r .first in
     let w = r .second in
     r .letter ∷ r .a ∷ r .b ∷ r .holder ∷ v .from ∷ v .to ∷ v .first ∷ v .last ∷ w .from ∷ w .to ∷ w .first ∷ w .last ∷
-    size ∷ bit plain ∷ bit balanced ∷ bit unbound ∷ bit quantified ∷ low ∷ high ∷ []
+    size ∷ bit plain ∷ bit balanced ∷ bit unbound ∷ bit quantified ∷ low ∷ high ∷ gives ∷ []
 
-unfoldable pub putLine : List ℕ → ℕ → Row → ℕ → Bool → Bool → Bool → Bool → ℕ → ℕ → List ℕ
-putLine l i r size plain balanced unbound quantified low high =
-    putRow l lineBase lineWidth i (lineCells r size plain balanced unbound quantified low high)
+unfoldable pub putLine : List ℕ → ℕ → Row → ℕ → Bool → Bool → Bool → Bool → ℕ → ℕ → ℕ → List ℕ
+putLine l i r size plain balanced unbound quantified low high gives =
+    putRow l lineBase lineWidth i (lineCells r size plain balanced unbound quantified low high gives)
 
 -- Credential rows
 

@@ -24,7 +24,9 @@ const LOW: usize = QUANTIFIED + 1;
 
 const HIGH: usize = LOW + 1;
 
-const LINE_WIDTH: usize = HIGH + 1;
+const GIVES: usize = HIGH + 1;
+
+const LINE_WIDTH: usize = GIVES + 1;
 
 // where the credential rows start, how wide they are and how many there are: twice as many as may live
 const CREDENTIALS: usize = LINES + ledger::MAX_FORMULAS as usize * LINE_WIDTH;

@@ -1,4 +1,4 @@
--- `put_line` meets its contract: four stores, two intervals and seven stores more are the row.
+-- `put_line` meets its contract: four stores, two intervals and eight stores more are the row.
 use Prim.Native.Nat.{_+_, _*_}
 use lib.ListN.{drop}
 use Rattle.store_cells.specs.Layout.{lineBase, lineWidth, lineCells, putRow, putLine}
@@ -22,7 +22,8 @@ returns c =
       bits .bit-of4 .ensures,
     )
     (row-stored (a .store .now) b (a .row .letter)
-    (drop 1 (lineCells (a .row) (a .size) (a .plain) (a .balanced) (a .unbound) (a .quantified) (a .low) (a .high))))
+    (drop 1 (lineCells (a .row) (a .size) (a .plain) (a .balanced) (a .unbound) (a .quantified) (a .low) (a .high)
+    (a .gives))))
 
 pub put-line-spec : {M : Type 1} → statement M
 put-line-spec =
@@ -36,4 +37,4 @@ put-line-spec =
     (λ c. search needs) (λ c. search needs) (λ c. search needs) (λ c. search needs) (λ c. search needs)
     (λ c. search needs) (λ c. search needs) (λ c. search needs) (λ c. search needs)
     (λ c. search needs) (λ c. search needs) (λ c. search needs) (λ c. search needs) (λ c. search needs)
-    (λ c. search needs) returns)
+    (λ c. search needs) (λ c. search needs) (λ c. search needs) (λ c. search needs) returns)
