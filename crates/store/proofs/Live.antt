@@ -49,6 +49,7 @@ empty-stands l h a b c d z =
         unbounds = λ i q. absurd (omega arith);
         quantifieds = λ i q. absurd (omega arith);
         spans = λ i q. absurd (omega arith);
+        givens = λ i q. absurd (omega arith);
         bounded = subst Bounded (sym e) empty-bounded;
       };
       ledger = e;
