@@ -15,7 +15,7 @@ put-line-requires c κs =
 returns : tie.Need-returns
 returns c =
     let at = c .before .before .before .before in
-    add-done _ _ _ _ _ _ _ _ _ (at .before .before .pre) (at .line-count .ensures)
+    add-done _ _ _ _ _ _ _ _ _ _ (at .before .before .pre) (at .line-count .ensures)
     (c .before .before .put-line .ensures) (c .put-line-count .ensures)
 
 pub add-row-spec : {M : Type 1} → statement M
