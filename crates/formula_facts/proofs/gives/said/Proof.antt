@@ -1,13 +1,12 @@
 -- `said` meets its contract. The numbers fit: a count is no more than a byte.
-use mathlib.Core.Path.{_≡_, ap}
 use mathlib.Core.Bool.{Bool, true, false}
-use Prim.Native.Nat.{ℕ, _*_, _+_, _%_, _<_}
+use Prim.Native.Nat.{ℕ, _*_, _<_}
 use native.Mathlib.Omega.{arith}
 use borrow.Author.Needs.{needs}
 use lib.Dec.{eqb}
 use Rattle.logic.specs.Formula.{house}
 use Rattle.logic.specs.Choice.{pick}
-use Rattle.logic.specs.Packed.{byte, houseUnit, underUnit, houseIn, underIn}
+use Rattle.logic.specs.Packed.{byte, underUnit, houseIn, underIn}
 use Rattle.formula_facts.specs.Gives.{nearest}
 use Rattle.formula_facts.proofs.gives.said.Statement.{statement}
 use Rattle.formula_facts.proofs.gives.said.Tie as tie
