@@ -29,6 +29,7 @@ fn add(store: &mut Store, row: Row, size: u32) -> Answer
         holders.quantified,
         span.low,
         span.high,
+        span.gives,
     );
     Answer::Accepted(number)
 }

@@ -8,5 +8,6 @@ pub mod Balance
 pub mod Holders
 pub mod Conservation
 pub mod Houses
+pub mod Packed
 pub mod Subsumption
 pub mod Examples

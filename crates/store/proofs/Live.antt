@@ -59,6 +59,7 @@ empty-stands l h a b c d z y =
         unbounds = λ i q. absurd (omega arith);
         quantifieds = λ i q. absurd (omega arith);
         spans = λ i q. absurd (omega arith);
+        givens = λ i q. absurd (omega arith);
         grouped = record {
           within = λ g w j p q r e. absurd (no-member j (y g w) e);
           near = λ n s q. absurd (omega arith);

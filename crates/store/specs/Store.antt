@@ -19,8 +19,9 @@ use Rattle.store.specs.Tab.{tab, present}
 use Rattle.store.specs.Chain.{Chained}
 use Rattle.store.specs.Groups.{Grouped}
 use Rattle.logic.specs.Span.{Spans}
+use Rattle.logic.specs.Packed.{counts}
 use Rattle.store_cells.specs.Layout.{cells, maxRows, lineCount, liveCount, nextSerial, rowCount, rowAt, sizeAt, plainAt}
-use Rattle.store_cells.specs.Layout.{balancedAt, unboundAt, quantifiedAt, lowAt, highAt, credentialAt, entryAt}
+use Rattle.store_cells.specs.Layout.{balancedAt, unboundAt, quantifiedAt, lowAt, highAt, givesAt, credentialAt, entryAt}
 
 unfoldable pub ledgerOf : List ℕ → Ledger
 ledgerOf l = record {
@@ -56,6 +57,7 @@ pub record Good (l : List ℕ) : Type 0 where
   pub unbounds : (i : ℕ) → i < lineCount l → unboundAt l i ≡ bit (unbound (formula (ledgerOf l) i))
   pub quantifieds : (i : ℕ) → i < lineCount l → quantifiedAt l i ≡ bit (quantified (formula (ledgerOf l) i))
   pub spans : (i : ℕ) → i < lineCount l → Spans (formula (ledgerOf l) i) (lowAt l i) (highAt l i)
+  pub givens : (i : ℕ) → i < lineCount l → givesAt l i ≡ counts (lowAt l i) (formula (ledgerOf l) i)
   pub grouped : Grouped l
   pub bounded : Bounded (ledgerOf l)
 
@@ -65,8 +67,9 @@ pub record StandsFor (l : List ℕ) (t : Ledger) : Type 0 where
   pub ledger : ledgerOf l ≡ t
 
 -- what the checks of a formula line have found before its row is added, with its formula's size, whether it is plain,
--- balanced, has an unbound holder and has a `q`, and two numbers between which its sessions are
-pub record Wordable (l : List ℕ) (r : Row) (s : ℕ) (p b u q : Bool) (low high : ℕ) : Type 0 where
+-- balanced, has an unbound holder and has a `q`, two numbers between which its sessions are, and what it gives of the
+-- lower one
+pub record Wordable (l : List ℕ) (r : Row) (s : ℕ) (p b u q : Bool) (low high gives : ℕ) : Type 0 where
   pub good : Good l
   pub room : length (ledgerOf l .lines) < maxFormulas
   pub canonical : Canonical r
@@ -78,6 +81,7 @@ pub record Wordable (l : List ℕ) (r : Row) (s : ℕ) (p b u q : Bool) (low hig
   pub quantified-kept : q ≡ quantified (form (formula (ledgerOf l)) (lineOf r))
   pub small : s ≤ maxSize
   pub spanned : Spans (form (formula (ledgerOf l)) (lineOf r)) low high
+  pub given : gives ≡ counts low (form (formula (ledgerOf l)) (lineOf r))
 
 -- what the checks of an issue or a booking have found before a credential of formula n is given
 pub record Givable (l : List ℕ) (n : ℕ) : Type 0 where

@@ -13,6 +13,7 @@ ghost use Prim.Native.Nat.{_<_};
 ghost use lib.ListN.{length};
 ghost use Rattle.logic.specs.Formula.{size, plain, unbound, quantified};
 ghost use Rattle.logic.specs.Counts.{balanced};
+ghost use Rattle.logic.specs.Packed.{counts};
 ghost use Rattle.request.specs.declared.Kind.the-variants.{Linear};
 ghost use Rattle.request.specs.Request.{Line};
 ghost use Rattle.ledger.specs.Table.{rowOf};
@@ -139,6 +140,14 @@ pub fn high_at(store: &Store, n: u32) -> u32
     ensures { λ r. ⌜ r ≡ highAt (now (store .entry)) n ⌝ }
 {
     lines::high(store, n)
+}
+
+// What a formula of the ledger gives of the lower of these sessions, as kept with its row: four counts, a byte each.
+pub fn gives_at(store: &Store, n: u32) -> u32
+    requires { ⌜ Good (now store) × (n < length (ledgerOf (now store) .lines)) ⌝ }
+    ensures { λ r. ⌜ r ≡ counts (lowAt (now (store .entry)) n) (formula (ledgerOf (now (store .entry))) n) ⌝ }
+{
+    lines::gives(store, n)
 }
 
 // A number of the set of lines that have something of a group's sessions: bit j of number w stands for line 32 w + j.

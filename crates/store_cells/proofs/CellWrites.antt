@@ -23,7 +23,8 @@ use Rattle.store_cells.specs.Layout.{credentialCell, credentialPlace}
 use Rattle.store_cells.specs.Layout.{cells, maxRows, cell, lineCount, liveCount, nextSerial, rowCount, rowFrom}
 use Rattle.store_cells.specs.Layout.{lineCell, rowAt, sizeAt, plainAt, balancedAt, lineCells, putLine, kindFrom}
 use Rattle.store_cells.specs.Layout.{credentialFrom, credentialAt, gapAt, entryAt, linkBase, linkAt}
-use Rattle.store_cells.specs.Layout.{lowCell, highCell, lowAt, highAt, groupBase, groups, groupWidth, groupAt}
+use Rattle.store_cells.specs.Layout.{lowCell, highCell, givesCell, lowAt, highAt, givesAt}
+use Rattle.store_cells.specs.Layout.{groupBase, groups, groupWidth, groupAt}
 use Rattle.store_cells.proofs.Cells.{length-putRow, row-same, row-other, put-below, put-above}
 
 -- a row is known by its cells
@@ -128,6 +129,10 @@ module _ (l m : List ℕ) (s : SameLines l m) where
   unfolding highAt
   same-high n h = same-cell n highCell h (omega arith)
 
+  pub same-gives : (n : ℕ) → n < maxFormulas → givesAt m n ≡ givesAt l n
+  unfolding givesAt
+  same-gives n h = same-cell n givesCell h (omega arith)
+
   pub same-group : (g w : ℕ) → g < groups → w < groupWidth → groupAt m g w ≡ groupAt l g w
   unfolding groupAt cell
   same-group g w h q = s .rows (groupBase + g * groupWidth + w) (omega arith) (omega arith)
@@ -213,36 +218,36 @@ count-live l m v s = record {
 }
 
 -- A formula row is put.
-module _ (m : List ℕ) (i : ℕ) (r : Row) (s : ℕ) (p b u q : Bool) (low high : ℕ) where
+module _ (m : List ℕ) (i : ℕ) (r : Row) (s : ℕ) (p b u q : Bool) (low high gives : ℕ) where
   pub line-same : length m ≡ cells → i < maxFormulas → (f : ℕ) → f < lineWidth
-      → lineCell (putLine m i r s p b u q low high) i f ≡ getD (lineCells r s p b u q low high) f 0
+      → lineCell (putLine m i r s p b u q low high gives) i f ≡ getD (lineCells r s p b u q low high gives) f 0
   unfolding lineCell putLine
-  line-same n h f x = row-same m lineBase lineWidth i (lineCells r s p b u q low high) f (omega arith) (omega arith)
+  line-same n h f x = row-same m lineBase lineWidth i (lineCells r s p b u q low high gives) f (omega arith) (omega arith)
 
   pub line-other : (k f : ℕ) → (k ≡ i → ⊥) → f < lineWidth
-      → lineCell (putLine m i r s p b u q low high) k f ≡ lineCell m k f
+      → lineCell (putLine m i r s p b u q low high gives) k f ≡ lineCell m k f
   unfolding lineCell putLine
-  line-other k f h x = row-other m lineBase lineWidth i (lineCells r s p b u q low high) refl k f h x
+  line-other k f h x = row-other m lineBase lineWidth i (lineCells r s p b u q low high gives) refl k f h x
 
-  pub line-group : i < maxFormulas → (g w : ℕ) → groupAt (putLine m i r s p b u q low high) g w ≡ groupAt m g w
+  pub line-group : i < maxFormulas → (g w : ℕ) → groupAt (putLine m i r s p b u q low high gives) g w ≡ groupAt m g w
   unfolding groupAt cell putLine
   line-group h g w =
-      put-above m lineBase lineWidth i (lineCells r s p b u q low high) (groupBase + g * groupWidth + w) (omega arith)
+      put-above m lineBase lineWidth i (lineCells r s p b u q low high gives) (groupBase + g * groupWidth + w) (omega arith)
 
-  line-before : (k : ℕ) → k < lineBase → getD (putLine m i r s p b u q low high) k 0 ≡ getD m k 0
+  line-before : (k : ℕ) → k < lineBase → getD (putLine m i r s p b u q low high gives) k 0 ≡ getD m k 0
   unfolding putLine
-  line-before k h = put-below m lineBase lineWidth i (lineCells r s p b u q low high) k h
+  line-before k h = put-below m lineBase lineWidth i (lineCells r s p b u q low high gives) k h
 
-  pub line-live : length m ≡ cells → i < maxFormulas → SameLive m (putLine m i r s p b u q low high)
+  pub line-live : length m ≡ cells → i < maxFormulas → SameLive m (putLine m i r s p b u q low high gives)
   unfolding putLine cell linkAt
   line-live n h = record {
-    long = length-putRow m lineBase lineWidth i (lineCells r s p b u q low high) ∙ n;
+    long = length-putRow m lineBase lineWidth i (lineCells r s p b u q low high gives) ∙ n;
     count = line-before 1 (omega arith);
     next = line-before 2 (omega arith);
     used = line-before 3 (omega arith);
     rows = λ k x f y.
-        put-above m lineBase lineWidth i (lineCells r s p b u q low high) (credentialPlace k f) (omega arith);
-    links = λ k. put-above m lineBase lineWidth i (lineCells r s p b u q low high) (linkBase + k) (omega arith);
+        put-above m lineBase lineWidth i (lineCells r s p b u q low high gives) (credentialPlace k f) (omega arith);
+    links = λ k. put-above m lineBase lineWidth i (lineCells r s p b u q low high gives) (linkBase + k) (omega arith);
   }
 
 -- All stays but the sets of lines.

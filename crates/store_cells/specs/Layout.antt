@@ -6,11 +6,12 @@
 --   1                  the count of live credentials
 --   2                  the next serial
 --   3                  the count of credential rows in use
---   lineBase ..        200 rows of 19: a formula line's (document 01: a wording's) letter, a, b, holder, its first
+--   lineBase ..        200 rows of 20: a formula line's (document 01: a wording's) letter, a, b, holder, its first
 --                      interval and its second, each from, to, first, last; then its formula's size, whether it is
 --                      plain, balanced, has an unbound holder and has a `q` (1 or 0), kept so that no later request
---                      goes through the formula's parts again; and two numbers between which all sessions of its atoms
---                      are, so that a tally passes it by
+--                      goes through the formula's parts again; two numbers between which all sessions of its atoms are,
+--                      so that a tally passes it by; and what the formula gives of the lower of these sessions, in one
+--                      number
 --   groupBase ..       32 rows of 7: for each group of sessions a set of lines, 32 of them to a number, bit j of number w
 --                      for line 32 w + j. Session s is of group s mod 32, and every line between whose two numbers a
 --                      session is stands in the set of that session's group: a tally looks at one set alone
@@ -71,8 +72,11 @@ lowCell = quantifiedCell + 1
 abbrev pub highCell : ℕ
 highCell = lowCell + 1
 
+abbrev pub givesCell : ℕ
+givesCell = highCell + 1
+
 abbrev pub lineWidth : ℕ
-lineWidth = highCell + 1
+lineWidth = givesCell + 1
 
 abbrev pub groupBase : ℕ
 groupBase = lineBase + maxFormulas * lineWidth
@@ -200,16 +204,19 @@ lowAt l n = lineCell l n lowCell
 unfoldable pub highAt : List ℕ → ℕ → ℕ
 highAt l n = lineCell l n highCell
 
-abbrev pub lineCells : Row → ℕ → Bool → Bool → Bool → Bool → ℕ → ℕ → List ℕ
-lineCells r size plain balanced unbound quantified low high =
+unfoldable pub givesAt : List ℕ → ℕ → ℕ
+givesAt l n = lineCell l n givesCell
+
+abbrev pub lineCells : Row → ℕ → Bool → Bool → Bool → Bool → ℕ → ℕ → ℕ → List ℕ
+lineCells r size plain balanced unbound quantified low high gives =
     let v = r .first in
     let w = r .second in
     r .letter ∷ r .a ∷ r .b ∷ r .holder ∷ v .from ∷ v .to ∷ v .first ∷ v .last ∷ w .from ∷ w .to ∷ w .first ∷ w .last ∷
-    size ∷ bit plain ∷ bit balanced ∷ bit unbound ∷ bit quantified ∷ low ∷ high ∷ []
+    size ∷ bit plain ∷ bit balanced ∷ bit unbound ∷ bit quantified ∷ low ∷ high ∷ gives ∷ []
 
-unfoldable pub putLine : List ℕ → ℕ → Row → ℕ → Bool → Bool → Bool → Bool → ℕ → ℕ → List ℕ
-putLine l i r size plain balanced unbound quantified low high =
-    putRow l lineBase lineWidth i (lineCells r size plain balanced unbound quantified low high)
+unfoldable pub putLine : List ℕ → ℕ → Row → ℕ → Bool → Bool → Bool → Bool → ℕ → ℕ → ℕ → List ℕ
+putLine l i r size plain balanced unbound quantified low high gives =
+    putRow l lineBase lineWidth i (lineCells r size plain balanced unbound quantified low high gives)
 
 -- Groups of sessions
 

@@ -25,7 +25,9 @@ const LOW: usize = QUANTIFIED + 1;
 
 const HIGH: usize = LOW + 1;
 
-const LINE_WIDTH: usize = HIGH + 1;
+const GIVES: usize = HIGH + 1;
+
+const LINE_WIDTH: usize = GIVES + 1;
 
 // where the sets of lines start; how many groups of sessions there are, each with a set, and how many numbers a set has,
 // with room for so many lines each

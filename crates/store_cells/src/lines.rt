@@ -1,5 +1,6 @@
 // The formula rows.
 use crate::BALANCED;
+use crate::GIVES;
 use crate::HIGH;
 use crate::LINE_WIDTH;
 use crate::LINES;
@@ -16,7 +17,7 @@ ghost use Prim.Native.Nat.{_<_};
 ghost use Rattle.logic.specs.Formula.{bit};
 ghost use Rattle.ledger.specs.Checks.{maxFormulas};
 ghost use Rattle.store_cells.specs.Layout.{rowFrom, lineCell, sizeAt, plainAt, balancedAt, unboundAt};
-ghost use Rattle.store_cells.specs.Layout.{quantifiedAt, lowAt, highAt, putLine};
+ghost use Rattle.store_cells.specs.Layout.{quantifiedAt, lowAt, highAt, givesAt, putLine};
 
 pub fn line_row(store: &Store, i: u32) -> Row
     requires { ⌜ i < maxFormulas ⌝ }
@@ -82,6 +83,13 @@ pub fn high(store: &Store, i: u32) -> u32
     store[LINES + (i as usize) * LINE_WIDTH + HIGH]
 }
 
+pub fn gives(store: &Store, i: u32) -> u32
+    requires { ⌜ i < maxFormulas ⌝ }
+    ensures { λ r. ⌜ r ≡ givesAt (now (store .entry)) i ⌝ }
+{
+    store[LINES + (i as usize) * LINE_WIDTH + GIVES]
+}
+
 fn bit_of(b: bool) -> u32
     ensures { λ r. ⌜ r ≡ bit b ⌝ }
 {
@@ -99,10 +107,11 @@ pub fn put_line(
     quantified: bool,
     low: u32,
     high: u32,
+    gives: u32,
 )
     requires { ⌜ i < maxFormulas ⌝ }
     ensures { λ _. ⌜ now (store .exit)
-        ≡ putLine (now (store .entry)) i row size plain balanced unbound quantified low high ⌝ }
+        ≡ putLine (now (store .entry)) i row size plain balanced unbound quantified low high gives ⌝ }
 {
     let p = bit_of(plain);
     let b = bit_of(balanced);
@@ -122,4 +131,5 @@ pub fn put_line(
     store[at + QUANTIFIED] = q;
     store[at + LOW] = low;
     store[at + HIGH] = high;
+    store[at + GIVES] = gives;
 }

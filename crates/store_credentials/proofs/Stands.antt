@@ -1,10 +1,11 @@
 -- What work on credentials leaves: the formula lines, with what is kept beside them.
-use mathlib.Core.Path.{_≡_, sym, ap, subst, _∙_}
+use mathlib.Core.Path.{_≡_, sym, ap, ap₂, subst, _∙_}
 use mathlib.Core.List.{List}
 use Prim.Native.Nat.{ℕ, _/_, _%_, _<_}
 use native.Mathlib.Omega.{arith}
 use Rattle.logic.specs.Formula.{size, plain, bit, unbound, quantified}
 use Rattle.logic.specs.Counts.{balanced}
+use Rattle.logic.specs.Packed.{counts}
 use Rattle.request.specs.Request.{Line}
 use Rattle.ledger.specs.declared.Credential.{Credential}
 use Rattle.ledger.specs.Table.{nth, formulas}
@@ -16,7 +17,7 @@ use Rattle.store_cells.specs.Layout.{lineCount, nextSerial, rowCount, entryAt, 
 use Rattle.store.specs.Store.{lineOf, ledgerOf, Canonical, RowsOrdered, Good, StandsFor}
 use Rattle.store.proofs.Tabs.{tab-ext}
 use Rattle.store_cells.proofs.CellWrites.{SameLines, lines-self, same-row, same-size, same-plain, same-balanced}
-use Rattle.store_cells.proofs.CellWrites.{same-unbound, same-quantified, same-low, same-high, same-group}
+use Rattle.store_cells.proofs.CellWrites.{same-unbound, same-quantified, same-low, same-high, same-gives, same-group}
 use Rattle.logic.proofs.Spans.{spans-same}
 use Rattle.store_cells.proofs.CredentialRows.{hint-lines, hint-live}
 use Rattle.store.proofs.Live.{same-live, same-ordered}
@@ -51,6 +52,8 @@ module _ (l m : List ℕ) (g : Good l) (s : SameLines l m) where
             ∙ ap (λ a. bit (quantified a)) (sym (same-formula i));
         spans = λ i h. spans-same (same-formula i) (same-low l m s i (small i (below i h)))
             (same-high l m s i (small i (below i h))) (g .spans i (below i h));
+        givens = λ i h. same-gives l m s i (small i (below i h)) ∙ g .givens i (below i h)
+            ∙ ap₂ counts (sym (same-low l m s i (small i (below i h)))) (sym (same-formula i));
         grouped = record {
           within = λ f w j p q r e. rw (s .count) (g .grouped .within f w j p q r (rw (same-group l m s f w p q) at e));
           near = λ n t h a c.

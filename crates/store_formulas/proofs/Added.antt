@@ -1,6 +1,6 @@
 -- What adding a formula row does to the ledger that a store stands for. Of the array only the laws of
 -- cells/proofs/Rows are used.
-use mathlib.Core.Path.{_≡_, sym, ap, subst, _∙_}
+use mathlib.Core.Path.{_≡_, sym, ap, ap₂, subst, _∙_}
 use mathlib.Core.List.{List, [], _∷_, _++_}
 use mathlib.Core.Bool.{Bool, true, false}
 use Prim.Native.Nat.{ℕ, _+_, _*_, _/_, _%_, _≤_, _<_}
@@ -21,8 +21,9 @@ use Rattle.ledger.proofs.Bounds.{line-bounded}
 use Rattle.store.specs.Tab.{tab}
 use Rattle.store_cells.specs.Layout.{lineCount, lineCell, rowAt, sizeAt, plainAt, balancedAt, lineCells, putLineCount}
 use Rattle.store_cells.specs.Layout.{putLine, sizeCell, plainCell, balancedCell, lineWidth, unboundAt, quantifiedAt}
-use Rattle.store_cells.specs.Layout.{unboundCell, quantifiedCell, lowCell, highCell, lowAt, highAt, groups, setLines}
-use Rattle.store_cells.specs.Layout.{groupWidth, groupAt}
+use Rattle.store_cells.specs.Layout.{unboundCell, quantifiedCell, lowCell, highCell, givesCell, lowAt, highAt}
+use Rattle.store_cells.specs.Layout.{givesAt, groups, setLines, groupWidth, groupAt}
+use Rattle.logic.specs.Packed.{counts}
 use Rattle.labels.specs.Labels.{member, _∋_}
 use Rattle.store.specs.Groups.{Near, Grouped}
 use Rattle.store_formulas.specs.Marked.{Marked}
@@ -45,13 +46,15 @@ record Right (m : List ℕ) (i : ℕ) : Type 0 where
   unbound-kept : unboundAt m i ≡ bit (unbound (formula (ledgerOf m) i))
   quantified-kept : quantifiedAt m i ≡ bit (quantified (formula (ledgerOf m) i))
   spanned : Spans (formula (ledgerOf m) i) (lowAt m i) (highAt m i)
+  given : givesAt m i ≡ counts (lowAt m i) (formula (ledgerOf m) i)
 
-module _ (l : List ℕ) (r : Row) (s : ℕ) (p b u z : Bool) (low high : ℕ) (a : Wordable l r s p b u z low high) where
+module _ (l : List ℕ) (r : Row) (s : ℕ) (p b u z : Bool) (low high gives : ℕ)
+    (a : Wordable l r s p b u z low high gives) where
   abbrev n : ℕ
   n = lineCount l
 
   abbrev rowed : List ℕ
-  rowed = putLine l n r s p b u z low high
+  rowed = putLine l n r s p b u z low high gives
 
   abbrev t : Ledger
   t = ledgerOf l
@@ -60,7 +63,7 @@ module _ (l : List ℕ) (r : Row) (s : ℕ) (p b u z : Bool) (low high : ℕ) (a
   room = omega (arith, lines-length l, a .room)
 
   rowed-live : SameLive l rowed
-  rowed-live = line-live l n r s p b u z low high (a .good .long) room
+  rowed-live = line-live l n r s p b u z low high gives (a .good .long) room
 
   -- the line joins its sets, and is counted
   module _ (joined : List ℕ) (j : Marked rowed joined n low high) where
@@ -80,16 +83,16 @@ module _ (l : List ℕ) (r : Row) (s : ℕ) (p b u z : Bool) (low high : ℕ) (a
     joined-cell k f h q =
         head-line joined 0 (n + 1) k f (omega arith) ∙ below-line rowed joined (j .only .long) (j .only .below) k f h q
 
-    new-cell : (f : ℕ) → f < lineWidth → lineCell m n f ≡ getD (lineCells r s p b u z low high) f 0
-    new-cell f q = joined-cell n f room q ∙ line-same l n r s p b u z low high (a .good .long) room f q
+    new-cell : (f : ℕ) → f < lineWidth → lineCell m n f ≡ getD (lineCells r s p b u z low high gives) f 0
+    new-cell f q = joined-cell n f room q ∙ line-same l n r s p b u z low high gives (a .good .long) room f q
 
     old-cell : (k f : ℕ) → k < n → f < lineWidth → lineCell m k f ≡ lineCell l k f
     old-cell k f h q =
-        joined-cell k f (omega (arith, room)) q ∙ line-other l n r s p b u z low high k f (omega arith) q
+        joined-cell k f (omega (arith, room)) q ∙ line-other l n r s p b u z low high gives k f (omega arith) q
 
     -- a set's number, before and after
     old-group : (g w : ℕ) → groupAt rowed g w ≡ groupAt l g w
-    old-group g w = line-group l n r s p b u z low high room g w
+    old-group g w = line-group l n r s p b u z low high gives room g w
 
     new-group : (g w : ℕ) → groupAt m g w ≡ groupAt joined g w
     new-group g w = head-group joined 0 (n + 1) g w (omega arith)
@@ -129,7 +132,7 @@ module _ (l : List ℕ) (r : Row) (s : ℕ) (p b u z : Bool) (low high : ℕ) (a
     new-row : rowAt m n ≡ r
     new-row =
         row-below m n (omega (arith, count)) room
-        ∙ row-ext (lineCell m n) (λ f. getD (lineCells r s p b u z low high) f 0) (λ f q. new-cell f (omega arith))
+        ∙ row-ext (lineCell m n) (λ f. getD (lineCells r s p b u z low high gives) f 0) (λ f q. new-cell f (omega arith))
 
     old-row : (k : ℕ) → k < n → rowAt m k ≡ rowAt l k
     old-row k h =
@@ -158,7 +161,7 @@ module _ (l : List ℕ) (r : Row) (s : ℕ) (p b u z : Bool) (low high : ℕ) (a
         ap (λ (x : Ledger). formula x k) ledger ∙ formula-stays t (lineOf r) k (omega (arith, lines-length l))
 
     new-right : Right m n
-    unfolding sizeAt plainAt balancedAt unboundAt quantifiedAt lowAt highAt
+    unfolding sizeAt plainAt balancedAt unboundAt quantifiedAt lowAt highAt givesAt
     new-right = record {
       canonical = subst Canonical (sym new-row) (a .canonical);
       sized = new-cell sizeCell (omega arith) ∙ a .sized ∙ ap size (sym new-formula);
@@ -168,10 +171,12 @@ module _ (l : List ℕ) (r : Row) (s : ℕ) (p b u z : Bool) (low high : ℕ) (a
       quantified-kept = new-cell quantifiedCell (omega arith)
           ∙ ap bit (a .quantified-kept ∙ ap quantified (sym new-formula));
       spanned = spans-same new-formula (new-cell lowCell (omega arith)) (new-cell highCell (omega arith)) (a .spanned);
+      given = new-cell givesCell (omega arith) ∙ a .given
+          ∙ ap₂ counts (sym (new-cell lowCell (omega arith))) (sym new-formula);
     }
 
     old-right : (k : ℕ) → k < n → Right m k
-    unfolding sizeAt plainAt balancedAt unboundAt quantifiedAt lowAt highAt
+    unfolding sizeAt plainAt balancedAt unboundAt quantifiedAt lowAt highAt givesAt
     old-right k h = record {
       canonical = subst Canonical (sym (old-row k h)) (a .good .canonical k h);
       sized = old-cell k sizeCell h (omega arith) ∙ a .good .sizes k h ∙ ap size (sym (old-formula k h));
@@ -185,6 +190,8 @@ module _ (l : List ℕ) (r : Row) (s : ℕ) (p b u z : Bool) (low high : ℕ) (a
           ∙ ap (λ x. bit (quantified x)) (sym (old-formula k h));
       spanned = spans-same (old-formula k h) (old-cell k lowCell h (omega arith)) (old-cell k highCell h (omega arith))
           (a .good .spans k h);
+      given = old-cell k givesCell h (omega arith) ∙ a .good .givens k h
+          ∙ ap₂ counts (sym (old-cell k lowCell h (omega arith))) (sym (old-formula k h));
     }
 
     right : (k : ℕ) → k < lineCount m → Right m k
@@ -207,6 +214,7 @@ module _ (l : List ℕ) (r : Row) (s : ℕ) (p b u z : Bool) (low high : ℕ) (a
         unbounds = λ k h. right k h .unbound-kept;
         quantifieds = λ k h. right k h .quantified-kept;
         spans = λ k h. right k h .spanned;
+        givens = λ k h. right k h .given;
         grouped = grouped;
         bounded = subst Bounded (sym ledger) (line-bounded t (a .good .bounded) (lineOf r) (a .room) (a .there)
             (omega (arith, a .sized, a .small)));
@@ -215,6 +223,6 @@ module _ (l : List ℕ) (r : Row) (s : ℕ) (p b u z : Bool) (low high : ℕ) (a
     }
 
   -- by the stores that make it
-  pub add-done : {m₀ m₁ m₂ : List ℕ} {i : ℕ} → i ≡ lineCount l → m₀ ≡ putLine l i r s p b u z low high
+  pub add-done : {m₀ m₁ m₂ : List ℕ} {i : ℕ} → i ≡ lineCount l → m₀ ≡ putLine l i r s p b u z low high gives
       → Marked m₀ m₁ i low high → m₂ ≡ putLineCount m₁ (i + 1) → StandsFor m₂ (withLine (ledgerOf l) (lineOf r))
   add-done {m₀} {m₁} e e₀ k e₂ = rw (e₂, e) (added m₁ (rw (e₀, e) at k))

@@ -66,7 +66,8 @@ fn mark(store: &mut Store, line: u32, low: u32, high: u32)
 }
 
 // One formula line (document 01: a wording) more, with its formula's size, whether it is plain, balanced, has an
-// unbound holder and has a `q`, and two numbers between which the sessions of its atoms are.
+// unbound holder and has a `q`, two numbers between which the sessions of its atoms are, and what it gives of the lower
+// one.
 pub fn add_row(
     store: &mut Store,
     row: Row,
@@ -77,8 +78,9 @@ pub fn add_row(
     quantified: bool,
     low: u32,
     high: u32,
+    gives: u32,
 )
-    requires { ⌜ Wordable (now store) row size plain balanced unbound quantified low high ⌝ }
+    requires { ⌜ Wordable (now store) row size plain balanced unbound quantified low high gives ⌝ }
     ensures { λ _. ⌜ StandsFor (now (store .exit)) (withLine (ledgerOf (now (store .entry))) (lineOf row)) ⌝ }
 {
     let n = head::line_count(store);
@@ -93,6 +95,7 @@ pub fn add_row(
         quantified,
         low,
         high,
+        gives,
     );
     mark(store, n, low, high);
     head::put_line_count(store, n + 1);

@@ -11,7 +11,7 @@ add-row-requires c κs =
     let balanced = holders .before .before in
     let plain = balanced .before .before in
     word-added (plain .before .before .pre) (plain .row-plain .ensures) (balanced .row-balanced .ensures)
-    (holders .row-holders .ensures) _ _ (span .row-span .ensures)
+    (holders .row-holders .ensures) (span .row-span .ensures)
 
 returns : tie.Need-returns
 returns c =

@@ -25,13 +25,13 @@ mark-requires c κs =
     let s = at .before .before in
     let n : at .line-count .result < maxFormulas =
     omega (arith, lines-length (now (s .args .store)), s .pre .room, at .line-count .ensures) in
-    (ap length (p .put-line .ensures) ∙ line-live _ _ _ _ _ _ _ _ _ _ (s .pre .good .long) n .long, n)
+    (ap length (p .put-line .ensures) ∙ line-live _ _ _ _ _ _ _ _ _ _ _ (s .pre .good .long) n .long, n)
 
 returns : tie.Need-returns
 returns c =
     let put = c .before .before .before .before in
     let at = put .before .before in
-    add-done _ _ _ _ _ _ _ _ _ (at .before .before .pre) (at .line-count .ensures) (put .put-line .ensures)
+    add-done _ _ _ _ _ _ _ _ _ _ (at .before .before .pre) (at .line-count .ensures) (put .put-line .ensures)
     (c .before .before .mark .ensures) (c .put-line-count .ensures)
 
 pub add-row-spec : {M : Type 1} → statement M

@@ -1,0 +1,50 @@
+// What a formula has of a session, in one number: four counts, a byte each, for no formula has more than 64 of
+// anything. They are seats, places, the house's seats where nothing stands above the formula, and where the house
+// stands right above it.
+ghost use mathlib.Core.Path.{_≡_};
+ghost use Rattle.formula_facts.specs.Gives.{ownCounts, nearest, saidCounts};
+
+pub const BYTE: u32 = 256;
+
+pub const PLACE_UNIT: u32 = BYTE;
+
+pub const HOUSE_UNIT: u32 = BYTE * PLACE_UNIT;
+
+pub const UNDER_UNIT: u32 = BYTE * HOUSE_UNIT;
+
+// A seat: the house's where the house stands right above it.
+const SEAT: u32 = 1 + UNDER_UNIT;
+
+// A house seat whatever stands above the formula.
+const HOUSE_SEAT: u32 = HOUSE_UNIT + UNDER_UNIT;
+
+// The counts of an atom, of its own session.
+pub fn own(predicate: u32) -> u32
+    ensures { λ r. ⌜ r ≡ ownCounts predicate ⌝ }
+{
+    if predicate == formula_parts::SEAT {
+        return SEAT;
+    }
+    if predicate == formula_parts::PLACE {
+        return PLACE_UNIT;
+    }
+    0
+}
+
+// The house's seats in a part right under ⟨K⟩.
+fn under(principal: u32, part: u32) -> u32
+    ensures { λ r. ⌜ r ≡ nearest principal part ⌝ }
+{
+    if principal == formula_parts::HOUSE {
+        return part / UNDER_UNIT;
+    }
+    part / HOUSE_UNIT % BYTE
+}
+
+// The counts of ⟨K⟩ from its part's: the house's seats are the same whatever stands above ⟨K⟩.
+pub fn said(principal: u32, part: u32) -> u32
+    ensures { λ r. ⌜ r ≡ saidCounts principal part ⌝ }
+{
+    let house = under(principal, part);
+    part % HOUSE_UNIT + HOUSE_SEAT * house
+}
