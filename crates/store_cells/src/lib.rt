@@ -26,20 +26,23 @@ const HIGH: usize = LOW + 1;
 
 const LINE_WIDTH: usize = HIGH + 1;
 
-// where the credential rows start, how wide they are and how many there are: twice as many as may live
+// where the credential rows start, where a row's link stands in it, how wide they are and how many there are: twice as
+// many as may live
 const CREDENTIALS: usize = LINES + ledger::MAX_FORMULAS as usize * LINE_WIDTH;
 
-const CREDENTIAL_WIDTH: usize = 7;
+const BEFORE: usize = 7;
+
+const CREDENTIAL_WIDTH: usize = BEFORE + 1;
 
 pub const ROWS: u32 = 2 * ledger::MAX_LIVE;
 
 // where the hints start
 const HINTS: usize = CREDENTIALS + ROWS as usize * CREDENTIAL_WIDTH;
 
-// where the links start: one for each formula, then one for each credential row
+// where the formulas' links start
 const LINKS: usize = HINTS + ROWS as usize;
 
 // how many numbers there are
-pub const CELLS: usize = LINKS + ledger::MAX_FORMULAS as usize + ROWS as usize;
+pub const CELLS: usize = LINKS + ledger::MAX_FORMULAS as usize;
 
 pub type Store = [u32; CELLS];
