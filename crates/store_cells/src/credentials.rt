@@ -133,7 +133,7 @@ pub fn put_link(store: &mut Store, k: u32, v: u32)
 }
 
 // The link of a credential row.
-pub fn before(store: &Store, i: u32) -> u32
+pub fn row_link(store: &Store, i: u32) -> u32
     requires { ⌜ i < maxRows ⌝ }
     ensures { λ r. ⌜ r ≡ beforeAt (now (store .entry)) i ⌝ }
 {
