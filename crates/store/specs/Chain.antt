@@ -2,7 +2,7 @@
 -- one wording alone, the credential rows of each formula are chained (store_cells/specs/Layout). What the links are:
 use mathlib.Core.Path.{_≡_}
 use mathlib.Core.List.{List}
-use Prim.Native.Nat.{ℕ, zero, suc, _+_, _<_}
+use Prim.Native.Nat.{ℕ, zero, suc, _<_}
 use lib.Dec.{eqb}
 use Rattle.logic.specs.Choice.{pick}
 use Rattle.ledger.specs.Checks.{maxFormulas}
