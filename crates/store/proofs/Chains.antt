@@ -12,9 +12,10 @@ use Rattle.logic.specs.Multiset.{sum}
 use Rattle.logic.proofs.Multisets.{snoc-sum}
 use Rattle.ledger.specs.declared.Credential.{Credential}
 use Rattle.ledger.specs.Checks.{maxFormulas}
-use Rattle.store_cells.specs.Layout.{cells, maxRows, linkAt, ofAt, joined}
-use Rattle.store_cells.proofs.CellWrites.{stays-credential}
-use Rattle.store_cells.proofs.CredentialRows.{join-stays, join-last, join-row, join-other}
+use Rattle.store_cells.specs.Layout.{cells, maxRows, linkAt, beforeAt, ofAt, putCredential}
+use Rattle.store_cells.proofs.CellWrites.{Stays, stays-credential, stays-link}
+use Rattle.store_cells.proofs.CredentialRows.{credential-same, credential-stays, credential-link, credential-last}
+use Rattle.store_cells.proofs.CredentialRows.{credential-links}
 use Rattle.store.specs.Tab.{tab}
 use Rattle.store.specs.Chain.{lastOf, Chained}
 use Rattle.store.proofs.Tabs.{tab-snoc}
@@ -62,13 +63,20 @@ last-none f n (suc k) h = last-pass f n k (h k (omega arith)) ∙ last-none f n 
 
 -- Another store whose rows are of the same formulas, with the same links.
 pub chain-same : (l m : List ℕ) (k : ℕ) → Chained l k → ((i : ℕ) → i < k → ofAt m i ≡ ofAt l i)
-    → ((j : ℕ) → linkAt m j ≡ linkAt l j) → Chained m k
-chain-same l m k c e q = record {
+    → ((i : ℕ) → i < k → beforeAt m i ≡ beforeAt l i) → ((n : ℕ) → linkAt m n ≡ linkAt l n) → Chained m k
+chain-same l m k c e b q = record {
   last = λ n h. q n ∙ c .last n h ∙ last-ext (ofAt l) (ofAt m) n k (λ i p. sym (e i p));
-  before = λ i h. q (maxFormulas + i) ∙ c .before i h
+  before = λ i h. b i h ∙ c .before i h
       ∙ last-ext (ofAt l) (ofAt m) (ofAt l i) i (λ j p. sym (e j (omega arith)))
       ∙ ap (λ (n : ℕ). lastOf (ofAt m) n i) (sym (e i h));
 }
+
+-- Another store with the same rows.
+pub chain-stays : (l m : List ℕ) (k : ℕ) → Chained l k → ((i : ℕ) → i < k → Stays l m i)
+    → ((n : ℕ) → linkAt m n ≡ linkAt l n) → Chained m k
+chain-stays l m k c s q =
+    chain-same l m k c (λ i h. ap (λ (x : Credential). x .formula) (stays-credential l m i (s i h)))
+    (λ i h. stays-link l m i (s i h)) q
 
 -- No row yet.
 pub chain-none : (l : List ℕ) → ((n : ℕ) → n < maxFormulas → linkAt l n ≡ 0) → Chained l 0
@@ -76,42 +84,46 @@ unfolding lastOf
 chain-none l h = record { last = h; before = λ i q. absurd (omega arith) }
 
 -- One row more.
-module _ (l : List ℕ) (k n : ℕ) (long : length l ≡ cells) (h : k < maxRows) (q : n < maxFormulas) (c : Chained l k)
-    (e : ofAt l k ≡ n) where
+module _ (l : List ℕ) (k : ℕ) (x : Credential) (long : length l ≡ cells) (h : k < maxRows) (q : x .formula < maxFormulas)
+    (c : Chained l k) where
   abbrev m : List ℕ
-  m = joined l k n
+  m = putCredential l k x
 
-  of-same : (i : ℕ) → i < maxRows → ofAt m i ≡ ofAt l i
-  of-same i p = ap (λ (x : Credential). x .formula) (stays-credential l m i (join-stays l k n i p))
+  old-stays : (i : ℕ) → i < k → Stays l m i
+  old-stays i p = credential-stays l k x i (omega arith) (omega arith)
 
-  last-next : (j : ℕ) → j < maxFormulas → linkAt m j ≡ lastOf (ofAt m) j (suc k)
-  last-next j p = go (ℕ-discrete j n)
+  old-of : (i : ℕ) → i < k → ofAt l i ≡ ofAt m i
+  old-of i p = ap (λ (y : Credential). y .formula) (sym (stays-credential l m i (old-stays i p)))
+
+  new-of : ofAt m k ≡ x .formula
+  new-of = ap (λ (y : Credential). y .formula) (credential-same l k x long h)
+
+  last-next : (n : ℕ) → n < maxFormulas → linkAt m n ≡ lastOf (ofAt m) n (suc k)
+  last-next n p = go (ℕ-discrete n (x .formula))
     where
-      go : Dec (j ≡ n) → linkAt m j ≡ lastOf (ofAt m) j (suc k)
-      go (yes x) =
-          ap (linkAt m) x ∙ join-last l k n long q ∙ add-one k
-          ∙ sym (last-here (ofAt m) j k (of-same k h ∙ e ∙ sym x))
-      go (no x) =
-          join-other l k n j x (omega arith) ∙ c .last j p
-          ∙ last-ext (ofAt l) (ofAt m) j k (λ i z. sym (of-same i (omega arith)))
-          ∙ sym (last-pass (ofAt m) j k (λ z. x (sym z ∙ of-same k h ∙ e)))
+      go : Dec (n ≡ x .formula) → linkAt m n ≡ lastOf (ofAt m) n (suc k)
+      go (yes e) =
+          ap (linkAt m) e ∙ credential-last l k x long h q ∙ add-one k ∙ sym (last-here (ofAt m) n k (new-of ∙ sym e))
+      go (no e) =
+          credential-links l k x h n e ∙ c .last n p ∙ last-ext (ofAt l) (ofAt m) n k old-of
+          ∙ sym (last-pass (ofAt m) n k (λ z. e (sym z ∙ new-of)))
 
-  before-next : (i : ℕ) → i < suc k → linkAt m (maxFormulas + i) ≡ lastOf (ofAt m) (ofAt m i) i
+  before-next : (i : ℕ) → i < suc k → beforeAt m i ≡ lastOf (ofAt m) (ofAt m i) i
   before-next i p = go (ℕ-discrete i k)
     where
-      go : Dec (i ≡ k) → linkAt m (maxFormulas + i) ≡ lastOf (ofAt m) (ofAt m i) i
-      go (yes x) =
-          ap (λ (z : ℕ). linkAt m (maxFormulas + z)) x ∙ join-row l k n long h q ∙ c .last n q
-          ∙ last-ext (ofAt l) (ofAt m) n k (λ i z. sym (of-same i (omega arith)))
-          ∙ ap (λ (z : ℕ). lastOf (ofAt m) z k) (sym (of-same k h ∙ e))
-          ∙ ap (λ (z : ℕ). lastOf (ofAt m) (ofAt m z) z) (sym x)
-      go (no x) =
-          join-other l k n (maxFormulas + i) (omega arith) (omega arith) ∙ c .before i (omega arith)
-          ∙ last-ext (ofAt l) (ofAt m) (ofAt l i) i (λ j z. sym (of-same j (omega arith)))
-          ∙ ap (λ (z : ℕ). lastOf (ofAt m) z i) (sym (of-same i (omega arith)))
+      go : Dec (i ≡ k) → beforeAt m i ≡ lastOf (ofAt m) (ofAt m i) i
+      go (yes e) =
+          ap (beforeAt m) e ∙ credential-link l k x long h ∙ c .last (x .formula) q
+          ∙ last-ext (ofAt l) (ofAt m) (x .formula) k old-of
+          ∙ ap (λ (n : ℕ). lastOf (ofAt m) n k) (sym new-of)
+          ∙ ap (λ (z : ℕ). lastOf (ofAt m) (ofAt m z) z) (sym e)
+      go (no e) =
+          stays-link l m i (old-stays i (omega arith)) ∙ c .before i (omega arith)
+          ∙ last-ext (ofAt l) (ofAt m) (ofAt l i) i (λ j z. old-of j (omega arith))
+          ∙ ap (λ (n : ℕ). lastOf (ofAt m) n i) (old-of i (omega arith))
 
-  pub chain-join : Chained (joined l k n) (k + 1)
-  chain-join = subst (Chained m) (sym (add-one k)) (record { last = last-next; before = before-next })
+  pub chain-put : Chained (putCredential l k x) (k + 1)
+  chain-put = subst (Chained m) (sym (add-one k)) (record { last = last-next; before = before-next })
 
 -- A sum over the first k rows that sees formula n alone is one over the rows up to the last of that formula.
 module _ (g : Credential → ℕ) (r : ℕ → Credential) (n : ℕ)

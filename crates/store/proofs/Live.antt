@@ -23,7 +23,7 @@ use Rattle.store_cells.specs.Layout.{linkAt, groupAt}
 use Rattle.labels.specs.Labels.{_∋_}
 use Rattle.store.specs.Store.{ledgerOf, RowsOrdered, StandsFor}
 use Rattle.store.proofs.Tabs.{tab-ext, present-sum}
-use Rattle.store.proofs.Chains.{chain-none, chain-same}
+use Rattle.store.proofs.Chains.{chain-none, chain-stays}
 use Rattle.store_cells.proofs.CellWrites.{stays-entry, stays-credential, stays-serial, SameLive}
 use Rattle.store_cells.proofs.CredentialRows.{gap-kind}
 
@@ -98,7 +98,7 @@ module _ (l m : List ℕ) (s : SameLive l m) (o : RowsOrdered l) where
     below = λ i q. omega (arith, same-serial i q, s .next, s .used, o .below i (omega (arith, s .used)));
     named = λ i q. omega (arith, same-of i q, s .used, o .named i (omega (arith, s .used)));
     chained = rw (s .used)
-        (chain-same l m (rowCount l) (o .chained) (λ i q. same-of i (omega (arith, s .used))) (s .links));
+        (chain-stays l m (rowCount l) (o .chained) (λ i q. s .rows i (omega (arith, o .few))) (s .links));
   }
 
 -- A tally over the live credentials is one over all rows, where it sees no unrestricted credential: a gap reads as one.

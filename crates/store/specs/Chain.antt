@@ -2,11 +2,11 @@
 -- one wording alone, the credential rows of each formula are chained (store_cells/specs/Layout). What the links are:
 use mathlib.Core.Path.{_≡_}
 use mathlib.Core.List.{List}
-use Prim.Native.Nat.{ℕ, zero, suc, _+_, _<_}
+use Prim.Native.Nat.{ℕ, zero, suc, _<_}
 use lib.Dec.{eqb}
 use Rattle.logic.specs.Choice.{pick}
 use Rattle.ledger.specs.Checks.{maxFormulas}
-use Rattle.store_cells.specs.Layout.{linkAt, ofAt}
+use Rattle.store_cells.specs.Layout.{linkAt, beforeAt, ofAt}
 
 -- of the first k rows, where f gives the formula of a row, the last one of formula n: its number and one; 0 for none
 unfoldable pub lastOf : (ℕ → ℕ) → ℕ → ℕ → ℕ
@@ -17,4 +17,4 @@ lastOf f n (suc k) = pick (eqb (f k) n) (suc k) (lastOf f n k)
 -- of the same formula
 pub record Chained (l : List ℕ) (k : ℕ) : Type 0 where
   pub last : (n : ℕ) → n < maxFormulas → linkAt l n ≡ lastOf (ofAt l) n k
-  pub before : (i : ℕ) → i < k → linkAt l (maxFormulas + i) ≡ lastOf (ofAt l) (ofAt l i) i
+  pub before : (i : ℕ) → i < k → beforeAt l i ≡ lastOf (ofAt l) (ofAt l i) i

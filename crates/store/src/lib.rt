@@ -186,7 +186,7 @@ pub fn row_before(store: &Store, i: u32) -> u32
     requires { ⌜ Good (now store) × (i < rowCount (now store)) ⌝ }
     ensures { λ r. ⌜ r ≡ lastOf (ofAt (now (store .entry))) (ofAt (now (store .entry)) i) i ⌝ }
 {
-    credentials::link(store, ledger::MAX_FORMULAS + i)
+    credentials::row_link(store, i)
 }
 
 // Whether the credential of a row is linear (document 01: single-use), by its kind alone.

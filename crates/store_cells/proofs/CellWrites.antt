@@ -25,6 +25,7 @@ use Rattle.store_cells.specs.Layout.{lineCell, rowAt, sizeAt, plainAt, b
 use Rattle.store_cells.specs.Layout.{credentialFrom, credentialAt, gapAt, entryAt, linkBase, linkAt}
 use Rattle.store_cells.specs.Layout.{lowCell, highCell, givesCell, lowAt, highAt, givesAt}
 use Rattle.store_cells.specs.Layout.{groupBase, groups, groupWidth, groupAt}
+use Rattle.store_cells.specs.Layout.{beforeCell, beforeAt}
 use Rattle.store_cells.proofs.Cells.{length-putRow, row-same, row-other, put-below, put-above}
 
 -- a row is known by its cells
@@ -156,6 +157,10 @@ module _ (l m : List ℕ) (i : ℕ) (s : Stays l m i) where
 
   pub stays-serial : credentialAt m i .serial ≡ credentialAt l i .serial
   stays-serial = ap (λ (c : Credential). c .serial) stays-credential
+
+  pub stays-link : beforeAt m i ≡ beforeAt l i
+  unfolding beforeAt
+  stays-link = s beforeCell (omega arith)
 
 -- m has l's credential rows, their counts and the next serial: all that no work on formulas changes
 pub record SameLive (l m : List ℕ) : Type 0 where

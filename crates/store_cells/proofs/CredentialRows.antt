@@ -18,7 +18,7 @@ use Rattle.store_cells.specs.Layout.{cells, maxRows, cell, kindFrom, kin
 use Rattle.store_cells.specs.Layout.{credentialBase, credentialWidth, hintBase, gapKind, credentialCell}
 use Rattle.store_cells.specs.Layout.{credentialPlace}
 use Rattle.store_cells.specs.Layout.{credentialCells, putCredential, putGap, putHint, links, linkBase, linkAt}
-use Rattle.store_cells.specs.Layout.{putLink, joined}
+use Rattle.store_cells.specs.Layout.{putLink, putRow, beforeCell, beforeAt}
 use Rattle.store_cells.proofs.Cells.{length-putRow, row-same, row-other, put-below, put-above}
 use Rattle.store_cells.proofs.CellWrites.{credential-ext, SameLines, lines-self, Stays, SameLive}
 
@@ -44,39 +44,52 @@ module _ (l : List ℕ) (i : ℕ) where
   unfolding entryAt
   entry-there e = rw e
 
--- A credential is put.
+-- A link is put: all else stays, the other links too.
+module _ (m : List ℕ) (k v : ℕ) where
+  pub link-same : length m ≡ cells → k < links → linkAt (putLink m k v) k ≡ v
+  unfolding linkAt putLink
+  link-same n h = getD-set-same m (linkBase + k) v 0 (omega arith)
+
+  pub link-other : (j : ℕ) → (j ≡ k → ⊥) → linkAt (putLink m k v) j ≡ linkAt m j
+  unfolding linkAt putLink
+  link-other j h = getD-set-other m (linkBase + k) (linkBase + j) v 0 (omega arith)
+
+  pub link-before : (j : ℕ) → j < linkBase → getD (putLink m k v) j 0 ≡ getD m j 0
+  unfolding putLink
+  link-before j h = getD-set-other m (linkBase + k) j v 0 (omega arith)
+
+  pub link-lines : (l : List ℕ) → SameLines l m → SameLines l (putLink m k v)
+  unfolding putLink
+  link-lines l w = record {
+    long = length-set m (linkBase + k) v ∙ w .long;
+    count = link-before 0 (omega arith) ∙ w .count;
+    rows = λ j a b. link-before j (omega arith) ∙ w .rows j a b;
+  }
+
+  pub link-stays : (i : ℕ) → i < maxRows → Stays m (putLink m k v) i
+  unfolding cell
+  link-stays i h f q = link-before (credentialPlace i f) (omega arith)
+
+-- A credential is put, and its row before the chain of its formula.
 module _ (m : List ℕ) (i : ℕ) (c : Credential) where
-  module _ (n : length m ≡ cells) (h : i < maxRows) where
-    put-cell : (f : ℕ) → f < credentialWidth → credentialCell (putCredential m i c) i f ≡ getD (credentialCells c) f 0
-    unfolding putCredential
-    put-cell f q = row-same m credentialBase credentialWidth i (credentialCells c) f (omega arith) (omega arith)
+  abbrev numbers : List ℕ
+  numbers = credentialCells c (linkAt m (c .formula))
 
-    pub credential-same : credentialAt (putCredential m i c) i ≡ c
-    unfolding credentialAt
-    credential-same =
-        credential-ext (credentialCell (putCredential m i c) i) (λ f. getD (credentialCells c) f 0) put-cell
-        ∙ rw (kind-number (c .kind))
+  abbrev row : List ℕ
+  row = putRow m credentialBase credentialWidth i numbers
 
-    pub credential-there : gapAt (putCredential m i c) i ≡ false
-    unfolding gapAt
-    credential-there = ap (λ (n : ℕ). eqb n gapKind) (put-cell 1 (omega arith)) ∙ kind-stands (c .kind)
-
-  pub credential-stays : (k : ℕ) → (k ≡ i → ⊥) → Stays m (putCredential m i c) k
-  unfolding putCredential
-  credential-stays k h f q = row-other m credentialBase credentialWidth i (credentialCells c) refl k f h q
+  row-long : length row ≡ length m
+  row-long = length-putRow m credentialBase credentialWidth i numbers
 
   pub credential-before : (k : ℕ) → k < credentialBase → getD (putCredential m i c) k 0 ≡ getD m k 0
   unfolding putCredential
-  credential-before k h = put-below m credentialBase credentialWidth i (credentialCells c) k h
-
-  pub credential-links : i < maxRows → (k : ℕ) → linkAt (putCredential m i c) k ≡ linkAt m k
-  unfolding putCredential linkAt
-  credential-links h k =
-      put-above m credentialBase credentialWidth i (credentialCells c) (linkBase + k) (omega arith)
+  credential-before k h =
+      link-before row (c .formula) (i + 1) k (omega arith)
+      ∙ put-below m credentialBase credentialWidth i numbers k h
 
   pub credential-long : length (putCredential m i c) ≡ length m
-  unfolding putCredential
-  credential-long = length-putRow m credentialBase credentialWidth i (credentialCells c)
+  unfolding putCredential putLink
+  credential-long = length-set row (linkBase + c .formula) (i + 1) ∙ row-long
 
   pub credential-lines : (l : List ℕ) → SameLines l m → SameLines l (putCredential m i c)
   credential-lines l s = record {
@@ -84,6 +97,44 @@ module _ (m : List ℕ) (i : ℕ) (c : Credential) where
     count = credential-before 0 (omega arith) ∙ s .count;
     rows = λ k a b. credential-before k b ∙ s .rows k a b;
   }
+
+  pub credential-stays : (k : ℕ) → k < maxRows → (k ≡ i → ⊥) → Stays m (putCredential m i c) k
+  unfolding putCredential
+  credential-stays k p h f q =
+      link-stays row (c .formula) (i + 1) k p f q
+      ∙ row-other m credentialBase credentialWidth i numbers refl k f h q
+
+  module _ (n : length m ≡ cells) (h : i < maxRows) where
+    put-cell : (f : ℕ) → f < credentialWidth → credentialCell (putCredential m i c) i f ≡ getD numbers f 0
+    unfolding putCredential
+    put-cell f q =
+        link-stays row (c .formula) (i + 1) i h f q
+        ∙ row-same m credentialBase credentialWidth i numbers f (omega arith) (omega arith)
+
+    pub credential-same : credentialAt (putCredential m i c) i ≡ c
+    unfolding credentialAt
+    credential-same =
+        credential-ext (credentialCell (putCredential m i c) i) (λ f. getD numbers f 0) put-cell
+        ∙ rw (kind-number (c .kind))
+
+    pub credential-there : gapAt (putCredential m i c) i ≡ false
+    unfolding gapAt
+    credential-there = ap (λ (n : ℕ). eqb n gapKind) (put-cell 1 (omega arith)) ∙ kind-stands (c .kind)
+
+    -- its row leads to the one that its formula led to, and the formula to the row
+    pub credential-link : beforeAt (putCredential m i c) i ≡ linkAt m (c .formula)
+    unfolding beforeAt
+    credential-link = put-cell beforeCell (omega arith)
+
+    pub credential-last : c .formula < maxFormulas → linkAt (putCredential m i c) (c .formula) ≡ i + 1
+    unfolding putCredential
+    credential-last q = link-same row (c .formula) (i + 1) (row-long ∙ n) q
+
+  pub credential-links : i < maxRows → (k : ℕ) → (k ≡ c .formula → ⊥) → linkAt (putCredential m i c) k ≡ linkAt m k
+  unfolding putCredential linkAt
+  credential-links h k q =
+      link-other row (c .formula) (i + 1) k q
+      ∙ put-above m credentialBase credentialWidth i numbers (linkBase + k) (omega arith)
 
 -- A credential leaves: its serial and the other rows stay.
 module _ (m : List ℕ) (i : ℕ) where
@@ -102,6 +153,10 @@ module _ (m : List ℕ) (i : ℕ) where
   pub gap-of : (k : ℕ) → credentialAt (putGap m i) k .formula ≡ credentialAt m k .formula
   unfolding credentialAt putGap cell
   gap-of k = getD-set-other m (credentialPlace i 1) (credentialPlace k 2) gapKind 0 (omega arith)
+
+  pub gap-link : (k : ℕ) → beforeAt (putGap m i) k ≡ beforeAt m k
+  unfolding beforeAt putGap cell
+  gap-link k = getD-set-other m (credentialPlace i 1) (credentialPlace k beforeCell) gapKind 0 (omega arith)
 
   pub gap-before : (k : ℕ) → k < credentialBase → getD (putGap m i) k 0 ≡ getD m k 0
   unfolding putGap
@@ -150,56 +205,3 @@ module _ (m : List ℕ) (s v : ℕ) where
     rows = hint-stays;
     links = hint-links;
   }
-
--- A link is put: all else stays, the other links too.
-module _ (m : List ℕ) (k v : ℕ) where
-  pub link-same : length m ≡ cells → k < links → linkAt (putLink m k v) k ≡ v
-  unfolding linkAt putLink
-  link-same n h = getD-set-same m (linkBase + k) v 0 (omega arith)
-
-  pub link-other : (j : ℕ) → (j ≡ k → ⊥) → linkAt (putLink m k v) j ≡ linkAt m j
-  unfolding linkAt putLink
-  link-other j h = getD-set-other m (linkBase + k) (linkBase + j) v 0 (omega arith)
-
-  pub link-before : (j : ℕ) → j < linkBase → getD (putLink m k v) j 0 ≡ getD m j 0
-  unfolding putLink
-  link-before j h = getD-set-other m (linkBase + k) j v 0 (omega arith)
-
-  pub link-lines : (l : List ℕ) → SameLines l m → SameLines l (putLink m k v)
-  unfolding putLink
-  link-lines l w = record {
-    long = length-set m (linkBase + k) v ∙ w .long;
-    count = link-before 0 (omega arith) ∙ w .count;
-    rows = λ j a b. link-before j (omega arith) ∙ w .rows j a b;
-  }
-
-  pub link-stays : (i : ℕ) → i < maxRows → Stays m (putLink m k v) i
-  unfolding cell
-  link-stays i h f q = link-before (credentialPlace i f) (omega arith)
-
--- A row joins a chain.
-module _ (m : List ℕ) (i n : ℕ) where
-  abbrev mid : List ℕ
-  mid = putLink m (maxFormulas + i) (linkAt m n)
-
-  pub join-before : (j : ℕ) → j < linkBase → getD (joined m i n) j 0 ≡ getD m j 0
-  join-before j h = link-before mid n (i + 1) j h ∙ link-before m (maxFormulas + i) (linkAt m n) j h
-
-  pub join-lines : (l : List ℕ) → SameLines l m → SameLines l (joined m i n)
-  join-lines l w = link-lines mid n (i + 1) l (link-lines m (maxFormulas + i) (linkAt m n) l w)
-
-  pub join-stays : (k : ℕ) → k < maxRows → Stays m (joined m i n) k
-  join-stays k h f q =
-      link-stays mid n (i + 1) k h f q ∙ link-stays m (maxFormulas + i) (linkAt m n) k h f q
-
-  pub join-last : length m ≡ cells → n < maxFormulas → linkAt (joined m i n) n ≡ i + 1
-  join-last e h =
-      link-same mid n (i + 1) (link-lines m (maxFormulas + i) (linkAt m n) m (lines-self m e) .long) (omega arith)
-
-  pub join-row : length m ≡ cells → i < maxRows → n < maxFormulas → linkAt (joined m i n) (maxFormulas + i) ≡ linkAt m n
-  join-row e h q =
-      link-other mid n (i + 1) (maxFormulas + i) (omega arith)
-      ∙ link-same m (maxFormulas + i) (linkAt m n) e (omega arith)
-
-  pub join-other : (j : ℕ) → (j ≡ n → ⊥) → (j ≡ maxFormulas + i → ⊥) → linkAt (joined m i n) j ≡ linkAt m j
-  join-other j a b = link-other mid n (i + 1) j a ∙ link-other m (maxFormulas + i) (linkAt m n) j b

@@ -15,16 +15,16 @@
 --   groupBase ..       32 rows of 7: for each group of sessions a set of lines, 32 of them to a number, bit j of number w
 --                      for line 32 w + j. Session s is of group s mod 32, and every line between whose two numbers a
 --                      session is stands in the set of that session's group: a tally looks at one set alone
---   credentialBase ..  4,096 rows of 7: a credential's (a coupon's) serial, kind (0 linear: single-use, 1
+--   credentialBase ..  4,096 rows of 8: a credential's (a coupon's) serial, kind (0 linear: single-use, 1
 --                      unrestricted: standing, 2 for one that has left: a gap), formula number (wording), and its
---                      interval (window), from, to, first, last. Rows stand in the order of their serials, and a row
+--                      interval (window), from, to, first, last; then the row's link (below). Rows stand in the order of their serials, and a row
 --                      that leaves is only marked, so that no other one moves; there are twice as many rows as may
 --                      live, and when all are in use the live ones are moved together
 --   hintBase ..        4,096 hints: at serial mod 4,096 the row where the credential of that serial may stand. A hint
 --                      is only a guess that the search tests first: nothing is asked of its value
---   linkBase ..        200 links, one for each formula, then 4,096, one for each credential row: the rows of one
---                      formula are chained, gaps too. A formula's link leads to its last row, a row's link to the row
---                      before it of the same formula; a link is the row's number and one, or 0 where there is none
+--   linkBase ..        200 links, one for each formula: the rows of one formula are chained, gaps too. A formula's link
+--                      leads to its last row, a row's own link to the row before it of the same formula; a link is the
+--                      row's number and one, or 0 where there is none
 use mathlib.Core.List.{List, [], _∷_}
 use mathlib.Core.Bool.{Bool}
 use mathlib.Core.Option.{Option, none, some}
@@ -95,8 +95,12 @@ groupWidth = 7
 abbrev pub credentialBase : ℕ
 credentialBase = groupBase + groups * groupWidth
 
+-- in a row the credential's own numbers stand before the row's link
+abbrev pub beforeCell : ℕ
+beforeCell = 7
+
 abbrev pub credentialWidth : ℕ
-credentialWidth = 7
+credentialWidth = beforeCell + 1
 
 -- how many credential rows there are: twice as many as may live
 abbrev pub maxRows : ℕ
@@ -110,7 +114,7 @@ linkBase = hintBase + maxRows
 
 -- how many links there are
 abbrev pub links : ℕ
-links = maxFormulas + maxRows
+links = maxFormulas
 
 -- how many numbers there are
 abbrev pub cells : ℕ
@@ -263,13 +267,10 @@ gapAt l i = eqb (credentialCell l i 1) gapKind
 unfoldable pub entryAt : List ℕ → ℕ → Option Credential
 entryAt l i = pick (gapAt l i) none (some (credentialAt l i))
 
-abbrev pub credentialCells : Credential → List ℕ
-credentialCells c =
+abbrev pub credentialCells : Credential → ℕ → List ℕ
+credentialCells c before =
     let i = c .interval in
-    c .serial ∷ kindNumber (c .kind) ∷ c .formula ∷ i .from ∷ i .to ∷ i .first ∷ i .last ∷ []
-
-unfoldable pub putCredential : List ℕ → ℕ → Credential → List ℕ
-putCredential l i c = putRow l credentialBase credentialWidth i (credentialCells c)
+    c .serial ∷ kindNumber (c .kind) ∷ c .formula ∷ i .from ∷ i .to ∷ i .first ∷ i .last ∷ before ∷ []
 
 -- the credential of row i leaves
 unfoldable pub putGap : List ℕ → ℕ → List ℕ
@@ -296,6 +297,12 @@ putLink l k v = set l (linkBase + k) v
 abbrev pub ofAt : List ℕ → ℕ → ℕ
 ofAt l i = credentialAt l i .formula
 
--- row i is put before the chain of formula n
-abbrev pub joined : List ℕ → ℕ → ℕ → List ℕ
-joined l i n = putLink (putLink l (maxFormulas + i) (linkAt l n)) n (i + 1)
+-- the link of row i
+unfoldable pub beforeAt : List ℕ → ℕ → ℕ
+beforeAt l i = credentialCell l i beforeCell
+
+-- a credential is put in row i, and the row before the chain of its formula
+unfoldable pub putCredential : List ℕ → ℕ → Credential → List ℕ
+putCredential l i c =
+    let n = c .formula in
+    putLink (putRow l credentialBase credentialWidth i (credentialCells c (linkAt l n))) n (i + 1)

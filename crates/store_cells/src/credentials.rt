@@ -1,4 +1,5 @@
-// The credentials (document 01: the coupons): their rows and the hints.
+// The credentials (document 01: the coupons): their rows, the hints and the links.
+use crate::BEFORE;
 use crate::CREDENTIAL_WIDTH;
 use crate::CREDENTIALS;
 use crate::HINTS;
@@ -15,7 +16,7 @@ ghost use Rattle.ledger.specs.Ledger.{isKind};
 ghost use Rattle.ledger.specs.Checks.{maxFormulas};
 ghost use Rattle.store_cells.specs.Layout.{maxRows};
 ghost use Rattle.store_cells.specs.Layout.{kindFrom, kindNumber, credentialAt, gapAt, putCredential, putGap};
-ghost use Rattle.store_cells.specs.Layout.{hintAt, putHint, links, linkAt, putLink, joined};
+ghost use Rattle.store_cells.specs.Layout.{hintAt, putHint, links, linkAt, putLink, beforeAt};
 
 // how a kind is kept: linear, unrestricted, that of a credential that has left
 const LINEAR: u32 = 0;
@@ -86,17 +87,21 @@ pub fn put_gap(store: &mut Store, i: u32)
     store[CREDENTIALS + (i as usize) * CREDENTIAL_WIDTH + 1] = GAP;
 }
 
+// A credential is put in a row, and the row before the chain of its formula.
 pub fn put_credential(store: &mut Store, i: u32, c: Credential)
-    requires { ⌜ i < maxRows ⌝ }
+    requires { ⌜ (i < maxRows) × (c .formula < maxFormulas) ⌝ }
     ensures { λ _. ⌜ now (store .exit) ≡ putCredential (now (store .entry)) i c ⌝ }
 {
     let kind = c.kind;
     let k = kind_number(kind);
+    let last = link(store, c.formula);
     let at = CREDENTIALS + (i as usize) * CREDENTIAL_WIDTH;
     store[at] = c.serial;
     store[at + 1] = k;
     store[at + 2] = c.formula;
     interval::put(store, at + 3, c.interval);
+    store[at + BEFORE] = last;
+    put_link(store, c.formula, i + 1);
 }
 
 // The row where the credential of a serial may stand: any number may be answered.
@@ -112,7 +117,7 @@ pub fn put_hint(store: &mut Store, serial: u32, i: u32)
     store[HINTS + (serial % ROWS) as usize] = i;
 }
 
-// A link: of a formula, or of a credential row.
+// The link of a formula.
 pub fn link(store: &Store, k: u32) -> u32
     requires { ⌜ k < links ⌝ }
     ensures { λ r. ⌜ r ≡ linkAt (now (store .entry)) k ⌝ }
@@ -127,12 +132,10 @@ pub fn put_link(store: &mut Store, k: u32, v: u32)
     store[LINKS + k as usize] = v;
 }
 
-// A row joins the chain of its formula.
-pub fn join(store: &mut Store, i: u32, formula: u32)
-    requires { ⌜ (i < maxRows) × (formula < maxFormulas) ⌝ }
-    ensures { λ _. ⌜ now (store .exit) ≡ joined (now (store .entry)) i formula ⌝ }
+// The link of a credential row.
+pub fn row_link(store: &Store, i: u32) -> u32
+    requires { ⌜ i < maxRows ⌝ }
+    ensures { λ r. ⌜ r ≡ beforeAt (now (store .entry)) i ⌝ }
 {
-    let last = link(store, formula);
-    put_link(store, ledger::MAX_FORMULAS + i, last);
-    put_link(store, formula, i + 1);
+    store[CREDENTIALS + (i as usize) * CREDENTIAL_WIDTH + BEFORE]
 }

@@ -16,7 +16,7 @@ use Rattle.ledger.specs.Bounds.{Rises, Below}
 use Rattle.store.specs.Tab.{tab, present}
 use Rattle.store_cells.specs.Layout.{maxRows, lineCount, liveCount, nextSerial, rowCount, credentialAt, gapAt, entryAt}
 use Rattle.store_cells.specs.Layout.{putCredential, putRowCount, putHint, cell, credentialPlace, linkAt, putLink}
-use Rattle.store_cells.specs.Layout.{ofAt, joined}
+use Rattle.store_cells.specs.Layout.{ofAt}
 use Rattle.store.specs.Store.{ledgerOf, RowsOrdered, Good, Compacted}
 use Rattle.store.proofs.Tabs.{length-tab, tab-ext, tab-append, every-tab, every-present, present-next, present-all}
 use Rattle.store_credentials.proofs.RowSerials.{rises-between}
@@ -25,11 +25,10 @@ use Rattle.store_cells.proofs.CellWrites.{head-lines, head-same, head-other, he
 use Rattle.store_cells.proofs.CredentialRows.{entry-gap, entry-there, credential-same, credential-there}
 use Rattle.store_cells.proofs.CredentialRows.{credential-stays}
 use Rattle.store_cells.proofs.CredentialRows.{credential-before, credential-lines, hint-before, hint-lines, hint-stays}
-use Rattle.store_cells.proofs.CredentialRows.{credential-links, hint-links, link-same, link-other, link-before}
-use Rattle.store_cells.proofs.CredentialRows.{link-lines, join-before, join-lines, join-stays}
+use Rattle.store_cells.proofs.CredentialRows.{hint-links, link-same, link-other, link-before, link-lines}
 use Rattle.ledger.specs.Checks.{maxFormulas}
 use Rattle.store.specs.Chain.{Chained}
-use Rattle.store.proofs.Chains.{last-none, chain-none, chain-same, chain-join}
+use Rattle.store.proofs.Chains.{last-none, chain-none, chain-stays, chain-put}
 use Rattle.store_credentials.specs.Unlinked.{UnlinkedTo, Unlinked}
 use Rattle.store_credentials.proofs.Stands.{stands-live, ledger-live}
 
@@ -66,6 +65,19 @@ unlink-next l m i u h = record {
     go : (n : ℕ) → n < i + 1 → Dec (n ≡ i) → linkAt (putLink m i 0) n ≡ 0
     go n q (yes e) = ap (linkAt (putLink m i 0)) e ∙ link-same m i 0 (u .long) (omega arith)
     go n q (no e) = link-other m i 0 n e ∙ u .none n (omega arith)
+
+-- One that leads nowhere is passed.
+pub unlink-pass : (l m : List ℕ) (i : ℕ) → UnlinkedTo l m i → linkAt m i ≡ 0 → UnlinkedTo l m (i + 1)
+unlink-pass l m i u e = record {
+  long = u .long;
+  rest = u .rest;
+  none = λ n q. go n q (ℕ-discrete n i);
+  others = λ n q. u .others n (omega arith);
+}
+  where
+    go : (n : ℕ) → n < i + 1 → Dec (n ≡ i) → linkAt m n ≡ 0
+    go n q (yes d) = ap (linkAt m) d ∙ e
+    go n q (no d) = u .none n (omega arith)
 
 -- A number that no line has yet has no chain.
 pub unlink-done : {l m : List ℕ} {i : ℕ} → Good l → i ≡ lineCount l → UnlinkedTo l m i → Unlinked l m
@@ -144,23 +156,20 @@ module _ (l : List ℕ) where
     -- a credential moves to row k
     module _ (c : Credential) (h : i < maxRows) (e : gapAt m i ≡ false) (d : c ≡ credentialAt m i)
         (b : c .formula < maxFormulas) where
-      abbrev put : List ℕ
-      put = putCredential m k c
-
       abbrev m′ : List ℕ
-      m′ = joined put k (c .formula)
+      m′ = putCredential m k c
 
       few : k < maxRows
       few = omega (arith, v .low)
 
       moved-stays : (j : ℕ) → j < maxRows → (j ≡ k → ⊥) → Stays m m′ j
-      moved-stays j q x f p = join-stays put k (c .formula) j q f p ∙ credential-stays m k c j x f p
+      moved-stays j q x = credential-stays m k c j q x
 
       full-next : (j : ℕ) → j < k + 1 → Dec (j < k) → gapAt m′ j ≡ false
       full-next j q (yes z) = stays-gap m m′ j (moved-stays j (omega (arith, few)) (omega arith)) ∙ v .full j z
       full-next j q (no z) =
           let x : j ≡ k = omega arith in
-          rw x (stays-gap put m′ k (join-stays put k (c .formula) k few) ∙ credential-there m k c (v .lines .long) few)
+          rw x (credential-there m k c (v .lines .long) few)
 
       entry-moved : entryAt l i ≡ some c
       entry-moved =
@@ -171,29 +180,20 @@ module _ (l : List ℕ) where
       moved-next =
           tab-append k (credentialAt m) (credentialAt m′) c
           (λ j q. stays-credential m m′ j (moved-stays j (omega (arith, few)) (omega arith)))
-          (stays-credential put m′ k (join-stays put k (c .formula) k few)
-          ∙ credential-same m k c (v .lines .long) few)
+          (credential-same m k c (v .lines .long) few)
           ∙ ap (λ (cs : List Credential). cs ++ (c ∷ [])) (v .moved)
           ∙ sym (rw (present-next i (entryAt l), entry-moved))
 
-      put-chained : Chained put k
-      put-chained =
-          chain-same m put k (v .chained)
-          (λ j q.
-          ap (λ (x : Credential). x .formula) (stays-credential m put j (credential-stays m k c j (omega arith))))
-          (credential-links m k c few)
-
-      pub gather-move : Gathering l (joined (putCredential m k c) k (c .formula)) (i + 1) (k + 1)
+      pub gather-move : Gathering l (putCredential m k c) (i + 1) (k + 1)
       gather-move = record {
-        lines = join-lines put k (c .formula) l (credential-lines m k c l (v .lines));
-        count = join-before put k (c .formula) 1 (omega arith) ∙ credential-before m k c 1 (omega arith) ∙ v .count;
-        next = join-before put k (c .formula) 2 (omega arith) ∙ credential-before m k c 2 (omega arith) ∙ v .next;
+        lines = credential-lines m k c l (v .lines);
+        count = credential-before m k c 1 (omega arith) ∙ v .count;
+        next = credential-before m k c 2 (omega arith) ∙ v .next;
         low = omega (arith, v .low);
         moved = moved-next;
         full = λ j q. full-next j q (decLt j k);
         rest = λ j q z f p. moved-stays j z (omega (arith, v .low)) f p ∙ v .rest j (omega arith) z f p;
-        chained = chain-join put k (c .formula) (credential-lines m k c m (lines-self m (v .lines .long)) .long) few b
-            put-chained (ap (λ (x : Credential). x .formula) (credential-same m k c (v .lines .long) few));
+        chained = chain-put m k c (v .lines .long) few b (v .chained);
       }
 
     -- a hint changes nothing
@@ -209,8 +209,7 @@ module _ (l : List ℕ) where
           moved = tab-ext k (credentialAt x) (credentialAt m) (λ j q. stays-credential m x j (z j q)) ∙ v .moved;
           full = λ j q. stays-gap m x j (z j q) ∙ v .full j q;
           rest = λ j q y f p. hint-stays m s r j y f p ∙ v .rest j q y f p;
-          chained = chain-same m x k (v .chained)
-              (λ j q. ap (λ (c : Credential). c .formula) (stays-credential m x j (z j q))) (hint-links m s r);
+          chained = chain-stays m x k (v .chained) z (hint-links m s r);
         }
 
   -- when all rows are passed
@@ -268,8 +267,7 @@ module _ (l : List ℕ) where
         every-tab _ k (credentialAt done) (subst (Every _) (sym done-rows) (live-named l (g .ordered))) i
             (omega (arith, done-used)),
       );
-      chained = rw done-used (chain-same m done k (v .chained)
-          (λ j q. ap (λ (c : Credential). c .formula) (stays-credential m done j (done-stays j)))
+      chained = rw done-used (chain-stays m done k (v .chained) (λ j q. done-stays j)
           (λ j. head-links m 3 k j (omega arith)));
     }
 

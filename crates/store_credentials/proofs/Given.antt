@@ -16,17 +16,17 @@ use Rattle.ledger.proofs.Bounds.{credential-bounded}
 use Rattle.store.specs.Tab.{tab, present}
 use Rattle.store_cells.specs.Layout.{maxRows, lineCount, liveCount, nextSerial, rowCount, credentialAt, entryAt}
 use Rattle.store_cells.specs.Layout.{putRowCount}
-use Rattle.store_cells.specs.Layout.{putLiveCount, putNext, putCredential, putHint, joined}
+use Rattle.store_cells.specs.Layout.{putLiveCount, putNext, putCredential, putHint}
 use Rattle.ledger.specs.Checks.{maxFormulas}
 use Rattle.store.specs.Chain.{Chained}
-use Rattle.store.proofs.Chains.{chain-same, chain-join}
+use Rattle.store.proofs.Chains.{chain-stays, chain-put}
 use Rattle.store.specs.Store.{ledgerOf, RowsOrdered, StandsFor, Givable}
 use Rattle.store.proofs.Tabs.{tab-ext, present-next}
 use Rattle.store_cells.proofs.CellWrites.{SameLines, lines-self, head-lines, head-same, Stays, stays-credential}
 use Rattle.store_cells.proofs.CellWrites.{stays-entry}
 use Rattle.store_cells.proofs.CellWrites.{stays-serial, head-other, head-stays, head-links}
 use Rattle.store_cells.proofs.CredentialRows.{entry-there, credential-same, credential-there, credential-stays}
-use Rattle.store_cells.proofs.CredentialRows.{credential-lines, credential-links, join-lines, join-stays}
+use Rattle.store_cells.proofs.CredentialRows.{credential-lines}
 use Rattle.store.proofs.Views.{lines-length}
 use Rattle.store_credentials.proofs.Stands.{stands-live, ledger-live, hint-stands}
 
@@ -42,19 +42,15 @@ still-givable r s = record {
 -- The store after a credential is given.
 abbrev given : List ℕ → Credential → List ℕ
 given l c =
-    putNext (putLiveCount (putRowCount (joined (putCredential l (rowCount l) c) (rowCount l) (c .formula))
-    (rowCount l + 1)) (liveCount l + 1))
+    putNext (putLiveCount (putRowCount (putCredential l (rowCount l) c) (rowCount l + 1)) (liveCount l + 1))
     (nextSerial l + 1)
 
 module _ (l : List ℕ) (k : Kind) (n : ℕ) (w : Interval) (r : Givable l n) (free : rowCount l < maxRows) where
   abbrev fresh : Credential
   fresh = record { serial = nextSerial l; kind = k; formula = n; interval = w }
 
-  abbrev put : List ℕ
-  put = putCredential l (rowCount l) fresh
-
   abbrev rowed : List ℕ
-  rowed = joined put (rowCount l) n
+  rowed = putCredential l (rowCount l) fresh
 
   abbrev used : List ℕ
   used = putRowCount rowed (rowCount l + 1)
@@ -65,11 +61,8 @@ module _ (l : List ℕ) (k : Kind) (n : ℕ) (w : Interval) (r : Givable l n) (f
   abbrev m : List ℕ
   m = given l fresh
 
-  put-lines : SameLines l put
-  put-lines = credential-lines l (rowCount l) fresh l (lines-self l (r .good .long))
-
   rowed-lines : SameLines l rowed
-  rowed-lines = join-lines put (rowCount l) n l put-lines
+  rowed-lines = credential-lines l (rowCount l) fresh l (lines-self l (r .good .long))
 
   used-lines : SameLines l used
   used-lines = head-lines l rowed 3 (rowCount l + 1) (omega arith) (omega arith) rowed-lines
@@ -98,21 +91,17 @@ module _ (l : List ℕ) (k : Kind) (n : ℕ) (w : Interval) (r : Givable l n) (f
 
   old-stays : (i : ℕ) → i < rowCount l → Stays l m i
   old-stays i h f q =
-      given-stays i f q ∙ join-stays put (rowCount l) n i (omega arith) f q
-      ∙ credential-stays l (rowCount l) fresh i (omega arith) f q
-
-  new-stays : Stays put m (rowCount l)
-  new-stays f q = given-stays (rowCount l) f q ∙ join-stays put (rowCount l) n (rowCount l) free f q
+      given-stays i f q ∙ credential-stays l (rowCount l) fresh i (omega arith) (omega arith) f q
 
   new-credential : credentialAt m (rowCount l) ≡ fresh
   new-credential =
-      stays-credential put m (rowCount l) new-stays
+      stays-credential rowed m (rowCount l) (given-stays (rowCount l))
       ∙ credential-same l (rowCount l) fresh (r .good .long) free
 
   new-entry : entryAt m (rowCount l) ≡ some fresh
   new-entry =
-      stays-entry put m (rowCount l) new-stays
-      ∙ entry-there put (rowCount l) (credential-there l (rowCount l) fresh (r .good .long) free)
+      stays-entry rowed m (rowCount l) (given-stays (rowCount l))
+      ∙ entry-there rowed (rowCount l) (credential-there l (rowCount l) fresh (r .good .long) free)
       ∙ ap some (credential-same l (rowCount l) fresh (r .good .long) free)
 
   given-live : present (tab (rowCount m) (entryAt m)) ≡ ledgerOf l .live ++ (fresh ∷ [])
@@ -159,22 +148,12 @@ module _ (l : List ℕ) (k : Kind) (n : ℕ) (w : Interval) (r : Givable l n) (f
   small : n < maxFormulas
   small = omega (arith, r .there, lines-length l, r .good .lines)
 
-  put-chained : Chained put (rowCount l)
-  put-chained =
-      chain-same l put (rowCount l) (r .good .ordered .chained)
-      (λ i q. ap (λ (c : Credential). c .formula)
-      (stays-credential l put i (credential-stays l (rowCount l) fresh i (omega arith))))
-      (credential-links l (rowCount l) fresh free)
-
   rowed-chained : Chained rowed (rowCount l + 1)
-  rowed-chained =
-      chain-join put (rowCount l) n (put-lines .long) free small put-chained
-      (ap (λ (c : Credential). c .formula) (credential-same l (rowCount l) fresh (r .good .long) free))
+  rowed-chained = chain-put l (rowCount l) fresh (r .good .long) free small (r .good .ordered .chained)
 
   given-chained : Chained m (rowCount l + 1)
   given-chained =
-      chain-same rowed m (rowCount l + 1) rowed-chained
-      (λ i q. ap (λ (c : Credential). c .formula) (stays-credential rowed m i (given-stays i)))
+      chain-stays rowed m (rowCount l + 1) rowed-chained (λ i q. given-stays i)
       (λ k. head-links counted 2 _ k (omega arith) ∙ head-links used 1 _ k (omega arith)
       ∙ head-links rowed 3 _ k (omega arith))
 
@@ -199,9 +178,9 @@ module _ (l : List ℕ) (k : Kind) (n : ℕ) (w : Interval) (r : Givable l n) (f
       (credential-bounded (ledgerOf l) (r .good .bounded) k n w (r .room) (r .unused))
 
   -- by the stores that make it
-  pub give-done : {m₀ j m₁ m₂ m₃ m₄ : List ℕ} {i c s : ℕ} → i ≡ rowCount l → c ≡ liveCount l → s ≡ nextSerial l
+  pub give-done : {m₀ m₁ m₂ m₃ m₄ : List ℕ} {i c s : ℕ} → i ≡ rowCount l → c ≡ liveCount l → s ≡ nextSerial l
       → m₀ ≡ putCredential l i (record { serial = s; kind = k; formula = n; interval = w })
-      → j ≡ joined m₀ i n → m₁ ≡ putRowCount j (i + 1) → m₂ ≡ putLiveCount m₁ (c + 1) → m₃ ≡ putNext m₂ (s + 1)
+      → m₁ ≡ putRowCount m₀ (i + 1) → m₂ ≡ putLiveCount m₁ (c + 1) → m₃ ≡ putNext m₂ (s + 1)
       → m₄ ≡ putHint m₃ s i → StandsFor m₄ (withCredential (ledgerOf l) k n w)
-  give-done a b d e₀ f e₁ e₂ e₃ e₄ =
-      rw (e₄, e₃, e₂, e₁, f, e₀, a, b, d) (hint-stands m (nextSerial l) (rowCount l) give-stands)
+  give-done a b d e₀ e₁ e₂ e₃ e₄ =
+      rw (e₄, e₃, e₂, e₁, e₀, a, b, d) (hint-stands m (nextSerial l) (rowCount l) give-stands)

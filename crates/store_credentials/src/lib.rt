@@ -37,8 +37,11 @@ fn unlink(store: &mut Store)
     let lines = head::line_count(store);
     let mut n = 0;
     while n < lines {
-        credentials::put_link(store, n, 0);
+        let k = n;
         n += 1;
+        if credentials::link(store, k) != 0 {
+            credentials::put_link(store, k, 0);
+        }
     }
 }
 
@@ -57,7 +60,6 @@ fn compact(store: &mut Store)
         if !credentials::gap(store, from) {
             let c = credentials::credential(store, from);
             credentials::put_credential(store, k, c);
-            credentials::join(store, k, c.formula);
             credentials::put_hint(store, c.serial, k);
             k += 1;
         }
@@ -106,7 +108,6 @@ fn append(store: &mut Store, kind: Kind, formula: u32, interval: Interval)
         interval,
     };
     credentials::put_credential(store, i, c);
-    credentials::join(store, i, formula);
     head::put_row_count(store, i + 1);
     head::put_live_count(store, n + 1);
     head::put_next(store, serial + 1);

@@ -9,26 +9,25 @@ use Rattle.store_credentials.proofs.append.Tie as tie
 add-put-next : tie.Need-add-put-next
 unfolding ledgerOf
 add-put-next c =
-    let at = c .before .before .before .before .before .before .before .before .before in
+    let at = c .before .before .before .before .before .before .before in
     omega (arith, at .next .ensures, at .before .before .before .before .before .before .pre .0 .unused)
 
-join-requires : tie.Need-join-requires
-join-requires c κs =
-    let s = c .before .before .before .before .before .before .before .before .before in
+put-credential-requires : tie.Need-put-credential-requires
+put-credential-requires c κs =
+    let s = c .before .before .before .before .before .before .before in
     let p = s .pre .0 in (
-      omega (arith, c .before .before .before .before .before .before .before .row-count .ensures, s .pre .1),
+      omega (arith, c .before .before .before .before .before .row-count .ensures, s .pre .1),
       omega (arith, p .there, p .good .bounded .lines),
     )
 
 returns : tie.Need-returns
 returns c =
     let next = c .before .before in
-    let join = next .before .before .before .before .before .before in
-    let put = join .before .before in
+    let put = next .before .before .before .before .before .before in
     let at = put .before .before in
     let s = at .before .before .before .before .before .before in
     give-done _ _ _ _ (s .pre .0) (s .pre .1) (at .before .before .before .before .row-count .ensures)
-    (at .before .before .live-count .ensures) (at .next .ensures) (put .put-credential .ensures) (join .join .ensures)
+    (at .before .before .live-count .ensures) (at .next .ensures) (put .put-credential .ensures)
     (next .before .before .before .before .put-row-count .ensures) (next .before .before .put-live-count .ensures)
     (next .put-next .ensures) (c .put-hint .ensures)
 
@@ -39,8 +38,7 @@ append-spec =
     (λ c κs. search needs)
     (λ c κs. search needs)
     (λ c κs. search needs)
-    (λ c κs. search needs)
-    join-requires
+    put-credential-requires
     (λ c. search needs)
     (λ c κs. search needs)
     (λ c. search needs)

@@ -41,11 +41,6 @@ gap-requires c κs = let at = c .before .before in omega (arith, used at .few)
 credential-requires : tie.Need-credential-requires Inv-loop μ-loop
 credential-requires c κs = let at = c .before .before .before .before .before in omega (arith, used at .few)
 
-put-credential-requires : tie.Need-put-credential-requires Inv-loop μ-loop
-put-credential-requires c κs =
-    let at = c .before .before .before .before .before .before .before in
-    omega (arith, used at .few, at .loop .inv .1 .low)
-
 -- the formula of a row is one of the ledger's
 named : (c : tie.After-credential Inv-loop μ-loop) → c .credential .result .formula < maxFormulas
 named c =
@@ -56,20 +51,19 @@ named c =
     gather-named _ _ _ _ (gather-from (s .unlink .ensures) (omega (arith, used at .few)) (at .loop .inv .1))
     (s .before .before .pre) (omega (arith, used at .same)) _ (c .credential .ensures)
 
-join-requires : tie.Need-join-requires Inv-loop μ-loop
-join-requires c κs =
-    let at = c .before .before .before .before .before .before .before .before .before in
-    (omega (arith, used at .few, at .loop .inv .1 .low), named (c .before .before .before))
+put-credential-requires : tie.Need-put-credential-requires Inv-loop μ-loop
+put-credential-requires c κs =
+    let at = c .before .before .before .before .before .before .before in
+    (omega (arith, used at .few, at .loop .inv .1 .low), named (c .before))
 
 add-k : tie.Need-add-k Inv-loop μ-loop
 add-k c =
-    let at = c .before .before .before .before .before .before .before .before .before .before .before .before in
+    let at = c .before .before .before .before .before .before .before .before .before .before in
     omega (arith, used at .few, at .loop .inv .1 .low)
 
 loop-again : tie.Need-loop-again Inv-loop μ-loop
 loop-again c =
-    let join = c .before .before in
-    let put = join .before .before in
+    let put = c .before .before in
     let test = put .before .before .before .before in
     let at = test .before .before .before .before in
     let e = sym (test .before .gap .ensures) ∙ not-true _ (test .if1 .taken) in
@@ -79,7 +73,7 @@ loop-again c =
     gather-move _ _ _ _ (at .loop .inv .1) _ few e (put .before .before .credential .ensures)
     (named (put .before .before)) in (
       search needs,
-      rw (c .put-hint .ensures, join .join .ensures, put .put-credential .ensures)
+      rw (c .put-hint .ensures, put .put-credential .ensures)
           (gather-hint _ _ _ _ moved (omega arith) _ _),
     )
 
@@ -111,7 +105,6 @@ compact-spec =
     gap-requires
     credential-requires
     put-credential-requires
-    join-requires
     (λ c κs. search needs)
     add-k
     (λ c. search needs)

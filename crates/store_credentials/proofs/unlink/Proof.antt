@@ -1,11 +1,11 @@
 -- `unlink` meets its contract. The loop: the formulas below n have no chain.
-use mathlib.Core.Path.{refl}
+use mathlib.Core.Path.{refl, sym, _∙_}
 use Prim.Native.Nat.{_≤_, _<_, _-_}
 use native.Mathlib.Omega.{arith}
 use borrow.Author.Needs.{needs}
 use Rattle.ledger.specs.Checks.{maxFormulas}
 use Rattle.store_credentials.specs.Unlinked.{UnlinkedTo}
-use Rattle.store_credentials.proofs.Gather.{unlink-next, unlink-done}
+use Rattle.store_credentials.proofs.Gather.{unlink-next, unlink-pass, unlink-done}
 use Rattle.store_credentials.proofs.unlink.Statement.{statement}
 use Rattle.store_credentials.proofs.unlink.Tie as tie
 
@@ -35,9 +35,15 @@ few c =
 
 loop-again : tie.Need-loop-again Inv-loop μ-loop
 loop-again c =
-    let t = c .before .before in
+    let t = c .before .before .before .before .before in
     let h = t .loop-test .taken in
     (omega arith, rw (c .put-link .ensures) (unlink-next _ _ _ (t .before .loop .inv .1) (few t)))
+
+loop-again-2 : tie.Need-loop-again-2 Inv-loop μ-loop
+loop-again-2 c =
+    let t = c .before .before .before in
+    let h = t .loop-test .taken in
+    (omega arith, unlink-pass _ _ _ (t .before .loop .inv .1) (sym (c .before .link .ensures) ∙ c .if1 .left))
 
 returns : tie.Need-returns Inv-loop μ-loop
 returns c =
@@ -54,8 +60,11 @@ unlink-spec =
     μ-loop
     (λ c κs. search needs)
     loop-holds
-    (λ c κs. omega (arith, few (c .before)))
     (λ c. search needs)
+    (λ c κs. omega (arith, few (c .before)))
+    (λ c κs. omega (arith, few (c .before .before .before .before)))
     (λ c. search needs)
     loop-again
+    (λ c. search needs)
+    loop-again-2
     returns)

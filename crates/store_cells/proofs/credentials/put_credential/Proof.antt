@@ -1,4 +1,4 @@
--- `put_credential` meets its contract: three stores and an interval are the row.
+-- `put_credential` meets its contract: four stores and an interval are the row; one store more is its formula's link.
 use native.Mathlib.Numerals.{towards-suc}
 use Rattle.store_cells.specs.Layout.{putRow, putInterval, putCredential}
 use borrow.Author.Needs.{needs}
@@ -7,11 +7,16 @@ use Rattle.store_cells.proofs.credentials.put_credential.Tie as tie
 
 returns : tie.Need-returns
 unfolding putCredential putRow putInterval
-returns c = rw (c .put .ensures, c .before .before .kind-number .ensures) (simp towards-suc)
+returns c =
+    let put = c .before .before in
+    let link = put .before .before in
+    rw (c .put-link .ensures, put .put .ensures, link .link .ensures, link .before .before .kind-number .ensures)
+    (simp towards-suc)
 
 pub put-credential-spec : {M : Type 1} → statement M
 put-credential-spec =
     tie.close
-    (tie.spec (λ c κs. search needs) (λ c. search needs) (λ c. search needs) (λ c. search needs)
+    (tie.spec (λ c κs. search needs) (λ c κs. search needs) (λ c. search needs) (λ c. search needs) (λ c. search needs)
     (λ c. search needs) (λ c. search needs) (λ c. search needs) (λ c. search needs) (λ c. search needs)
+    (λ c. search needs) (λ c. search needs) (λ c. search needs) (λ c κs. search needs) (λ c. search needs)
     (λ c. search needs) (λ c. search needs) (λ c. search needs) (λ c κs. search needs) returns)
