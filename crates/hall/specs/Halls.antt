@@ -87,27 +87,33 @@ seatLines (suc n) k = bytes "a,1," ++ digits k ++ bytes "\n" ++ seatLines n (suc
 
 -- Ask 9, "Panel sums by wording": "Let the tally count, for each wording, its live singles with and without the minute,
 -- each count with its own contract, and then add, for each figure of ask 3, count × what one such single gives it." Of
--- 200 wordings those to 195 are a seat of the session with their number. The last, (⟨1⟩seat ⊗ place) ⊗ seat, has its
--- seats in session 64 and its place in session 191, and names none between them.
+-- 200 wordings those to 192 are a seat of the session with their number. The last is (place ⊗ ⟨1⟩(seat ⊗ seat)) ⊗ seat,
+-- of sessions 65,535, 64, 255 and 255.
 abbrev pub panelHall : List ℕ
 panelHall =
-    bytes "till,1,8,200,7\n" ++ seatLines 196 0 ++ bytes "s,1,64\na,2,191\nt,196,197\nt,198,64\n"
-    ++ bytes "1,s,64,0,9,0,0\n2,s,128,0,9,0,0\n3,s,191,0,9,0,0\n" ++ coupons ",s,199,0,9,0,0\n" 2 4
-    ++ coupons ",s,199,5,9,0,0\n" 2 6
+    bytes "till,1,10,200,9\n" ++ seatLines 193 0
+    ++ bytes "l,0,0\na,1,255\na,2,65535\nt,64,194\ns,1,196\nt,195,197\nt,198,194\n"
+    ++ bytes "1,r,193,0,9,0,0\n2,s,0,0,9,0,0\n3,s,64,0,9,0,0\n4,s,128,0,9,0,0\n5,s,192,0,9,0,0\n"
+    ++ coupons ",s,199,0,9,0,0\n" 2 6 ++ coupons ",s,199,5,9,0,0\n" 2 8
 
--- At minute 4 two singles of the last wording have the minute and two have it not; at minute 5 all four have it. Then
--- one of each two leaves. Sessions 127 and 128 lie between the two that the last wording names.
+-- At minute 4 two singles of the last wording have the minute and two have it not; at minute 5 all four have it. It
+-- gives nothing to sessions 128, 191 and 192, which lie between those that it names. Then one with the minute leaves
+-- and one without, and the standing coupon, which counted nothing.
 abbrev pub panel : List Turn
 panel =
-    ("tally,64,4\n" ⇒ ok (2 ∷ 7 ∷ 0 ∷ [])) ∷
-    ("tally,64,5\n" ⇒ ok (4 ∷ 5 ∷ 0 ∷ [])) ∷
-    ("tally,127,4\n" ⇒ ok (0 ∷ 0 ∷ 0 ∷ [])) ∷
+    ("tally,64,4\n" ⇒ ok (2 ∷ 3 ∷ 0 ∷ [])) ∷
+    ("tally,64,5\n" ⇒ ok (4 ∷ 1 ∷ 0 ∷ [])) ∷
     ("tally,128,4\n" ⇒ ok (0 ∷ 1 ∷ 0 ∷ [])) ∷
-    ("tally,191,4\n" ⇒ ok (0 ∷ 1 ∷ 4 ∷ [])) ∷
-    ("withdraw,5\n" ⇒ accepted 5) ∷
-    ("withdraw,6\n" ⇒ accepted 6) ∷
-    ("tally,64,4\n" ⇒ ok (1 ∷ 4 ∷ 0 ∷ [])) ∷
-    ("tally,191,4\n" ⇒ ok (0 ∷ 1 ∷ 2 ∷ [])) ∷ []
+    ("tally,191,4\n" ⇒ ok (0 ∷ 0 ∷ 0 ∷ [])) ∷
+    ("tally,192,4\n" ⇒ ok (0 ∷ 1 ∷ 0 ∷ [])) ∷
+    ("tally,255,4\n" ⇒ ok (2 ∷ 6 ∷ 0 ∷ [])) ∷
+    ("tally,65535,4\n" ⇒ ok (0 ∷ 0 ∷ 4 ∷ [])) ∷
+    ("withdraw,8\n" ⇒ accepted 8) ∷
+    ("withdraw,7\n" ⇒ accepted 7) ∷
+    ("tally,255,4\n" ⇒ ok (1 ∷ 3 ∷ 0 ∷ [])) ∷
+    ("tally,65535,4\n" ⇒ ok (0 ∷ 0 ∷ 2 ∷ [])) ∷
+    ("withdraw,1\n" ⇒ accepted 1) ∷
+    ("tally,0,4\n" ⇒ ok (0 ∷ 1 ∷ 0 ∷ [])) ∷ []
 
 pub record HallSheets : Type 0 where
   pub standing : AnsweredFrom (reopened standingHall) standing
