@@ -1,6 +1,4 @@
-pub mod Columns
-pub mod CountLimits
-pub mod Counting
+pub mod SumLaws
+pub mod Giving
+pub mod Walking
 pub mod ByFormula
-pub mod Walks
-pub mod Tallied
