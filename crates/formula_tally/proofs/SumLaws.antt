@@ -1,6 +1,6 @@
 -- Laws of f 0 + .. + f (n - 1).
 use mathlib.Core.Path.{_≡_, refl, sym, ap, ap₂, _∙_}
-use Prim.Native.Nat.{ℕ, zero, suc, _+_, _*_, _≤_, _<_}
+use Prim.Native.Nat.{ℕ, zero, suc, _+_, _*_, _-_, _≤_, _<_}
 use native.Mathlib.Omega.{arith}
 use native.Mathlib.Numerals.{add-one}
 use native.Mathlib.Nat.{add-zero, add-suc}
@@ -42,3 +42,16 @@ pub to-append : (m n : ℕ) (f : ℕ → ℕ) → sumTo (m + n) f ≡ sumTo m f 
 unfolding sumTo
 to-append m zero f = ap (λ (k : ℕ). sumTo k f) (add-zero m) ∙ (omega arith)
 to-append m (suc n) f = ap (λ (k : ℕ). sumTo k f) (add-suc m n) ∙ (omega (arith, to-append m n f))
+
+-- the first and the rest
+pub to-first : (n : ℕ) (f : ℕ → ℕ) → sumTo (suc n) f ≡ f 0 + sumTo n (λ k. f (suc k))
+unfolding sumTo
+to-first zero f = omega arith
+to-first (suc n) f = omega (arith, to-first n f)
+
+-- nothing after n
+pub to-end : (n m : ℕ) (f : ℕ → ℕ) → n ≤ m → ((k : ℕ) → n ≤ k → k < m → f k ≡ 0) → sumTo m f ≡ sumTo n f
+to-end n m f le h =
+    let e : n + (m - n) ≡ m = omega arith in
+    ap (λ (k : ℕ). sumTo k f) (sym e) ∙ to-append n (m - n) f
+    ∙ (omega (arith, to-zero (m - n) (λ j. f (n + j)) (λ j l. h (n + j) (omega arith) (omega arith))))

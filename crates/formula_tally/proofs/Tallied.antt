@@ -1,0 +1,167 @@
+-- Counts × what one single gives, over sets that have each formula of the session, are the figures of a tally.
+use mathlib.Core.Path.{_≡_, refl, sym, ap, ap₂, _∙_}
+use mathlib.Core.List.{List}
+use mathlib.Core.Logic.{_⊎_, inl, inr}
+use mathlib.Core.Bool.{Bool, true, false, true≢false}
+use Prim.Native.Nat.{ℕ, _+_, _*_, _-_, _/_, _%_, _≤_, _<_}
+use native.Mathlib.Omega.{arith}
+use native.Mathlib.Decide.{decLe}
+use native.Mathlib.Nat.{add-mul, mul-add, mul-zero, zero-mul, mul-le-mul-right, mul-le-mul-left}
+use lib.ListN.{length}
+use Rattle.logic.specs.Formula.{seat, place, size, seats, places, houseSeats}
+use Rattle.logic.proofs.Houses.{house-seats}
+use Rattle.ledger.specs.Ledger.{Ledger, formula}
+use Rattle.ledger.specs.Checks.{maxSize, maxLive}
+use Rattle.ledger.specs.Bounds.{Bounded}
+use Rattle.labels.specs.Labels.{member, _∋_}
+use Rattle.store_cells.specs.Layout.{lowAt, highAt}
+use Rattle.store.specs.Store.{ledgerOf, Good}
+use Rattle.store.proofs.Views.{lines-length}
+use Rattle.formula_tally.specs.declared.Sums.{Sums}
+use Rattle.formula_tally.specs.Gives.{gives, seatsIn, placesIn, houseIn}
+use Rattle.formula_tally.specs.ByFormula.{singlesWith, singlesWithout, sumTo, openBy, shutBy, placedBy}
+use Rattle.formula_tally.specs.ByFormula.{openAt, seatsAt, placesAt, GivenBy, Added}
+use Rattle.formula_tally.specs.Sets.{word, words, overSet, overSets, SetAdded}
+use Rattle.formula_tally.proofs.SumLaws.{to-same, to-plus, to-le, to-next}
+use Rattle.formula_tally.proofs.Giving.{count-le, gives-none, unpacked}
+use Rattle.formula_tally.proofs.SetSums.{over-le, sets-sum}
+use Rattle.formula_tally.proofs.Walks.{singles-few}
+
+-- Of one formula
+
+-- what is open and what is shut
+apart : (w v a h : ℕ) → h ≤ a → (w + v) * a ≡ w * h + (w * (a - h) + v * a)
+apart w v a h le =
+    let e : w * a ≡ w * h + w * (a - h) = ap (w *_) (omega arith) ∙ mul-add w h (a - h) in
+    omega (arith, add-mul w v a)
+
+times-none : (a : ℕ) {b : ℕ} → b ≡ 0 → a * b ≡ 0
+times-none a e = ap (a *_) e ∙ mul-zero a
+
+none-times : {a : ℕ} (b : ℕ) → a ≡ 0 → a * b ≡ 0
+none-times b e = ap (_* b) e ∙ zero-mul b
+
+-- the most that a formula gives
+abbrev pub mostGiven : ℕ
+mostGiven = maxLive * maxSize
+
+product-small : (a b : ℕ) → a ≤ maxLive → b ≤ maxSize → a * b ≤ mostGiven
+product-small a b h k = omega (arith, mul-le-mul-right b h, mul-le-mul-left maxLive k)
+
+abbrev nothing : Sums
+nothing = record { «open» = 0; seats = 0; places = 0 }
+
+module _ (t : Ledger) (s m : ℕ) where
+  pub record Small (k : ℕ) : Type 0 where
+    pub opens : openAt t s m k ≤ mostGiven
+    pub seats : seatsAt t s m k ≤ mostGiven
+    pub places : placesAt t s m k ≤ mostGiven
+
+  pub small : Bounded t → (k : ℕ) → Small k
+  small b k =
+      let f = singles-few m k t in
+      let z = b .sizes k in
+      let p = count-le seat s (formula t k) in
+      record {
+        opens = product-small _ _ (omega (arith, f, b .live)) (omega (arith, house-seats false s (formula t k)));
+        seats = product-small _ _ (omega (arith, f, b .live)) (omega arith);
+        places = product-small _ _ (omega (arith, f, b .live)) (omega (arith, count-le place s (formula t k)));
+      }
+
+  -- nothing is given where there are no singles, and where one gives nothing
+  pub no-singles : (k : ℕ) → 0 ≡ singlesWith t m k → 0 ≡ singlesWithout t m k → GivenBy t s m k nothing
+  no-singles k e f = record {
+    opens = sym (none-times _ (sym e));
+    seats = sym (none-times _ (omega (arith, e, f)));
+    places = sym (none-times _ (omega (arith, e, f)));
+  }
+
+  pub no-counts : (k : ℕ) → size (formula t k) ≤ maxSize → gives s (formula t k) ≡ 0 → GivenBy t s m k nothing
+  no-counts k le e =
+      let u = unpacked s (formula t k) le in
+      record {
+        opens = sym (times-none _ (sym (u .house-in) ∙ ap houseIn e));
+        seats = sym (times-none _ (sym (u .seats-in) ∙ ap seatsIn e));
+        places = sym (times-none _ (sym (u .places-in) ∙ ap placesIn e));
+      }
+
+-- Over sets
+
+-- the sets have a bit for each formula that may have an atom of the session, and none for what is no formula
+pub record Marks (l : List ℕ) (s : ℕ) (bits : ℕ → ℕ) : Type 0 where
+  pub within : (w j : ℕ) → w < words → j < word → bits w ∋ j → word * w + j < length (ledgerOf l .lines)
+  pub marked : (i : ℕ) → i < length (ledgerOf l .lines) → lowAt l i ≤ s → s ≤ highAt l i
+      → bits (i / word) ∋ i % word
+
+-- the sums over the first w of the sets
+pub record Adding (t : Ledger) (s m : ℕ) (bits : ℕ → ℕ) (w o a p : ℕ) : Type 0 where
+  pub opens : o ≡ sumTo w (λ v. overSet (bits v) (λ j. openAt t s m (word * v + j)))
+  pub seats : a ≡ sumTo w (λ v. overSet (bits v) (λ j. seatsAt t s m (word * v + j)))
+  pub places : p ≡ sumTo w (λ v. overSet (bits v) (λ j. placesAt t s m (word * v + j)))
+
+module _ (t : Ledger) (s m : ℕ) (bits : ℕ → ℕ) where
+  pub adding-start : Adding t s m bits 0 0 0 0
+  unfolding sumTo
+  adding-start = record { opens = refl; seats = refl; places = refl }
+
+  pub adding-next : {w o a p : ℕ} {r : Sums} → Adding t s m bits w o a p → SetAdded t s m (word * w) (bits w) r
+      → Adding t s m bits (w + 1) (o + r .«open») (a + r .seats) (p + r .places)
+  adding-next {w} u v = record {
+    opens = ap₂ _+_ (u .opens) (v .opens) ∙ sym (to-next w _);
+    seats = ap₂ _+_ (u .seats) (v .seats) ∙ sym (to-next w _);
+    places = ap₂ _+_ (u .places) (v .places) ∙ sym (to-next w _);
+  }
+
+  pub adding-small : Bounded t → {w o a p : ℕ} → Adding t s m bits w o a p
+      → (o ≤ w * (word * mostGiven)) × (a ≤ w * (word * mostGiven)) × (p ≤ w * (word * mostGiven))
+  adding-small b {w} u = (
+    omega (arith, u .opens, to-le w _ _ (λ v h. over-le (bits v) _ _ (λ j. small t s m b (word * v + j) .opens))),
+    omega (arith, u .seats, to-le w _ _ (λ v h. over-le (bits v) _ _ (λ j. small t s m b (word * v + j) .seats))),
+    omega (arith, u .places, to-le w _ _ (λ v h. over-le (bits v) _ _ (λ j. small t s m b (word * v + j) .places))),
+  )
+
+module _ (l : List ℕ) (s m : ℕ) (g : Good l) where
+  abbrev t : Ledger
+  t = ledgerOf l
+
+  -- a formula has nothing of a session that is not between its numbers
+  pub outside : (i : ℕ) → i < length (t .lines) → (s < lowAt l i) ⊎ (highAt l i < s) → gives s (formula t i) ≡ 0
+  outside i h o =
+      let z = g .spans i (omega (arith, lines-length l)) in
+      gives-none s (formula t i) (z seat s o) (z place s o)
+
+  module _ (bits : ℕ → ℕ) (k : Marks l s bits) where
+    -- a formula that has no bit
+    unmarked : (i : ℕ) → i < length (t .lines) → member (bits (i / word)) (i % word) ≡ false
+        → (s < lowAt l i) ⊎ (highAt l i < s)
+    unmarked i h e = go (decLe (lowAt l i) s) (decLe s (highAt l i))
+      where
+        go : Dec (lowAt l i ≤ s) → Dec (s ≤ highAt l i) → (s < lowAt l i) ⊎ (highAt l i < s)
+        go (yes p) (yes q) = absurd (true≢false (sym (k .marked i h p q) ∙ e))
+        go (no p) q = inl (omega arith)
+        go (yes p) (no q) = inr (omega arith)
+
+    marked-sum : (f : ℕ → ℕ) → ((i : ℕ) → seats s (formula t i) ≡ 0 → places s (formula t i) ≡ 0 → f i ≡ 0)
+        → overSets bits f ≡ sumTo (length (t .lines)) f
+    marked-sum f none = sets-sum bits f (length (t .lines)) (omega (arith, g .bounded .lines)) (k .within) away
+      where
+        away : (i : ℕ) → i < length (t .lines) → member (bits (i / word)) (i % word) ≡ false → f i ≡ 0
+        away i h e =
+            let z = g .spans i (omega (arith, lines-length l)) in
+            let o = unmarked i h e in
+            none i (z seat s o) (z place s o)
+
+    pub adding-all : {w : ℕ} {r : Sums} → w ≡ words → Adding t s m bits w (r .«open») (r .seats) (r .places)
+        → Added t s m r
+    unfolding openBy shutBy placedBy
+    adding-all {w} {r} e u =
+        let n = length (t .lines) in
+        record {
+          opens = u .opens ∙ ap (λ (x : ℕ). sumTo x _) e
+              ∙ marked-sum (openAt t s m) (λ i p q.
+              times-none _ (omega (arith, house-seats false s (formula t i))));
+          seats = u .seats ∙ ap (λ (x : ℕ). sumTo x _) e ∙ marked-sum (seatsAt t s m) (λ i p q. times-none _ p)
+              ∙ to-same n _ _ (λ i h. apart _ _ _ _ (omega (arith, house-seats false s (formula t i))))
+              ∙ to-plus n _ _;
+          places = u .places ∙ ap (λ (x : ℕ). sumTo x _) e ∙ marked-sum (placesAt t s m) (λ i p q. times-none _ q);
+        }
