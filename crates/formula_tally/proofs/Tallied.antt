@@ -3,17 +3,20 @@ use mathlib.Core.Path.{_≡_, refl, sym, ap, ap₂, _∙_}
 use mathlib.Core.List.{List}
 use mathlib.Core.Logic.{_⊎_, inl, inr}
 use mathlib.Core.Bool.{Bool, true, false, true≢false}
-use Prim.Native.Nat.{ℕ, _+_, _*_, _-_, _/_, _%_, _≤_, _<_}
+use Prim.Native.Nat.{ℕ, _+_, _*_, _-_, _/_, _%_, _^_, _≤_, _<_}
 use native.Mathlib.Omega.{arith}
 use native.Mathlib.Decide.{decLe}
 use native.Mathlib.Nat.{add-mul, mul-add, mul-zero, zero-mul, mul-le-mul-right, mul-le-mul-left}
 use lib.ListN.{length}
+use lib.Bits.{bitAnd, and-le-l}
+use lib.Count.{trailingZeros}
 use Rattle.logic.specs.Formula.{seat, place, size, seats, places, houseSeats}
 use Rattle.logic.proofs.Houses.{house-seats}
 use Rattle.ledger.specs.Ledger.{Ledger, formula}
 use Rattle.ledger.specs.Checks.{maxSize, maxLive}
 use Rattle.ledger.specs.Bounds.{Bounded}
 use Rattle.labels.specs.Labels.{member, _∋_}
+use Rattle.labels.proofs.Sets.{member-below}
 use Rattle.store_cells.specs.Layout.{lowAt, highAt}
 use Rattle.store.specs.Store.{ledgerOf, Good}
 use Rattle.store.proofs.Views.{lines-length}
@@ -21,10 +24,10 @@ use Rattle.formula_tally.specs.declared.Sums.{Sums}
 use Rattle.formula_tally.specs.Gives.{gives, seatsIn, placesIn, houseIn}
 use Rattle.formula_tally.specs.ByFormula.{singlesWith, singlesWithout, sumTo, openBy, shutBy, placedBy}
 use Rattle.formula_tally.specs.ByFormula.{openAt, seatsAt, placesAt, GivenBy, Added}
-use Rattle.formula_tally.specs.Sets.{word, words, overSet, overSets, SetAdded}
+use Rattle.formula_tally.specs.Sets.{word, words, overSet, overSets, Named, SetAdded}
 use Rattle.formula_tally.proofs.SumLaws.{to-same, to-plus, to-le, to-next}
 use Rattle.formula_tally.proofs.Giving.{count-le, gives-none, unpacked}
-use Rattle.formula_tally.proofs.SetSums.{over-le, sets-sum}
+use Rattle.formula_tally.proofs.SetSums.{lowest-in, and-member, over-next, over-none, over-le, sets-sum}
 use Rattle.formula_tally.proofs.Walks.{singles-few}
 
 -- Of one formula
@@ -85,6 +88,63 @@ module _ (t : Ledger) (s m : ℕ) where
         places = sym (times-none _ (sym (u .places-in) ∙ ap placesIn e));
       }
 
+-- Over one set
+
+-- of the bits of d, where bit j stands for formula base + j, those of `rest` are left
+pub record Left (t : Ledger) (s m base d rest o a p : ℕ) : Type 0 where
+  pub there : Named (length (t .lines)) base rest
+  pub within : rest ≤ d
+  pub opens : o + overSet rest (λ j. openAt t s m (base + j)) ≡ overSet d (λ j. openAt t s m (base + j))
+  pub seats : a + overSet rest (λ j. seatsAt t s m (base + j)) ≡ overSet d (λ j. seatsAt t s m (base + j))
+  pub places : p + overSet rest (λ j. placesAt t s m (base + j)) ≡ overSet d (λ j. placesAt t s m (base + j))
+
+module _ (t : Ledger) (s m base d : ℕ) where
+  pub left-start : Named (length (t .lines)) base d → Left t s m base d d 0 0 0
+  left-start n = record {
+    there = n;
+    within = omega arith;
+    opens = omega arith;
+    seats = omega arith;
+    places = omega arith;
+  }
+
+  pub left-end : {rest o a p : ℕ} → Left t s m base d rest o a p → rest ≡ 0
+      → SetAdded t s m base d record { «open» = o; seats = a; places = p }
+  left-end {rest} u e = record {
+    opens = omega (arith, u .opens, none (λ j. openAt t s m (base + j)));
+    seats = omega (arith, u .seats, none (λ j. seatsAt t s m (base + j)));
+    places = omega (arith, u .places, none (λ j. placesAt t s m (base + j)));
+  }
+    where
+      none : (f : ℕ → ℕ) → overSet rest f ≡ 0
+      none f = ap (λ (x : ℕ). overSet x f) e ∙ over-none f
+
+  module _ {rest o a p : ℕ} (u : Left t s m base d rest o a p) (h : 0 < rest) (l : rest < 2 ^ word) where
+    -- the next formula
+    pub next : base + trailingZeros word rest < length (t .lines)
+    next =
+        let i = lowest-in word rest h l in
+        u .there (trailingZeros word rest) (member-below rest word _ l i) i
+
+    module _ {r : Sums} (v : GivenBy t s m (base + trailingZeros word rest) r) where
+      pub left-next : Left t s m base d (bitAnd rest (rest - 1)) (o + r .«open») (a + r .seats) (p + r .places)
+      left-next = record {
+        there = λ j q i. u .there j q (and-member rest (rest - 1) j i);
+        within = omega (arith, and-le-l rest (rest - 1), u .within);
+        opens = omega (arith, u .opens, v .opens, over-next rest (λ j. openAt t s m (base + j)) h l);
+        seats = omega (arith, u .seats, v .seats, over-next rest (λ j. seatsAt t s m (base + j)) h l);
+        places = omega (arith, u .places, v .places, over-next rest (λ j. placesAt t s m (base + j)) h l);
+      }
+
+      pub left-small : Bounded t → (o + r .«open» ≤ word * mostGiven) × (a + r .seats ≤ word * mostGiven)
+          × (p + r .places ≤ word * mostGiven)
+      left-small b =
+          let limit : (k : ℕ) → Small t s m (base + k) = λ k. small t s m b (base + k) in (
+            omega (arith, left-next .opens, over-le d mostGiven _ (λ k. limit k .opens)),
+            omega (arith, left-next .seats, over-le d mostGiven _ (λ k. limit k .seats)),
+            omega (arith, left-next .places, over-le d mostGiven _ (λ k. limit k .places)),
+          )
+
 -- Over sets
 
 -- the sets have a bit for each formula that may have an atom of the session, and none for what is no formula
@@ -142,8 +202,11 @@ module _ (l : List ℕ) (s m : ℕ) (g : Good l) where
         go (yes p) (no q) = inr (omega arith)
 
     marked-sum : (f : ℕ → ℕ) → ((i : ℕ) → seats s (formula t i) ≡ 0 → places s (formula t i) ≡ 0 → f i ≡ 0)
-        → overSets bits f ≡ sumTo (length (t .lines)) f
-    marked-sum f none = sets-sum bits f (length (t .lines)) (omega (arith, g .bounded .lines)) (k .within) away
+        → {w x : ℕ} → w ≡ words → x ≡ sumTo w (λ v. overSet (bits v) (λ j. f (word * v + j)))
+        → x ≡ sumTo (length (t .lines)) f
+    marked-sum f none e h =
+        h ∙ ap (λ (x : ℕ). sumTo x (λ v. overSet (bits v) (λ j. f (word * v + j)))) e
+        ∙ sets-sum bits f (length (t .lines)) (omega (arith, g .bounded .lines)) (k .within) away
       where
         away : (i : ℕ) → i < length (t .lines) → member (bits (i / word)) (i % word) ≡ false → f i ≡ 0
         away i h e =
@@ -157,11 +220,10 @@ module _ (l : List ℕ) (s m : ℕ) (g : Good l) where
     adding-all {w} {r} e u =
         let n = length (t .lines) in
         record {
-          opens = u .opens ∙ ap (λ (x : ℕ). sumTo x _) e
-              ∙ marked-sum (openAt t s m) (λ i p q.
-              times-none _ (omega (arith, house-seats false s (formula t i))));
-          seats = u .seats ∙ ap (λ (x : ℕ). sumTo x _) e ∙ marked-sum (seatsAt t s m) (λ i p q. times-none _ p)
+          opens = marked-sum (openAt t s m)
+              (λ i p q. times-none _ (omega (arith, house-seats false s (formula t i)))) e (u .opens);
+          seats = marked-sum (seatsAt t s m) (λ i p q. times-none _ p) e (u .seats)
               ∙ to-same n _ _ (λ i h. apart _ _ _ _ (omega (arith, house-seats false s (formula t i))))
               ∙ to-plus n _ _;
-          places = u .places ∙ ap (λ (x : ℕ). sumTo x _) e ∙ marked-sum (placesAt t s m) (λ i p q. times-none _ q);
+          places = marked-sum (placesAt t s m) (λ i p q. times-none _ q) e (u .places);
         }
