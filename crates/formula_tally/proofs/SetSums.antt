@@ -6,7 +6,7 @@ use Prim.Native.Nat.{ℕ, zero, suc, _+_, _-_, _*_, _/_, _%_, _^_, _≤_, _<_, m
 use native.Mathlib.Omega.{arith}
 use native.Mathlib.Nat.{pow-suc, div-one}
 use lib.Dec.{eqb}
-use lib.Pow.{shr-shr}
+use lib.Pow.{pow-pos, shr-shr}
 use lib.Bits.{bitAnd, and-step, and-self, and-shr}
 use lib.Count.{trailingZeros, under}
 use borrow.Author.Tests.{eqb-true, eq-eqb}
@@ -17,7 +17,7 @@ use Rattle.labels.specs.Labels.{member, remove, _∋_, later, prepend, pick}
 use Rattle.labels.proofs.Sets.{removed, member-below}
 use Rattle.labels.proofs.Pick.{pick-empty, pick-remove}
 use Rattle.formula_tally.specs.ByFormula.{sumTo}
-use Rattle.formula_tally.specs.Sets.{word, words, overSet, overSets}
+use Rattle.formula_tally.specs.Sets.{word, words, overSet, overSets, linesIn}
 use Rattle.formula_tally.proofs.SumLaws.{to-same, to-zero, to-le, to-first, to-append, to-end}
 
 -- Bits
@@ -146,3 +146,23 @@ module _ (bits f : ℕ → ℕ) where
       here : (k : ℕ) → k < n → (b : Bool) → member (bits (k / word)) (k % word) ≡ b → only b (f k) ≡ f k
       here k h true e = refl
       here k h false e = sym (without k h e)
+
+-- The lowest bits
+
+ones-in : (c j : ℕ) → j < c → (2 ^ c - 1) / 2 ^ j % 2 ≡ 1
+ones-in zero j h = absurd (omega arith)
+ones-in (suc c) zero h = ap (_% 2) (div-one _) ∙ (omega (arith, pow-suc 2 c, pow-pos c))
+ones-in (suc c) (suc j) h =
+    let e : (2 ^ suc c - 1) / 2 ≡ 2 ^ c - 1 = omega (arith, pow-suc 2 c) in
+    half-bit (2 ^ suc c - 1) j ∙ ap (λ (x : ℕ). x / 2 ^ j % 2) e ∙ ones-in c j (omega arith)
+
+-- bit j of `linesIn n w` is set where formula word * w + j is below n
+pub lines-there : (n w j : ℕ) → linesIn n w ∋ j → word * w + j < n
+unfolding linesIn
+lines-there n w j h =
+    let c = min (n - word * w) word in
+    omega (arith, member-below (2 ^ c - 1) c j (omega (arith, pow-pos c)) h)
+
+pub lines-marked : (n i : ℕ) → i < n → linesIn n (i / word) ∋ i % word
+unfolding linesIn
+lines-marked n i h = eq-eqb _ _ (ones-in (min (n - word * (i / word)) word) (i % word) (omega arith))

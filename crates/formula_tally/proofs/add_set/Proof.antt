@@ -46,8 +46,8 @@ small c =
     let k = c .before in
     let s = k .before .before in
     let f = left-small (ledgerOf (now (s .args .store))) (s .args .session) (s .args .minute) (s .args .base)
-        (s .args .bits) (k .before .loop .inv) (k .loop-test .taken) (wide k) (c .given-by .ensures)
-        (s .pre .0 .bounded) in
+    (s .args .bits) (k .before .loop .inv) (k .loop-test .taken) (wide k) (c .given-by .ensures)
+    (s .pre .0 .bounded) in
     record { opens = f .0; seats = f .1; places = f .2 }
 
 loop-holds : tie.Need-loop-holds Inv-loop μ-loop

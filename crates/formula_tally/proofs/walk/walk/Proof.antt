@@ -78,7 +78,7 @@ loop-less c =
     let t = c .before .before .before .before .before .before in
     let s = t .before .before in
     let e = sizes-next (ledgerOf (now (s .args .store))) (s .args .session) (s .pre .0 .bounded) (t .before .loop .inv)
-        (t .loop-test .taken) o in
+    (t .loop-test .taken) o in
     rw (c .push .ensures .0, c .push .ensures .1) (omega (arith, e))
 
 loop-again : tie.Need-loop-again Inv-loop μ-loop

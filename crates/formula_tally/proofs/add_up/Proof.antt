@@ -1,0 +1,109 @@
+-- `add_up` meets its contract. The loop: the sums over the first w of the sets.
+use mathlib.Core.Path.{_≡_, sym, subst}
+use mathlib.Core.List.{List}
+use Prim.Native.Nat.{ℕ, _+_, _*_, _-_, _≤_, _<_}
+use native.Mathlib.Omega.{arith}
+use borrow.Author.Needs.{needs}
+use lib.ListN.{length}
+use denote.Ref.{now}
+use Rattle.store.specs.Store.{ledgerOf}
+use Rattle.formula_tally.specs.ByFormula.{Added}
+use Rattle.formula_tally.specs.Sets.{word, words, linesIn, Named, SetAdded}
+use Rattle.formula_tally.proofs.SetSums.{lines-there, lines-marked}
+use Rattle.formula_tally.proofs.Tallied.{mostGiven, Marks, Adding, adding-start, adding-next, adding-small}
+use Rattle.formula_tally.proofs.Tallied.{adding-all}
+use Rattle.formula_tally.proofs.add_up.Statement.{statement}
+use Rattle.formula_tally.proofs.add_up.Tie as tie
+
+-- the sets, of a store and a session
+abbrev sets : List ℕ → ℕ → ℕ → ℕ
+sets l s w = linesIn (length (ledgerOf l .lines)) w
+
+marks : (l : List ℕ) (s : ℕ) → Marks l s (sets l s)
+marks l s =
+    let n = length (ledgerOf l .lines) in
+    record { within = λ w j p q i. lines-there n w j i; marked = λ i h p q. lines-marked n i h }
+
+abbrev Inv-loop : tie.InvT-loop
+Inv-loop store session minute open₀ seats₀ places₀ w₀ «open» seats places w =
+    (w ≤ words) × Adding (ledgerOf store) session minute (sets store session) w «open» seats places
+
+abbrev μ-loop : tie.MeasureT-loop
+μ-loop store session minute open₀ seats₀ places₀ w₀ «open» seats places w = words - w
+
+loop-holds : tie.Need-loop-holds Inv-loop μ-loop
+loop-holds c =
+    let l = now (c .args .store) in
+    (omega arith, adding-start (ledgerOf l) (c .args .session) (c .args .minute) (sets l (c .args .session)))
+
+add-set-requires : tie.Need-add-set-requires Inv-loop μ-loop
+add-set-requires c κs =
+    let t = c .before in
+    let s = t .before .before in
+    let l = now (s .args .store) in
+    let w = t .before .loop .w in (
+      s .pre,
+      subst (Named (length (ledgerOf l .lines)) (word * w)) (sym (c .lines-in .ensures))
+          (λ j q i. marks l (s .args .session) .within w j (t .loop-test .taken) q i),
+    )
+
+-- the sums with one set more
+added : (c : tie.After-add-set Inv-loop μ-loop)
+    → (let at = c .before .before .before in
+    let l = now (at .before .args .store) in
+    let r = c .add-set .result in
+    Adding (ledgerOf l) (at .before .args .session) (at .before .args .minute) (sets l (at .before .args .session))
+    (at .loop .w + 1) (at .loop .«open» + r .«open») (at .loop .seats + r .seats) (at .loop .places + r .places))
+added c =
+    let at = c .before .before .before in
+    let s = at .before in
+    let l = now (s .args .store) in
+    let t = ledgerOf l in
+    adding-next t (s .args .session) (s .args .minute) (sets l (s .args .session)) (at .loop .inv .1)
+    (subst (λ (d : ℕ). SetAdded t (s .args .session) (s .args .minute) (word * at .loop .w) d (c .add-set .result))
+    (c .before .lines-in .ensures) (c .add-set .ensures))
+
+-- they fit
+record Small (c : tie.After-add-set Inv-loop μ-loop) : Type 0 where
+  opens : c .before .before .before .loop .«open» + c .add-set .result .«open» ≤ words * (word * mostGiven)
+  seats : c .before .before .before .loop .seats + c .add-set .result .seats ≤ words * (word * mostGiven)
+  places : c .before .before .before .loop .places + c .add-set .result .places ≤ words * (word * mostGiven)
+
+small : (c : tie.After-add-set Inv-loop μ-loop) → Small c
+small c =
+    let t = c .before .before in
+    let h = t .loop-test .taken in
+    let s = t .before .before in
+    let l = now (s .args .store) in
+    let f = adding-small (ledgerOf l) (s .args .session) (s .args .minute) (sets l (s .args .session))
+    (s .pre .bounded) (added c) in
+    record { opens = omega (arith, f .0); seats = omega (arith, f .1); places = omega (arith, f .2) }
+
+returns : tie.Need-returns Inv-loop μ-loop
+returns c =
+    let at = c .before in
+    let s = at .before in
+    let l = now (s .args .store) in
+    let h = c .loop-test .left in
+    let e : at .loop .w ≡ words = omega (arith, at .loop .inv .0) in
+    adding-all l (s .args .session) (s .args .minute) (s .pre) (sets l (s .args .session)) (marks l (s .args .session)) e
+    (at .loop .inv .1)
+
+pub add-up-spec : {M : Type 1} → statement M
+add-up-spec =
+    tie.close
+    (tie.spec
+    Inv-loop
+    μ-loop
+    loop-holds
+    (λ c κs. c .loop-test .taken)
+    (λ c. let h = c .before .loop-test .taken in omega arith)
+    add-set-requires
+    (λ c. omega (arith, small (c .before) .opens))
+    (λ c. omega (arith, small (c .before .before) .seats))
+    (λ c. omega (arith, small (c .before .before .before) .places))
+    (λ c. let h = c .before .before .before .before .before .loop-test .taken in omega arith)
+    (λ c. let h = c .before .before .before .before .before .loop-test .taken in omega arith)
+    (λ c. let h = c .before .before .before .before .before .loop-test .taken in
+    (omega arith, added (c .before .before .before)))
+    returns)
