@@ -1,7 +1,7 @@
 -- Sums over the bits of a set: one bit after another, the lowest first; and over sets that have a bit for each number.
 use mathlib.Core.Path.{_≡_, refl, sym, ap, ap₂, _∙_}
-use mathlib.Core.List.{List, [], _∷_}
-use mathlib.Core.Bool.{Bool, true, false, true≢false}
+use mathlib.Core.List.{List}
+use mathlib.Core.Bool.{Bool, true, false}
 use Prim.Native.Nat.{ℕ, zero, suc, _+_, _-_, _*_, _/_, _%_, _^_, _≤_, _<_, min}
 use native.Mathlib.Omega.{arith}
 use native.Mathlib.Nat.{pow-suc, div-one}
@@ -18,7 +18,7 @@ use Rattle.labels.proofs.Sets.{removed, member-below}
 use Rattle.labels.proofs.Pick.{pick-empty, pick-remove}
 use Rattle.formula_tally.specs.ByFormula.{sumTo}
 use Rattle.formula_tally.specs.Sets.{word, words, overSet, overSets, linesIn}
-use Rattle.formula_tally.proofs.SumLaws.{to-same, to-zero, to-le, to-first, to-append, to-end}
+use Rattle.formula_tally.proofs.SumLaws.{to-same, to-le, to-first, to-append, to-end}
 
 -- Bits
 

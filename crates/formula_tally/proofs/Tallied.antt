@@ -2,7 +2,7 @@
 use mathlib.Core.Path.{_≡_, refl, sym, ap, ap₂, _∙_}
 use mathlib.Core.List.{List}
 use mathlib.Core.Logic.{_⊎_, inl, inr}
-use mathlib.Core.Bool.{Bool, true, false, true≢false}
+use mathlib.Core.Bool.{false, true≢false}
 use Prim.Native.Nat.{ℕ, _+_, _*_, _-_, _/_, _%_, _^_, _≤_, _<_}
 use native.Mathlib.Omega.{arith}
 use native.Mathlib.Decide.{decLe}
@@ -10,7 +10,7 @@ use native.Mathlib.Nat.{add-mul, mul-add, mul-zero, zero-mul, mul-le-mul-right, 
 use lib.ListN.{length}
 use lib.Bits.{bitAnd, and-le-l}
 use lib.Count.{trailingZeros}
-use Rattle.logic.specs.Formula.{seat, place, size, seats, places, houseSeats}
+use Rattle.logic.specs.Formula.{seat, place, size, seats, places}
 use Rattle.logic.proofs.Houses.{house-seats}
 use Rattle.ledger.specs.Ledger.{Ledger, formula}
 use Rattle.ledger.specs.Checks.{maxSize, maxLive}
@@ -24,7 +24,7 @@ use Rattle.formula_tally.specs.declared.Sums.{Sums}
 use Rattle.formula_tally.specs.Gives.{gives, seatsIn, placesIn, houseIn}
 use Rattle.formula_tally.specs.ByFormula.{singlesWith, singlesWithout, sumTo, openBy, shutBy, placedBy}
 use Rattle.formula_tally.specs.ByFormula.{openAt, seatsAt, placesAt, GivenBy, Added}
-use Rattle.formula_tally.specs.Sets.{word, words, overSet, overSets, Named, SetAdded}
+use Rattle.formula_tally.specs.Sets.{word, words, overSet, Named, SetAdded}
 use Rattle.formula_tally.proofs.SumLaws.{to-same, to-plus, to-le, to-next}
 use Rattle.formula_tally.proofs.Giving.{count-le, gives-none, unpacked}
 use Rattle.formula_tally.proofs.SetSums.{lowest-in, and-member, over-next, over-none, over-le, sets-sum}

@@ -3,7 +3,7 @@
 use mathlib.Core.Path.{_≡_, refl, sym, ap, ap₂, subst, _∙_}
 use mathlib.Core.List.{List, [], _∷_}
 use mathlib.Core.Bool.{Bool, true, false}
-use Prim.Native.Nat.{ℕ, zero, suc, _+_, _*_, _-_, _/_, _%_, _≤_, _<_}
+use Prim.Native.Nat.{ℕ, _+_, _*_, _-_, _/_, _%_, _≤_, _<_}
 use native.Mathlib.Omega.{arith}
 use native.Mathlib.Nat.{add-zero}
 use native.Mathlib.Decide.{decLt}
@@ -16,7 +16,7 @@ use Rattle.logic.specs.Multiset.{Every, sum}
 use Rattle.logic.proofs.Tests.{bit-le}
 use Rattle.logic.proofs.Multisets.{every-map}
 use Rattle.steps.specs.declared.Row.{Row}
-use Rattle.ledger.specs.Table.{names, rowOf}
+use Rattle.ledger.specs.Table.{rowOf}
 use Rattle.ledger.specs.Ledger.{Ledger, formula}
 use Rattle.ledger.specs.Checks.{maxSize, maxFormulas}
 use Rattle.ledger.specs.Bounds.{lineAt, There, Bounded}

@@ -20,8 +20,8 @@ pub const PLACE_UNIT: u32 = BYTE;
 
 pub const HOUSE_UNIT: u32 = BYTE * PLACE_UNIT;
 
-// The parts that are still to be looked at: each is twice the formula's number, and one more where the nearest ⟨K⟩ above
-// it is the house's. A formula has no more of them than its size.
+// The parts that are still to be looked at: each is twice the formula's number, and one more where the nearest ⟨K⟩
+// above it is the house's. A formula has no more of them than its size.
 const ROOM: usize = ledger::MAX_SIZE as usize;
 
 type Pending = [u32; ROOM];
@@ -77,6 +77,7 @@ fn push(pending: &mut Pending, left: u32, parts: Parts, above: u32) -> u32
     }
 }
 
+// What one single of a formula gives.
 pub fn walk(store: &Store, formula: u32, session: u32) -> u32
     requires { ⌜ Good (now store) × (formula < length (ledgerOf (now store) .lines)) ⌝ }
     ensures { λ r. ⌜ r ≡ gives session (formulaOf (ledgerOf (now (store .entry))) formula) ⌝ }

@@ -1,13 +1,11 @@
 -- `add_up` meets its contract. The loop: the sums over the first w of the sets.
 use mathlib.Core.Path.{_≡_, sym, subst}
 use mathlib.Core.List.{List}
-use Prim.Native.Nat.{ℕ, _+_, _*_, _-_, _≤_, _<_}
+use Prim.Native.Nat.{ℕ, _+_, _*_, _-_, _≤_}
 use native.Mathlib.Omega.{arith}
-use borrow.Author.Needs.{needs}
 use lib.ListN.{length}
 use denote.Ref.{now}
 use Rattle.store.specs.Store.{ledgerOf}
-use Rattle.formula_tally.specs.ByFormula.{Added}
 use Rattle.formula_tally.specs.Sets.{word, words, linesIn, Named, SetAdded}
 use Rattle.formula_tally.proofs.SetSums.{lines-there, lines-marked}
 use Rattle.formula_tally.proofs.Tallied.{mostGiven, Marks, Adding, adding-start, adding-next, adding-small}
@@ -86,8 +84,8 @@ returns c =
     let l = now (s .args .store) in
     let h = c .loop-test .left in
     let e : at .loop .w ≡ words = omega (arith, at .loop .inv .0) in
-    adding-all l (s .args .session) (s .args .minute) (s .pre) (sets l (s .args .session)) (marks l (s .args .session)) e
-    (at .loop .inv .1)
+    adding-all l (s .args .session) (s .args .minute) (s .pre) (sets l (s .args .session))
+    (marks l (s .args .session)) e (at .loop .inv .1)
 
 pub add-up-spec : {M : Type 1} → statement M
 add-up-spec =

@@ -1,9 +1,9 @@
 -- `given_by` meets its contract.
 use mathlib.Core.Path.{_≡_, sym, ap, ap₂, _∙_}
-use Prim.Native.Nat.{ℕ, _+_, _*_, _/_, _%_}
+use Prim.Native.Nat.{_+_, _*_, _/_, _%_}
 use native.Mathlib.Omega.{arith}
 use denote.Ref.{now}
-use Rattle.ledger.specs.Ledger.{Ledger, formula}
+use Rattle.ledger.specs.Ledger.{formula}
 use Rattle.store.specs.Store.{ledgerOf}
 use Rattle.formula_tally.specs.Gives.{byte, placeUnit, houseUnit, seatsIn, placesIn, houseIn}
 use Rattle.formula_tally.specs.ByFormula.{openAt, seatsAt, placesAt}

@@ -1,6 +1,6 @@
 -- `lines_in` meets its contract.
 use mathlib.Core.Path.{_≡_, sym, ap, _∙_}
-use Prim.Native.Nat.{ℕ, _-_, _*_, _^_, _<_, _%_, min}
+use Prim.Native.Nat.{ℕ, _-_, _*_, _^_, _%_, min}
 use native.Mathlib.Omega.{arith}
 use native.Mathlib.Nat.{one-mul}
 use borrow.Author.Needs.{needs}

@@ -1,6 +1,6 @@
 -- `walk` meets its contract. The loop: what has been found and what is left give what the formula gives.
-use mathlib.Core.Path.{_≡_, sym, ap, _∙_}
-use Prim.Native.Nat.{_+_, _-_, _/_, _≤_}
+use mathlib.Core.Path.{_≡_, sym, _∙_}
+use Prim.Native.Nat.{_-_, _/_, _≤_}
 use native.Mathlib.Omega.{arith}
 use borrow.Author.Needs.{needs}
 use denote.Ref.{now}
@@ -18,7 +18,8 @@ Inv-loop store formula session pending₀ left₀ sum₀ pending left sum =
     Walking (ledgerOf store) session formula pending left sum
 
 abbrev μ-loop : tie.MeasureT-loop
-μ-loop store formula session pending₀ left₀ sum₀ pending left sum = over (itemSize (ledgerOf store) session) pending left
+μ-loop store formula session pending₀ left₀ sum₀ pending left sum =
+    over (itemSize (ledgerOf store) session) pending left
 
 loop-holds : tie.Need-loop-holds Inv-loop μ-loop
 loop-holds c =
