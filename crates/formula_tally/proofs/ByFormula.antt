@@ -7,7 +7,7 @@ use native.Mathlib.Omega.{arith}
 use native.Mathlib.Nat.{add-mul, one-mul, zero-mul, mul-zero, mul-one}
 use native.Mathlib.Decide.{decLt}
 use lib.Dec.{eqb, ltb}
-use lib.ListN.{length}
+use lib.ListN.{length, List·getD-eq-default}
 use borrow.Author.Tests.{eqb-true, eqb-false, ne-eqb, eq-eqb, ltb-true, ltb-false}
 use Rattle.logic.specs.Interval.{has}
 use Rattle.logic.specs.Formula.{Formula, one, bit, count, seats, places, houseUnder, houseSeats}
@@ -15,26 +15,13 @@ use Rattle.logic.specs.Multiset.{sum}
 use Rattle.request.specs.declared.Kind.{Kind}
 use Rattle.request.specs.declared.Kind.the-variants.{Linear, Unrestricted}
 use Rattle.ledger.specs.declared.Credential.{Credential}
-use Rattle.ledger.specs.Ledger.{formula, byKind}
+use Rattle.ledger.specs.Table.{formulas}
+use Rattle.ledger.specs.Ledger.{Ledger, formula, byKind}
 use Rattle.ledger.specs.Calls.{openIn, shutIn, openSeats, shutSeats, placed}
+use Rattle.ledger.proofs.FormulaTable.{formulas-length}
 use Rattle.formula_tally.specs.ByFormula.{withOf, withoutOf, singlesWith, singlesWithout, sumTo, openBy, shutBy}
 use Rattle.formula_tally.specs.ByFormula.{placedBy, ByFormula}
-use Rattle.formula_tally.proofs.Columns.{formula-past}
-
-pub to-same : (n : ℕ) (f g : ℕ → ℕ) → ((k : ℕ) → k < n → f k ≡ g k) → sumTo n f ≡ sumTo n g
-unfolding sumTo
-to-same zero f g e = refl
-to-same (suc n) f g e = ap₂ _+_ (to-same n f g (λ k h. e k (omega arith))) (e n (omega arith))
-
-pub to-plus : (n : ℕ) (f g : ℕ → ℕ) → sumTo n (λ k. f k + g k) ≡ sumTo n f + sumTo n g
-unfolding sumTo
-to-plus zero f g = refl
-to-plus (suc n) f g = omega (arith, to-plus n f g)
-
-pub to-zero : (n : ℕ) (f : ℕ → ℕ) → ((k : ℕ) → k < n → f k ≡ 0) → sumTo n f ≡ 0
-unfolding sumTo
-to-zero zero f e = refl
-to-zero (suc n) f e = omega (arith, to-zero n f (λ k h. e k (omega arith)), e n (omega arith))
+use Rattle.formula_tally.proofs.SumLaws.{to-same, to-plus, to-zero}
 
 -- one formula's
 miss : (v k n : ℕ) (x : ℕ) → (k ≡ n → ⊥) → (v * bit (eqb k n)) * x ≡ 0
@@ -124,7 +111,10 @@ places-is s a Linear true = omega (arith, one-mul (places s a), zero-mul (places
 places-is s a Linear false = omega (arith, zero-mul (places s a), one-mul (places s a))
 places-is s a Unrestricted b = omega (arith, zero-mul (places s a))
 
--- 1 has nothing
+-- a number that no line has reads as 1, which has nothing
+formula-past : (t : Ledger) (k : ℕ) → length (t .lines) ≤ k → formula t k ≡ one
+formula-past t k le = List·getD-eq-default (formulas (t .lines)) one {n = k} (omega (arith, formulas-length (t .lines)))
+
 none-in-one : (s : ℕ) → (seats s one ≡ 0) × (places s one ≡ 0) × (houseSeats s one ≡ 0)
 unfolding count houseUnder
 none-in-one s = (refl, refl, refl)

@@ -1,6 +1,7 @@
-pub mod Columns
-pub mod CountLimits
-pub mod Counting
+pub mod SumLaws
+pub mod Giving
+pub mod Walking
 pub mod ByFormula
+pub mod SetSums
 pub mod Walks
 pub mod Tallied

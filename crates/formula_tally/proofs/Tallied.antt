@@ -1,123 +1,229 @@
--- Counts × what one single gives, row by row, are the figures of a tally.
-use mathlib.Core.Path.{_≡_, refl, sym, ap, _∙_}
+-- Counts × what one single gives, over sets that have each formula of the session, are the figures of a tally.
+use mathlib.Core.Path.{_≡_, refl, sym, ap, ap₂, _∙_}
 use mathlib.Core.List.{List}
-use mathlib.Core.Logic.{_⊎_}
-use mathlib.Core.Bool.{true, false}
-use Prim.Native.Nat.{ℕ, _+_, _*_, _-_, _≤_, _<_}
+use mathlib.Core.Logic.{_⊎_, inl, inr}
+use mathlib.Core.Bool.{false, true≢false}
+use Prim.Native.Nat.{ℕ, _+_, _*_, _-_, _/_, _%_, _^_, _≤_, _<_}
 use native.Mathlib.Omega.{arith}
-use native.Mathlib.Numerals.{add-one}
-use native.Mathlib.Nat.{add-mul, mul-add}
-use lib.ListN.{length, set}
-use lib.Seq.{getD-set-same}
-use Rattle.logic.specs.Formula.{Formula, seat, place, seats, places, houseSeats}
+use native.Mathlib.Decide.{decLe}
+use native.Mathlib.Nat.{add-mul, mul-add, mul-zero, zero-mul, mul-le-mul-right, mul-le-mul-left}
+use lib.ListN.{length}
+use lib.Bits.{bitAnd, and-le-l}
+use lib.Count.{trailingZeros}
+use Rattle.logic.specs.Formula.{seat, place, size, seats, places}
 use Rattle.logic.proofs.Houses.{house-seats}
 use Rattle.ledger.specs.Ledger.{Ledger, formula}
-use Rattle.ledger.specs.Checks.{maxFormulas}
-use Rattle.store_cells.specs.Layout.{rowAt, lowAt, highAt}
+use Rattle.ledger.specs.Checks.{maxSize, maxLive}
+use Rattle.ledger.specs.Bounds.{Bounded}
+use Rattle.labels.specs.Labels.{member, _∋_}
+use Rattle.labels.proofs.Sets.{member-below}
+use Rattle.store_cells.specs.Layout.{lowAt, highAt}
 use Rattle.store.specs.Store.{ledgerOf, Good}
 use Rattle.store.proofs.Views.{lines-length}
 use Rattle.formula_tally.specs.declared.Sums.{Sums}
-use Rattle.formula_tally.specs.Column.{entry}
-use Rattle.formula_tally.specs.Tally.{counts, seatsIn, placesIn, houseIn, rowCounts, Counted}
+use Rattle.formula_tally.specs.Gives.{gives, seatsIn, placesIn, houseIn}
 use Rattle.formula_tally.specs.ByFormula.{singlesWith, singlesWithout, sumTo, openBy, shutBy, placedBy}
-use Rattle.formula_tally.specs.ByFormula.{mostGiven, GivenBy, Added}
-use Rattle.formula_tally.proofs.Columns.{early-is}
-use Rattle.formula_tally.proofs.Counting.{counted-next}
-use Rattle.formula_tally.proofs.CountLimits.{Unpacked, unpacked}
-use Rattle.formula_tally.proofs.ByFormula.{to-same, to-plus}
+use Rattle.formula_tally.specs.ByFormula.{openAt, seatsAt, placesAt, GivenBy, Added}
+use Rattle.formula_tally.specs.Sets.{word, words, overSet, Named, SetAdded}
+use Rattle.formula_tally.proofs.SumLaws.{to-same, to-plus, to-le, to-next}
+use Rattle.formula_tally.proofs.Giving.{count-le, gives-none, unpacked}
+use Rattle.formula_tally.proofs.SetSums.{lowest-in, and-member, over-next, over-none, over-le, sets-sum}
+use Rattle.formula_tally.proofs.Walks.{singles-few}
 
--- what is open and what is shut, of one formula
+-- Of one formula
+
+-- what is open and what is shut
 apart : (w v a h : ℕ) → h ≤ a → (w + v) * a ≡ w * h + (w * (a - h) + v * a)
 apart w v a h le =
     let e : w * a ≡ w * h + w * (a - h) = ap (w *_) (omega arith) ∙ mul-add w h (a - h) in
     omega (arith, add-mul w v a)
 
--- count × figure of formula k
-abbrev openAt : Ledger → ℕ → ℕ → ℕ → ℕ
-openAt t s m k = singlesWith t m k * houseSeats s (formula t k)
+times-none : (a : ℕ) {b : ℕ} → b ≡ 0 → a * b ≡ 0
+times-none a e = ap (a *_) e ∙ mul-zero a
 
-abbrev seatsAt : Ledger → ℕ → ℕ → ℕ → ℕ
-seatsAt t s m k = (singlesWith t m k + singlesWithout t m k) * seats s (formula t k)
+none-times : {a : ℕ} (b : ℕ) → a ≡ 0 → a * b ≡ 0
+none-times b e = ap (_* b) e ∙ zero-mul b
 
-abbrev placesAt : Ledger → ℕ → ℕ → ℕ → ℕ
-placesAt t s m k = (singlesWith t m k + singlesWithout t m k) * places s (formula t k)
+-- the most that a formula gives
+abbrev pub mostGiven : ℕ
+mostGiven = maxLive * maxSize
 
--- the sums over the formulas below i
-pub record Adding (t : Ledger) (s m i o a p : ℕ) : Type 0 where
-  pub opens : o ≡ sumTo i (openAt t s m)
-  pub seats : a ≡ sumTo i (seatsAt t s m)
-  pub places : p ≡ sumTo i (placesAt t s m)
-  pub small : (o ≤ i * mostGiven) × (a ≤ i * mostGiven) × (p ≤ i * mostGiven)
+product-small : (a b : ℕ) → a ≤ maxLive → b ≤ maxSize → a * b ≤ mostGiven
+product-small a b h k = omega (arith, mul-le-mul-right b h, mul-le-mul-left maxLive k)
 
-pub adding-start : (t : Ledger) (s m : ℕ) → Adding t s m 0 0 0 0
-unfolding sumTo
-adding-start t s m = record {
-  opens = refl;
-  seats = refl;
-  places = refl;
-  small = (omega arith, omega arith, omega arith);
-}
+abbrev nothing : Sums
+nothing = record { «open» = 0; seats = 0; places = 0 }
 
-counts-none : (s : ℕ) (a : Formula) → seats s a ≡ 0 → places s a ≡ 0 → counts s a ≡ 0
-unfolding counts
-counts-none s a e f = omega (arith, house-seats false s a, house-seats true s a)
+module _ (t : Ledger) (s m : ℕ) where
+  pub record Small (k : ℕ) : Type 0 where
+    pub opens : openAt t s m k ≤ mostGiven
+    pub seats : seatsAt t s m k ≤ mostGiven
+    pub places : placesAt t s m k ≤ mostGiven
 
-to-next : (f : ℕ → ℕ) (i o v : ℕ) → o ≡ sumTo i f → v ≡ f i → o + v ≡ sumTo (i + 1) f
-unfolding sumTo
-to-next f i o v e h =
-    let n : o + v ≡ sumTo i f + f i = omega arith in
-    n ∙ sym (ap (λ (k : ℕ). sumTo k f) (add-one i))
+  pub small : Bounded t → (k : ℕ) → Small k
+  small b k =
+      let f = singles-few m k t in
+      let z = b .sizes k in
+      let p = count-le seat s (formula t k) in
+      record {
+        opens = product-small _ _ (omega (arith, f, b .live)) (omega (arith, house-seats false s (formula t k)));
+        seats = product-small _ _ (omega (arith, f, b .live)) (omega arith);
+        places = product-small _ _ (omega (arith, f, b .live)) (omega (arith, count-le place s (formula t k)));
+      }
 
-times-same : (x : ℕ) {y z : ℕ} → y ≡ z → x * y ≡ x * z
-times-same x e = ap (x *_) e
+  -- nothing is given where there are no singles, and where one gives nothing
+  pub no-singles : (k : ℕ) → 0 ≡ singlesWith t m k → 0 ≡ singlesWithout t m k → GivenBy t s m k nothing
+  no-singles k e f = record {
+    opens = sym (none-times _ (sym e));
+    seats = sym (none-times _ (omega (arith, e, f)));
+    places = sym (none-times _ (omega (arith, e, f)));
+  }
+
+  pub no-counts : (k : ℕ) → size (formula t k) ≤ maxSize → gives s (formula t k) ≡ 0 → GivenBy t s m k nothing
+  no-counts k le e =
+      let u = unpacked s (formula t k) le in
+      record {
+        opens = sym (times-none _ (sym (u .house-in) ∙ ap houseIn e));
+        seats = sym (times-none _ (sym (u .seats-in) ∙ ap seatsIn e));
+        places = sym (times-none _ (sym (u .places-in) ∙ ap placesIn e));
+      }
+
+-- Over one set
+
+-- of the bits of d, where bit j stands for formula base + j, those of `rest` are left
+pub record Left (t : Ledger) (s m base d rest o a p : ℕ) : Type 0 where
+  pub there : Named (length (t .lines)) base rest
+  pub within : rest ≤ d
+  pub opens : o + overSet rest (λ j. openAt t s m (base + j)) ≡ overSet d (λ j. openAt t s m (base + j))
+  pub seats : a + overSet rest (λ j. seatsAt t s m (base + j)) ≡ overSet d (λ j. seatsAt t s m (base + j))
+  pub places : p + overSet rest (λ j. placesAt t s m (base + j)) ≡ overSet d (λ j. placesAt t s m (base + j))
+
+module _ (t : Ledger) (s m base d : ℕ) where
+  pub left-start : Named (length (t .lines)) base d → Left t s m base d d 0 0 0
+  left-start n = record {
+    there = n;
+    within = omega arith;
+    opens = omega arith;
+    seats = omega arith;
+    places = omega arith;
+  }
+
+  pub left-end : {rest o a p : ℕ} → Left t s m base d rest o a p → rest ≡ 0
+      → SetAdded t s m base d record { «open» = o; seats = a; places = p }
+  left-end {rest} u e = record {
+    opens = omega (arith, u .opens, none (λ j. openAt t s m (base + j)));
+    seats = omega (arith, u .seats, none (λ j. seatsAt t s m (base + j)));
+    places = omega (arith, u .places, none (λ j. placesAt t s m (base + j)));
+  }
+    where
+      none : (f : ℕ → ℕ) → overSet rest f ≡ 0
+      none f = ap (λ (x : ℕ). overSet x f) e ∙ over-none f
+
+  module _ {rest o a p : ℕ} (u : Left t s m base d rest o a p) (h : 0 < rest) (l : rest < 2 ^ word) where
+    -- the next formula
+    pub next : base + trailingZeros word rest < length (t .lines)
+    next =
+        let i = lowest-in word rest h l in
+        u .there (trailingZeros word rest) (member-below rest word _ l i) i
+
+    module _ {r : Sums} (v : GivenBy t s m (base + trailingZeros word rest) r) where
+      pub left-next : Left t s m base d (bitAnd rest (rest - 1)) (o + r .«open») (a + r .seats) (p + r .places)
+      left-next = record {
+        there = λ j q i. u .there j q (and-member rest (rest - 1) j i);
+        within = omega (arith, and-le-l rest (rest - 1), u .within);
+        opens = omega (arith, u .opens, v .opens, over-next rest (λ j. openAt t s m (base + j)) h l);
+        seats = omega (arith, u .seats, v .seats, over-next rest (λ j. seatsAt t s m (base + j)) h l);
+        places = omega (arith, u .places, v .places, over-next rest (λ j. placesAt t s m (base + j)) h l);
+      }
+
+      pub left-small : Bounded t → (o + r .«open» ≤ word * mostGiven) × (a + r .seats ≤ word * mostGiven)
+          × (p + r .places ≤ word * mostGiven)
+      left-small b =
+          let limit : (k : ℕ) → Small t s m (base + k) = λ k. small t s m b (base + k) in (
+            omega (arith, left-next .opens, over-le d mostGiven _ (λ k. limit k .opens)),
+            omega (arith, left-next .seats, over-le d mostGiven _ (λ k. limit k .seats)),
+            omega (arith, left-next .places, over-le d mostGiven _ (λ k. limit k .places)),
+          )
+
+-- Over sets
+
+-- the sets have a bit for each formula that may have an atom of the session, and none for what is no formula
+pub record Marks (l : List ℕ) (s : ℕ) (bits : ℕ → ℕ) : Type 0 where
+  pub within : (w j : ℕ) → w < words → j < word → bits w ∋ j → word * w + j < length (ledgerOf l .lines)
+  pub marked : (i : ℕ) → i < length (ledgerOf l .lines) → lowAt l i ≤ s → s ≤ highAt l i
+      → bits (i / word) ∋ i % word
+
+-- the sums over the first w of the sets
+pub record Adding (t : Ledger) (s m : ℕ) (bits : ℕ → ℕ) (w o a p : ℕ) : Type 0 where
+  pub opens : o ≡ sumTo w (λ v. overSet (bits v) (λ j. openAt t s m (word * v + j)))
+  pub seats : a ≡ sumTo w (λ v. overSet (bits v) (λ j. seatsAt t s m (word * v + j)))
+  pub places : p ≡ sumTo w (λ v. overSet (bits v) (λ j. placesAt t s m (word * v + j)))
+
+module _ (t : Ledger) (s m : ℕ) (bits : ℕ → ℕ) where
+  pub adding-start : Adding t s m bits 0 0 0 0
+  unfolding sumTo
+  adding-start = record { opens = refl; seats = refl; places = refl }
+
+  pub adding-next : {w o a p : ℕ} {r : Sums} → Adding t s m bits w o a p → SetAdded t s m (word * w) (bits w) r
+      → Adding t s m bits (w + 1) (o + r .«open») (a + r .seats) (p + r .places)
+  adding-next {w} u v = record {
+    opens = ap₂ _+_ (u .opens) (v .opens) ∙ sym (to-next w _);
+    seats = ap₂ _+_ (u .seats) (v .seats) ∙ sym (to-next w _);
+    places = ap₂ _+_ (u .places) (v .places) ∙ sym (to-next w _);
+  }
+
+  pub adding-small : Bounded t → {w o a p : ℕ} → Adding t s m bits w o a p
+      → (o ≤ w * (word * mostGiven)) × (a ≤ w * (word * mostGiven)) × (p ≤ w * (word * mostGiven))
+  adding-small b {w} u = (
+    omega (arith, u .opens, to-le w _ _ (λ v h. over-le (bits v) _ _ (λ j. small t s m b (word * v + j) .opens))),
+    omega (arith, u .seats, to-le w _ _ (λ v h. over-le (bits v) _ _ (λ j. small t s m b (word * v + j) .seats))),
+    omega (arith, u .places, to-le w _ _ (λ v h. over-le (bits v) _ _ (λ j. small t s m b (word * v + j) .places))),
+  )
 
 module _ (l : List ℕ) (s m : ℕ) (g : Good l) where
   abbrev t : Ledger
   t = ledgerOf l
 
-  counted-in : (k : ℕ) → Unpacked s (formula t k) (counts s (formula t k))
-  counted-in k = unpacked s (formula t k) (g .bounded .sizes k)
+  -- a formula has nothing of a session that is not between its numbers
+  pub outside : (i : ℕ) → i < length (t .lines) → (s < lowAt l i) ⊎ (highAt l i < s) → gives s (formula t i) ≡ 0
+  outside i h o =
+      let z = g .spans i (omega (arith, lines-length l)) in
+      gives-none s (formula t i) (z seat s o) (z place s o)
 
-  -- what is written of row i
-  pub row-counted : (i v : ℕ) (xs : List ℕ) → length xs ≡ maxFormulas → i < length (t .lines)
-      → Counted l s (i + 1) (set xs i v) → v ≡ counts s (formula t i)
-  row-counted i v xs n h c =
-      sym (getD-set-same xs i v 0 (omega (arith, g .bounded .lines))) ∙ c .holds i
-      ∙ ap (counts s) (early-is t i (i + 1) (omega arith) (omega arith))
+  module _ (bits : ℕ → ℕ) (k : Marks l s bits) where
+    -- a formula that has no bit
+    unmarked : (i : ℕ) → i < length (t .lines) → member (bits (i / word)) (i % word) ≡ false
+        → (s < lowAt l i) ⊎ (highAt l i < s)
+    unmarked i h e = go (decLe (lowAt l i) s) (decLe s (highAt l i))
+      where
+        go : Dec (lowAt l i ≤ s) → Dec (s ≤ highAt l i) → (s < lowAt l i) ⊎ (highAt l i < s)
+        go (yes p) (yes q) = absurd (true≢false (sym (k .marked i h p q) ∙ e))
+        go (no p) q = inl (omega arith)
+        go (yes p) (no q) = inr (omega arith)
 
-  -- of a session that is not between the numbers of formula i
-  pub skipped : (i : ℕ) (xs : List ℕ) → i < length (t .lines) → Counted l s i xs
-      → (s < lowAt l i) ⊎ (highAt l i < s) → 0 ≡ rowCounts s (entry xs) (rowAt l i)
-  skipped i xs h c o =
-      let e = row-counted i _ xs (c .long) h (counted-next l s g i xs h c _ refl) in
-      let n = lines-length l in
-      let z = g .spans i (omega arith) in
-      sym (e ∙ counts-none s (formula t i) (z seat s o) (z place s o))
+    marked-sum : (f : ℕ → ℕ) → ((i : ℕ) → seats s (formula t i) ≡ 0 → places s (formula t i) ≡ 0 → f i ≡ 0)
+        → {w x : ℕ} → w ≡ words → x ≡ sumTo w (λ v. overSet (bits v) (λ j. f (word * v + j)))
+        → x ≡ sumTo (length (t .lines)) f
+    marked-sum f none e h =
+        h ∙ ap (λ (x : ℕ). sumTo x (λ v. overSet (bits v) (λ j. f (word * v + j)))) e
+        ∙ sets-sum bits f (length (t .lines)) (omega (arith, g .bounded .lines)) (k .within) away
+      where
+        away : (i : ℕ) → i < length (t .lines) → member (bits (i / word)) (i % word) ≡ false → f i ≡ 0
+        away i h e =
+            let z = g .spans i (omega (arith, lines-length l)) in
+            let o = unmarked i h e in
+            none i (z seat s o) (z place s o)
 
-  pub adding-next : {i o a p n : ℕ} {r : Sums} → Adding t s m i o a p → n ≡ counts s (formula t i) → GivenBy l m i n r
-      → Adding t s m (i + 1) (o + r .«open») (a + r .seats) (p + r .places)
-  adding-next {i} {o} {a} {p} {n} {r} w e v = record {
-    opens = to-next (openAt t s m) i o _ (w .opens) (v .opens ∙ times-same _ (ap houseIn e ∙ counted-in i .house-in));
-    seats = to-next (seatsAt t s m) i a _ (w .seats) (v .seats ∙ times-same _ (ap seatsIn e ∙ counted-in i .seats-in));
-    places = to-next (placesAt t s m) i p _ (w .places)
-        (v .places ∙ times-same _ (ap placesIn e ∙ counted-in i .places-in));
-    small = (
-      omega (arith, w .small .0, v .small .0),
-      omega (arith, w .small .1, v .small .1),
-      omega (arith, w .small .2, v .small .2),
-    );
-  }
-
-  pub adding-all : {i : ℕ} {r : Sums} → i ≡ length (t .lines) → Adding t s m i (r .«open») (r .seats) (r .places)
-      → Added t s m r
-  unfolding openBy shutBy placedBy
-  adding-all {i} {r} e w =
-      let end : (f : ℕ → ℕ) → sumTo i f ≡ sumTo (length (t .lines)) f = λ f. ap (λ (k : ℕ). sumTo k f) e in
-      record {
-        opens = w .opens ∙ end (openAt t s m);
-        seats = w .seats ∙ end (seatsAt t s m)
-            ∙ to-same (length (t .lines)) _ _ (λ k h.
-            apart _ _ _ _ (omega (arith, house-seats false s (formula t k))))
-            ∙ to-plus (length (t .lines)) _ _;
-        places = w .places ∙ end (placesAt t s m);
-      }
+    pub adding-all : {w : ℕ} {r : Sums} → w ≡ words → Adding t s m bits w (r .«open») (r .seats) (r .places)
+        → Added t s m r
+    unfolding openBy shutBy placedBy
+    adding-all {w} {r} e u =
+        let n = length (t .lines) in
+        record {
+          opens = marked-sum (openAt t s m)
+              (λ i p q. times-none _ (omega (arith, house-seats false s (formula t i)))) e (u .opens);
+          seats = marked-sum (seatsAt t s m) (λ i p q. times-none _ p) e (u .seats)
+              ∙ to-same n _ _ (λ i h. apart _ _ _ _ (omega (arith, house-seats false s (formula t i))))
+              ∙ to-plus n _ _;
+          places = marked-sum (placesAt t s m) (λ i p q. times-none _ q) e (u .places);
+        }

@@ -1,11 +1,12 @@
--- The singles of a formula, along its chain, and what they give.
+-- The singles of a formula, along its chain.
 use mathlib.Core.Path.{_≡_, refl, sym, ap, _∙_}
-use mathlib.Core.List.{List}
+use mathlib.Core.List.{List, [], _∷_}
 use mathlib.Core.Bool.{Bool, true, false, not}
 use Prim.Native.Nat.{ℕ, suc, _+_, _*_, _-_, _≤_}
 use native.Mathlib.Omega.{arith}
-use native.Mathlib.Nat.{mul-zero, mul-one, zero-mul, mul-le-mul-right, mul-le-mul-left}
+use native.Mathlib.Nat.{mul-zero, mul-one, zero-mul}
 use lib.Dec.{eqb}
+use lib.ListN.{length}
 use borrow.Author.Tests.{eq-eqb, ne-eqb}
 use Rattle.logic.specs.Interval.{has}
 use Rattle.logic.specs.Formula.{bit}
@@ -14,17 +15,16 @@ use Rattle.logic.proofs.Multisets.{snoc-sum}
 use Rattle.request.specs.declared.Kind.{Kind}
 use Rattle.request.specs.declared.Kind.the-variants.{Linear, Unrestricted}
 use Rattle.ledger.specs.declared.Credential.{Credential}
-use Rattle.ledger.specs.Ledger.{byKind}
+use Rattle.ledger.specs.Ledger.{Ledger, byKind}
 use Rattle.ledger.specs.Calls.{only}
-use Rattle.store_cells.specs.Layout.{maxRows, rowCount, credentialAt, ofAt}
+use Rattle.store_cells.specs.Layout.{rowCount, credentialAt, ofAt}
 use Rattle.store.specs.Tab.{tab}
 use Rattle.store.specs.Chain.{lastOf}
 use Rattle.store.specs.Store.{ledgerOf}
 use Rattle.store.proofs.Tabs.{tab-snoc}
 use Rattle.store.proofs.Live.{live-sum}
 use Rattle.store.proofs.Chains.{last-le, last-of, last-sum}
-use Rattle.formula_tally.specs.Column.{byte}
-use Rattle.formula_tally.specs.ByFormula.{withOf, withoutOf, singlesWith, singlesWithout, mostGiven}
+use Rattle.formula_tally.specs.ByFormula.{withOf, withoutOf, singlesWith, singlesWithout}
 
 -- One credential
 
@@ -169,7 +169,25 @@ module _ (l : List ℕ) (m n : ℕ) where
     live-sum (withoutOf m n) (without-none m n) l,
   )
 
--- Products are small
+-- No formula has more singles than there are live credentials
+module _ (m n : ℕ) where
+  one-each : (c : Credential) → withOf m n c + withoutOf m n c ≤ 1
+  unfolding withOf withoutOf
+  one-each c = go (c .kind) (has (c .interval) m) (eqb (c .formula) n)
+    where
+      go : (k : Kind) (b e : Bool) → byKind k (bit b) 0 * bit e + byKind k (bit (not b)) 0 * bit e ≤ 1
+      go Linear true true = omega arith
+      go Linear true false = omega arith
+      go Linear false true = omega arith
+      go Linear false false = omega arith
+      go Unrestricted b true = omega arith
+      go Unrestricted b false = omega arith
 
-pub product-small : (a b : ℕ) → a ≤ maxRows → b ≤ byte → a * b ≤ mostGiven
-product-small a b h k = omega (arith, mul-le-mul-right b h, mul-le-mul-left maxRows k)
+  singles-in : (cs : List Credential) → sum (withOf m n) cs + sum (withoutOf m n) cs ≤ length cs
+  unfolding sum
+  singles-in [] = omega arith
+  singles-in (c ∷ cs) = omega (arith, one-each c, singles-in cs)
+
+  pub singles-few : (t : Ledger) → singlesWith t m n + singlesWithout t m n ≤ length (t .live)
+  unfolding singlesWith singlesWithout
+  singles-few t = singles-in (t .live)

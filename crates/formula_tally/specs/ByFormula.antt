@@ -2,9 +2,8 @@
 -- with its own contract, and then add, for each figure of ask 3, count × what one such single gives it." A wording is a
 -- formula here, and a single a linear credential.
 use mathlib.Core.Path.{_≡_}
-use mathlib.Core.List.{List}
 use mathlib.Core.Bool.{not}
-use Prim.Native.Nat.{ℕ, zero, suc, _+_, _*_, _-_, _≤_}
+use Prim.Native.Nat.{ℕ, zero, suc, _+_, _*_, _-_}
 use lib.Dec.{eqb}
 use lib.ListN.{length}
 use Rattle.logic.specs.Interval.{has}
@@ -13,11 +12,7 @@ use Rattle.logic.specs.Multiset.{sum}
 use Rattle.ledger.specs.declared.Credential.{Credential}
 use Rattle.ledger.specs.Ledger.{Ledger, formula, byKind}
 use Rattle.ledger.specs.Calls.{openSeats, shutSeats, placed}
-use Rattle.store_cells.specs.Layout.{maxRows}
-use Rattle.store.specs.Store.{ledgerOf}
 use Rattle.formula_tally.specs.declared.Sums.{Sums}
-use Rattle.formula_tally.specs.Column.{byte}
-use Rattle.formula_tally.specs.Tally.{seatsIn, placesIn, houseIn}
 
 -- "its live singles with .. the minute": 1 for a linear credential of formula n whose interval has minute m, 0 for any
 -- other credential
@@ -68,16 +63,20 @@ ByFormula = (t : Ledger) (s m : ℕ) → Equal t s m
 
 -- What the functions answer
 
--- the most that a formula gives
-abbrev pub mostGiven : ℕ
-mostGiven = maxRows * byte
+-- what formula k gives to open, to open and shut, to placed
+abbrev pub openAt : Ledger → ℕ → ℕ → ℕ → ℕ
+openAt t s m k = singlesWith t m k * houseSeats s (formula t k)
 
--- what formula k gives: count × what one gives, which n has
-pub record GivenBy (l : List ℕ) (m k n : ℕ) (r : Sums) : Type 0 where
-  pub opens : r .«open» ≡ singlesWith (ledgerOf l) m k * houseIn n
-  pub seats : r .seats ≡ (singlesWith (ledgerOf l) m k + singlesWithout (ledgerOf l) m k) * seatsIn n
-  pub places : r .places ≡ (singlesWith (ledgerOf l) m k + singlesWithout (ledgerOf l) m k) * placesIn n
-  pub small : (r .«open» ≤ mostGiven) × (r .seats ≤ mostGiven) × (r .places ≤ mostGiven)
+abbrev pub seatsAt : Ledger → ℕ → ℕ → ℕ → ℕ
+seatsAt t s m k = (singlesWith t m k + singlesWithout t m k) * seats s (formula t k)
+
+abbrev pub placesAt : Ledger → ℕ → ℕ → ℕ → ℕ
+placesAt t s m k = (singlesWith t m k + singlesWithout t m k) * places s (formula t k)
+
+pub record GivenBy (t : Ledger) (s m k : ℕ) (r : Sums) : Type 0 where
+  pub opens : r .«open» ≡ openAt t s m k
+  pub seats : r .seats ≡ seatsAt t s m k
+  pub places : r .places ≡ placesAt t s m k
 
 -- what all formulas give
 pub record Added (t : Ledger) (s m : ℕ) (r : Sums) : Type 0 where

@@ -1,22 +1,23 @@
 // The tally, by formulas (document 02, ask 9: "Panel sums by wording"): of each, how many live linear credentials have
 // the minute and how many have not, times what one of them gives.
-mod column;
+mod walk;
 
-use crate::column::Column;
 use logic::Interval;
 use request::Kind;
 use store::Store;
 ghost use mathlib.Core.Path.{_≡_};
 ghost use Prim.Native.Nat.{_+_, _<_, _≤_};
+ghost use lib.ListN.{length};
 ghost use Rattle.logic.specs.Interval.{has};
-ghost use Rattle.ledger.specs.Ledger.{byKind};
+ghost use Rattle.ledger.specs.Ledger.{formula as formulaOf, byKind};
 ghost use Rattle.ledger.specs.Calls.{only};
 ghost use Rattle.ledger.specs.Checks.{maxFormulas};
-ghost use Rattle.store_cells.specs.Layout.{maxRows, rowAt};
+ghost use Rattle.store_cells.specs.Layout.{maxRows};
 ghost use Rattle.store.specs.Store.{ledgerOf, Good};
-ghost use Rattle.formula_tally.specs.Column.{entry};
-ghost use Rattle.formula_tally.specs.Tally.{rowCounts, Turn, Tallied};
+ghost use Rattle.formula_tally.specs.Gives.{gives};
+ghost use Rattle.formula_tally.specs.Tally.{Tallied};
 ghost use Rattle.formula_tally.specs.ByFormula.{ByFormula, singlesWith, singlesWithout, GivenBy, Added};
+ghost use Rattle.formula_tally.specs.Sets.{words, linesIn, Named, SetAdded};
 
 // The sums of a tally over the live linear credentials: "Open now counts only seats whose nearest ⟨K⟩ above them is
 // principal 1, in a window that has the minute. All other seats, bare ones too, go to shut"; placed are the places.
@@ -33,26 +34,30 @@ struct Sums {
     places: u32,
 }
 
+// Sets of formulas: bit j of number w stands for formula WORD * w + j.
+const WORD: u32 = 32;
+
+const WORDS: u32 = 7;
+
 // How many live linear credentials of a formula have the minute in their interval, and how many have not.
 struct Singles {
     inside: u32,
     outside: u32,
 }
 
-// The counts of a session in a formula; the column has those of the formulas before it. Most formulas have none of its
-// atoms, and the numbers kept with their rows tell of most of these.
-fn count_formula(store: &Store, session: u32, i: u32, gives: &Column) -> u32
-    requires { ⌜ Turn (now store) session i (now gives) ⌝ }
-    ensures { λ r. ⌜ r ≡ rowCounts session (entry (now (gives .entry))) (rowAt (now (store .entry)) i) ⌝ }
+// What one single gives of a session, three counts in one number. Most formulas have no atom of the session, and the
+// numbers kept with their rows tell so.
+fn count_formula(store: &Store, formula: u32, session: u32) -> u32
+    requires { ⌜ Good (now store) × (formula < length (ledgerOf (now store) .lines)) ⌝ }
+    ensures { λ r. ⌜ r ≡ gives session (formulaOf (ledgerOf (now (store .entry))) formula) ⌝ }
 {
-    if session < store::low_at(store, i) {
+    if session < store::low_at(store, formula) {
         return 0;
     }
-    if store::high_at(store, i) < session {
+    if store::high_at(store, formula) < session {
         return 0;
     }
-    let row = store::line_at(store, i);
-    column::count_row(row, session, gives)
+    walk::walk(store, formula, session)
 }
 
 // "over live singles"
@@ -99,11 +104,19 @@ fn count_singles(store: &Store, formula: u32, minute: u32) -> Singles
     Singles { inside, outside }
 }
 
-// What a formula gives: its counts × what one single gives.
-fn given_by(store: &Store, formula: u32, minute: u32, one: u32) -> Sums
-    requires { ⌜ Good (now store) × (formula < maxFormulas) ⌝ }
-    ensures { λ r. ⌜ GivenBy (now (store .entry)) minute formula one r ⌝ }
+// What a formula gives: its counts × what one single gives. One that has no coupon gives nothing.
+fn given_by(store: &Store, formula: u32, session: u32, minute: u32) -> Sums
+    requires { ⌜ Good (now store) × (formula < length (ledgerOf (now store) .lines)) ⌝ }
+    ensures { λ r. ⌜ GivenBy (ledgerOf (now (store .entry))) session minute formula r ⌝ }
 {
+    if store::last_row(store, formula) == 0 {
+        return Sums {
+            open: 0,
+            seats: 0,
+            places: 0,
+        };
+    }
+    let one = count_formula(store, formula, session);
     if one == 0 {
         return Sums {
             open: 0,
@@ -114,31 +127,67 @@ fn given_by(store: &Store, formula: u32, minute: u32, one: u32) -> Sums
     let singles = count_singles(store, formula, minute);
     let all = singles.inside + singles.outside;
     Sums {
-        open: singles.inside * (one / column::HOUSE_UNIT % column::BYTE),
-        seats: all * (one % column::BYTE),
-        places: all * (one / column::PLACE_UNIT % column::BYTE),
+        open: singles.inside * (one / walk::HOUSE_UNIT % walk::BYTE),
+        seats: all * (one % walk::BYTE),
+        places: all * (one / walk::PLACE_UNIT % walk::BYTE),
     }
 }
 
-// What all formulas give, row by row.
+// What the formulas of a set give: bit j of `bits` stands for formula base + j.
+fn add_set(store: &Store, base: u32, bits: u32, session: u32, minute: u32) -> Sums
+    requires { ⌜ Good (now store) × Named (length (ledgerOf (now store) .lines)) base bits ⌝ }
+    ensures { λ r. ⌜ SetAdded (ledgerOf (now (store .entry))) session minute base bits r ⌝ }
+{
+    let mut rest = bits;
+    let mut open = 0;
+    let mut seats = 0;
+    let mut places = 0;
+    while 0 < rest {
+        let more = given_by(store, base + u32::trailing_zeros(rest), session, minute);
+        open += more.open;
+        seats += more.seats;
+        places += more.places;
+        rest = rest & (rest - 1);
+    }
+    Sums {
+        open,
+        seats,
+        places,
+    }
+}
+
+// The formulas that there are, as a set: bit j stands for formula WORD * w + j.
+fn lines_in(store: &Store, w: u32) -> u32
+    requires { ⌜ w < words ⌝ }
+    ensures { λ r. ⌜ r ≡ linesIn (length (ledgerOf (now (store .entry)) .lines)) w ⌝ }
+{
+    let n = store::formula_count(store);
+    if n <= WORD * w {
+        return 0;
+    }
+    let more = n - WORD * w;
+    if WORD <= more {
+        return u32::MAX;
+    }
+    (1 << more) - 1
+}
+
+// What all formulas give.
 fn add_up(store: &Store, session: u32, minute: u32) -> Sums
     requires { ⌜ Good (now store) ⌝ }
     ensures { λ r. ⌜ Added (ledgerOf (now (store .entry))) session minute r ⌝ }
 {
-    let n = store::formula_count(store);
-    let mut gives = [0u32; column::ENTRIES];
     let mut open = 0;
     let mut seats = 0;
     let mut places = 0;
-    let mut i = 0;
-    while i < n {
-        let one = count_formula(store, session, i, &gives);
-        gives[i as usize] = one;
-        let more = given_by(store, i, minute, one);
+    let mut w = 0;
+    while w < WORDS {
+        let bits = lines_in(store, w);
+        let more = add_set(store, WORD * w, bits, session, minute);
         open += more.open;
         seats += more.seats;
         places += more.places;
-        i += 1;
+        w += 1;
     }
     Sums {
         open,

@@ -1,66 +1,95 @@
 -- `given_by` meets its contract.
 use mathlib.Core.Path.{_≡_, sym, ap, ap₂, _∙_}
-use Prim.Native.Nat.{ℕ, _+_, _*_, _/_, _%_, _≤_}
+use Prim.Native.Nat.{_+_, _*_, _/_, _%_}
 use native.Mathlib.Omega.{arith}
-use native.Mathlib.Nat.{mul-zero}
-use Rattle.formula_tally.specs.Column.{byte, placeUnit, houseUnit}
-use Rattle.formula_tally.specs.Tally.{seatsIn, placesIn, houseIn}
-use Rattle.formula_tally.specs.ByFormula.{mostGiven}
-use Rattle.formula_tally.proofs.Walks.{product-small}
+use denote.Ref.{now}
+use Rattle.ledger.specs.Ledger.{formula}
+use Rattle.store.specs.Store.{ledgerOf}
+use Rattle.formula_tally.specs.Gives.{byte, placeUnit, houseUnit, seatsIn, placesIn, houseIn}
+use Rattle.formula_tally.specs.ByFormula.{openAt, seatsAt, placesAt}
+use Rattle.formula_tally.proofs.Giving.{unpacked}
+use Rattle.formula_tally.proofs.Walks.{walk-start, with-all, without-all}
+use Rattle.formula_tally.proofs.Tallied.{Small, small, no-singles, no-counts}
 use Rattle.formula_tally.proofs.given_by.Statement.{statement}
 use Rattle.formula_tally.proofs.given_by.Tie as tie
 
--- nothing is given
-zero-times : (a b : ℕ) → b ≡ 0 → 0 ≡ a * b
-zero-times a b e = sym (ap (a *_) e ∙ mul-zero a)
-
 returns : tie.Need-returns
 returns c =
+    let s = c .before .before in
+    let l = now (s .args .store) in
+    let m = s .args .minute in
+    let k = s .args .formula in
     let z = c .if1 .taken in
-    record {
-      opens = zero-times _ _ (ap houseIn z);
-      seats = zero-times _ _ (ap seatsIn z);
-      places = zero-times _ _ (ap placesIn z);
-      small = (omega arith, omega arith, omega arith);
-    }
-
--- the products
-record Small (c : tie.After-count-singles) : Type 0 where
-  opens : c .count-singles .result .inside * (c .before .before .args .one / houseUnit % byte) ≤ mostGiven
-  seats : (c .count-singles .result .inside + c .count-singles .result .outside) * (c .before .before .args .one % byte)
-      ≤ mostGiven
-  places : (c .count-singles .result .inside + c .count-singles .result .outside)
-      * (c .before .before .args .one / placeUnit % byte) ≤ mostGiven
-
-small : (c : tie.After-count-singles) → Small c
-small c =
-    let f = c .count-singles .ensures .1 .1 in
-    record {
-      opens = product-small _ _ (omega (arith, f)) (omega arith);
-      seats = product-small _ _ (omega (arith, f)) (omega arith);
-      places = product-small _ _ (omega (arith, f)) (omega arith);
-    }
+    let w = walk-start l m k (c .before .last-row .ensures) in
+    no-singles (ledgerOf l) (s .args .session) m k (with-all l m k z w) (without-all l m k z w)
 
 returns-2 : tie.Need-returns-2
 returns-2 c =
-    let k = c .before .before in
-    let e = k .count-singles .ensures in
+    let s = c .before .before .before .before in
+    no-counts (ledgerOf (now (s .args .store))) (s .args .session) (s .args .minute) (s .args .formula)
+    (s .pre .0 .bounded .sizes (s .args .formula)) (sym (c .before .count-formula .ensures) ∙ c .if2 .taken)
+
+-- the products
+record Products (c : tie.After-count-singles) : Type 0 where
+  opens : c .count-singles .result .inside * (c .before .before .count-formula .result / houseUnit % byte)
+      ≡ openAt (ledgerOf (now (c .before .before .before .before .before .args .store)))
+      (c .before .before .before .before .before .args .session)
+      (c .before .before .before .before .before .args .minute)
+      (c .before .before .before .before .before .args .formula)
+  seats : (c .count-singles .result .inside + c .count-singles .result .outside)
+      * (c .before .before .count-formula .result % byte)
+      ≡ seatsAt (ledgerOf (now (c .before .before .before .before .before .args .store)))
+      (c .before .before .before .before .before .args .session)
+      (c .before .before .before .before .before .args .minute)
+      (c .before .before .before .before .before .args .formula)
+  places : (c .count-singles .result .inside + c .count-singles .result .outside)
+      * (c .before .before .count-formula .result / placeUnit % byte)
+      ≡ placesAt (ledgerOf (now (c .before .before .before .before .before .args .store)))
+      (c .before .before .before .before .before .args .session)
+      (c .before .before .before .before .before .args .minute)
+      (c .before .before .before .before .before .args .formula)
+
+products : (c : tie.After-count-singles) → Products c
+products c =
+    let s = c .before .before .before .before .before in
+    let t = ledgerOf (now (s .args .store)) in
+    let k = s .args .formula in
+    let e = c .count-singles .ensures in
+    let one = c .before .before .count-formula .ensures in
     let all = ap₂ _+_ (e .0) (e .1 .0) in
+    let u = unpacked (s .args .session) (formula t k) (s .pre .0 .bounded .sizes k) in
     record {
-      opens = ap (λ (x : ℕ). x * houseIn (k .before .before .args .one)) (e .0);
-      seats = ap (λ (x : ℕ). x * seatsIn (k .before .before .args .one)) all;
-      places = ap (λ (x : ℕ). x * placesIn (k .before .before .args .one)) all;
-      small = (small k .opens, small k .seats, small k .places);
+      opens = ap₂ _*_ (e .0) (ap houseIn one ∙ u .house-in);
+      seats = ap₂ _*_ all (ap seatsIn one ∙ u .seats-in);
+      places = ap₂ _*_ all (ap placesIn one ∙ u .places-in);
     }
+
+limits : (c : tie.After-count-singles)
+    → Small (ledgerOf (now (c .before .before .before .before .before .args .store)))
+    (c .before .before .before .before .before .args .session)
+    (c .before .before .before .before .before .args .minute)
+    (c .before .before .before .before .before .args .formula)
+limits c =
+    let s = c .before .before .before .before .before in
+    small (ledgerOf (now (s .args .store))) (s .args .session) (s .args .minute) (s .pre .0 .bounded) (s .args .formula)
+
+returns-3 : tie.Need-returns-3
+returns-3 c =
+    let p = products (c .before .before) in
+    record { opens = p .opens; seats = p .seats; places = p .places }
 
 pub given-by-spec : {M : Type 1} → statement M
 given-by-spec =
     tie.close
     (tie.spec
+    (λ c κs. (c .pre .0, omega (arith, c .pre .1, c .pre .0 .bounded .lines)))
     returns
-    (λ c κs. c .before .pre)
+    (λ c κs. c .before .before .pre)
+    returns-2
+    (λ c κs. let s = c .before .before .before .before in
+    (s .pre .0, omega (arith, s .pre .1, s .pre .0 .bounded .lines)))
     (λ c. omega (arith, c .before .count-singles .ensures .1 .1))
-    (λ c. omega (arith, small (c .before .before) .opens))
-    (λ c. omega (arith, small (c .before .before) .seats))
-    (λ c. omega (arith, small (c .before .before) .places))
-    returns-2)
+    (λ c. omega (arith, products (c .before .before) .opens, limits (c .before .before) .opens))
+    (λ c. omega (arith, products (c .before .before) .seats, limits (c .before .before) .seats))
+    (λ c. omega (arith, products (c .before .before) .places, limits (c .before .before) .places))
+    returns-3)

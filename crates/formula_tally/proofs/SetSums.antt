@@ -1,0 +1,168 @@
+-- Sums over the bits of a set: one bit after another, the lowest first; and over sets that have a bit for each number.
+use mathlib.Core.Path.{_≡_, refl, sym, ap, ap₂, _∙_}
+use mathlib.Core.List.{List}
+use mathlib.Core.Bool.{Bool, true, false}
+use Prim.Native.Nat.{ℕ, zero, suc, _+_, _-_, _*_, _/_, _%_, _^_, _≤_, _<_, min}
+use native.Mathlib.Omega.{arith}
+use native.Mathlib.Nat.{pow-suc, div-one}
+use lib.Dec.{eqb}
+use lib.Pow.{pow-pos, shr-shr}
+use lib.Bits.{bitAnd, and-step, and-self, and-shr}
+use lib.Count.{trailingZeros, under}
+use borrow.Author.Tests.{eqb-true, eq-eqb}
+use Rattle.logic.specs.Multiset.{sum}
+use Rattle.logic.proofs.Multisets.{perm-sum}
+use Rattle.ledger.specs.Calls.{only}
+use Rattle.labels.specs.Labels.{member, remove, _∋_, later, prepend, pick}
+use Rattle.labels.proofs.Sets.{removed, member-below}
+use Rattle.labels.proofs.Pick.{pick-empty, pick-remove}
+use Rattle.formula_tally.specs.ByFormula.{sumTo}
+use Rattle.formula_tally.specs.Sets.{word, words, overSet, overSets, linesIn}
+use Rattle.formula_tally.proofs.SumLaws.{to-same, to-le, to-first, to-append, to-end}
+
+-- Bits
+
+-- a bit above the lowest
+half-bit : (d k : ℕ) → d / 2 ^ suc k % 2 ≡ d / 2 / 2 ^ k % 2
+half-bit d k =
+    let e : 1 + k ≡ suc k = omega arith in
+    ap (_% 2) (sym (shr-shr d 1 k ∙ ap (λ (x : ℕ). d / 2 ^ x) e))
+
+-- the lowest bit that is set
+lowest-odd : (n d : ℕ) → 0 < d → d < 2 ^ n → d / 2 ^ trailingZeros n d % 2 ≡ 1
+unfolding trailingZeros
+lowest-odd zero d h l = absurd (omega arith)
+lowest-odd (suc n) d h l =
+    go (d % 2) refl (λ e. lowest-odd n (d / 2) (omega arith) (omega (arith, pow-suc 2 n)))
+  where
+    go : (r : ℕ) → d % 2 ≡ r → (d % 2 ≡ 0 → d / 2 / 2 ^ trailingZeros n (d / 2) % 2 ≡ 1)
+        → d / 2 ^ under r (trailingZeros n (d / 2)) % 2 ≡ 1
+    go zero e ih = half-bit d (trailingZeros n (d / 2)) ∙ ih e
+    go (suc r) e ih = ap (_% 2) (div-one d) ∙ (omega arith)
+
+pub lowest-in : (n d : ℕ) → 0 < d → d < 2 ^ n → d ∋ trailingZeros n d
+lowest-in n d h l = eq-eqb _ _ (lowest-odd n d h l)
+
+-- it is what d & (d - 1) has not
+lowest-off : (n d : ℕ) → 0 < d → d < 2 ^ n → bitAnd d (d - 1) ≡ d - 2 ^ trailingZeros n d
+unfolding trailingZeros
+lowest-off zero d h l = absurd (omega arith)
+lowest-off (suc n) d h l =
+    go (d % 2) refl (λ e. lowest-off n (d / 2) (omega arith) (omega (arith, pow-suc 2 n)))
+  where
+    go : (r : ℕ) → d % 2 ≡ r → (d % 2 ≡ 0 → bitAnd (d / 2) (d / 2 - 1) ≡ d / 2 - 2 ^ trailingZeros n (d / 2))
+        → bitAnd d (d - 1) ≡ d - 2 ^ under r (trailingZeros n (d / 2))
+    go zero e ih =
+        let t = trailingZeros n (d / 2) in
+        let half : (d - 1) / 2 ≡ d / 2 - 1 = omega arith in
+        omega (arith, and-step d (d - 1), ap (bitAnd (d / 2)) half, ih e, pow-suc 2 t)
+    go (suc r) e ih =
+        let half : (d - 1) / 2 ≡ d / 2 = omega arith in
+        omega (arith, and-step d (d - 1), ap (bitAnd (d / 2)) half, and-self (d / 2))
+
+-- a bit of both is a bit of the first
+pub and-member : (a b k : ℕ) → bitAnd a b ∋ k → a ∋ k
+and-member a b k h =
+    let e = eqb-true (bitAnd a b / 2 ^ k % 2) 1 h in
+    eq-eqb (a / 2 ^ k % 2) 1 (omega (arith, and-shr a b k, and-step (a / 2 ^ k) (b / 2 ^ k)))
+
+-- One set
+
+-- its sum, as that of a list
+over-list : (n d : ℕ) (f : ℕ → ℕ) → sumTo n (λ k. only (member d k) (f k)) ≡ sum (λ x. x) (pick f n d)
+unfolding sumTo sum
+over-list zero d f = refl
+over-list (suc n) d f =
+    to-first n (λ k. only (member d k) (f k))
+    ∙ ap₂ _+_ (ap (λ (x : ℕ). only (eqb (x % 2) 1) (f 0)) (div-one d))
+    (to-same n _ _ (λ k l. ap (λ (x : ℕ). only (eqb x 1) (f (suc k))) (half-bit d k))
+    ∙ over-list n (d / 2) (later f))
+    ∙ go (d % 2) (omega arith) (pick (later f) n (d / 2))
+  where
+    go : (b : ℕ) → b ≤ 1 → (l : List ℕ) → only (eqb b 1) (f 0) + sum (λ x. x) l ≡ sum (λ x. x) (prepend b (f 0) l)
+    go zero h l = omega arith
+    go (suc zero) h l = refl
+    go (suc (suc b)) h l = absurd (omega arith)
+
+-- the lowest bit first
+pub over-next : (d : ℕ) (f : ℕ → ℕ) → 0 < d → d < 2 ^ word
+    → overSet d f ≡ f (trailingZeros word d) + overSet (bitAnd d (d - 1)) f
+unfolding overSet sum
+over-next d f h l =
+    let k = trailingZeros word d in
+    let m = lowest-in word d h l in
+    let rest : bitAnd d (d - 1) ≡ remove d k = lowest-off word d h l ∙ sym (removed d k m) in
+    over-list word d f ∙ sym (perm-sum (λ x. x) (pick-remove f word d k (member-below d word k l m) m))
+    ∙ ap (f k +_) (sym (over-list word (remove d k) f) ∙ ap (λ (x : ℕ). overSet x f) (sym rest))
+
+pub over-none : (f : ℕ → ℕ) → overSet 0 f ≡ 0
+unfolding overSet sum
+over-none f = over-list word 0 f ∙ ap (sum (λ x. x)) (pick-empty f word)
+
+only-le : (b : Bool) {x m : ℕ} → x ≤ m → only b x ≤ m
+only-le true h = h
+only-le false h = omega arith
+
+pub over-le : (d m : ℕ) (f : ℕ → ℕ) → ((k : ℕ) → f k ≤ m) → overSet d f ≤ word * m
+unfolding overSet
+over-le d m f h = to-le word m _ (λ k l. only-le (member d k) (h k))
+
+-- Sets with a bit for each number
+
+module _ (bits f : ℕ → ℕ) where
+  -- what number k gives
+  at : ℕ → ℕ
+  at k = only (member (bits (k / word)) (k % word)) (f k)
+
+  at-is : (w j : ℕ) → j < word → only (member (bits w) j) (f (word * w + j)) ≡ at (word * w + j)
+  unfolding at
+  at-is w j h =
+      let e : (word * w + j) / word ≡ w = omega arith in
+      let q : (word * w + j) % word ≡ j = omega arith in
+      ap₂ (λ (x y : ℕ). only (member (bits x) y) (f (word * w + j))) (sym e) (sym q)
+
+  blocks : (n : ℕ) → sumTo n (λ w. overSet (bits w) (λ j. f (word * w + j))) ≡ sumTo (word * n) at
+  unfolding sumTo overSet
+  blocks zero = refl
+  blocks (suc n) =
+      let e : word * suc n ≡ word * n + word = omega arith in
+      ap₂ _+_ (blocks n) (to-same word _ _ (λ j h. at-is n j h))
+      ∙ sym (ap (λ (k : ℕ). sumTo k at) e ∙ to-append (word * n) word at)
+
+  -- where only numbers below n have a bit, and f is 0 at those that have none
+  pub sets-sum : (n : ℕ) → n ≤ word * words
+      → ((w j : ℕ) → w < words → j < word → bits w ∋ j → word * w + j < n)
+      → ((k : ℕ) → k < n → member (bits (k / word)) (k % word) ≡ false → f k ≡ 0)
+      → overSets bits f ≡ sumTo n f
+  unfolding at
+  sets-sum n le within without =
+      blocks words ∙ to-end n (word * words) at le (λ k h l. past k h l _ refl) ∙ to-same n _ _ (λ k h. here k h _ refl)
+    where
+      past : (k : ℕ) → n ≤ k → k < word * words → (b : Bool) → member (bits (k / word)) (k % word) ≡ b
+          → only b (f k) ≡ 0
+      past k h l true e = absurd (omega (arith, within (k / word) (k % word) (omega arith) (omega arith) e))
+      past k h l false e = refl
+
+      here : (k : ℕ) → k < n → (b : Bool) → member (bits (k / word)) (k % word) ≡ b → only b (f k) ≡ f k
+      here k h true e = refl
+      here k h false e = sym (without k h e)
+
+-- The lowest bits
+
+ones-in : (c j : ℕ) → j < c → (2 ^ c - 1) / 2 ^ j % 2 ≡ 1
+ones-in zero j h = absurd (omega arith)
+ones-in (suc c) zero h = ap (_% 2) (div-one _) ∙ (omega (arith, pow-suc 2 c, pow-pos c))
+ones-in (suc c) (suc j) h =
+    let e : (2 ^ suc c - 1) / 2 ≡ 2 ^ c - 1 = omega (arith, pow-suc 2 c) in
+    half-bit (2 ^ suc c - 1) j ∙ ap (λ (x : ℕ). x / 2 ^ j % 2) e ∙ ones-in c j (omega arith)
+
+-- bit j of `linesIn n w` is set where formula word * w + j is below n
+pub lines-there : (n w j : ℕ) → linesIn n w ∋ j → word * w + j < n
+unfolding linesIn
+lines-there n w j h =
+    let c = min (n - word * w) word in
+    omega (arith, member-below (2 ^ c - 1) c j (omega (arith, pow-pos c)) h)
+
+pub lines-marked : (n i : ℕ) → i < n → linesIn n (i / word) ∋ i % word
+unfolding linesIn
+lines-marked n i h = eq-eqb _ _ (ones-in (min (n - word * (i / word)) word) (i % word) (omega arith))

@@ -1,0 +1,12 @@
+-- `nearest` meets its contract.
+use borrow.Author.Tests.{eq-eqb, ne-eqb}
+use Rattle.formula_tally.proofs.walk.nearest.Statement.{statement}
+use Rattle.formula_tally.proofs.walk.nearest.Tie as tie
+
+pub nearest-spec : {M : Type 1} → statement M
+nearest-spec =
+    tie.close
+    (tie.spec
+    (λ c. simp (eq-eqb _ _ (c .before .before .if1 .taken), eq-eqb _ _ (c .if2 .taken)))
+    (λ c. simp (eq-eqb _ _ (c .before .before .if1 .taken), ne-eqb _ _ (c .if2 .left)))
+    (λ c. simp (ne-eqb _ _ (c .if1 .left))))
