@@ -4,19 +4,11 @@
 ghost use mathlib.Core.Path.{_≡_};
 ghost use Rattle.formula_facts.specs.Gives.{ownCounts, nearest, saidCounts};
 
-pub const BYTE: u32 = 256;
-
-pub const PLACE_UNIT: u32 = BYTE;
-
-pub const HOUSE_UNIT: u32 = BYTE * PLACE_UNIT;
-
-pub const UNDER_UNIT: u32 = BYTE * HOUSE_UNIT;
-
 // A seat: the house's where the house stands right above it.
-const SEAT: u32 = 1 + UNDER_UNIT;
+const SEAT: u32 = 1 + formula_parts::UNDER_UNIT;
 
 // A house seat whatever stands above the formula.
-const HOUSE_SEAT: u32 = HOUSE_UNIT + UNDER_UNIT;
+const HOUSE_SEAT: u32 = formula_parts::HOUSE_UNIT + formula_parts::UNDER_UNIT;
 
 // The counts of an atom, of its own session.
 pub fn own(predicate: u32) -> u32
@@ -26,7 +18,7 @@ pub fn own(predicate: u32) -> u32
         return SEAT;
     }
     if predicate == formula_parts::PLACE {
-        return PLACE_UNIT;
+        return formula_parts::PLACE_UNIT;
     }
     0
 }
@@ -36,9 +28,9 @@ fn under(principal: u32, part: u32) -> u32
     ensures { λ r. ⌜ r ≡ nearest principal part ⌝ }
 {
     if principal == formula_parts::HOUSE {
-        return part / UNDER_UNIT;
+        return part / formula_parts::UNDER_UNIT;
     }
-    part / HOUSE_UNIT % BYTE
+    part / formula_parts::HOUSE_UNIT % formula_parts::BYTE
 }
 
 // The counts of ⟨K⟩ from its part's: the house's seats are the same whatever stands above ⟨K⟩.
@@ -46,5 +38,5 @@ pub fn said(principal: u32, part: u32) -> u32
     ensures { λ r. ⌜ r ≡ saidCounts principal part ⌝ }
 {
     let house = under(principal, part);
-    part % HOUSE_UNIT + HOUSE_SEAT * house
+    part % formula_parts::HOUSE_UNIT + HOUSE_SEAT * house
 }

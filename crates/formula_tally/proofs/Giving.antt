@@ -2,7 +2,7 @@
 -- its parts give.
 use mathlib.Core.Path.{_≡_, refl, sym, ap, _∙_}
 use mathlib.Core.Bool.{Bool, true, false, _&&_}
-use Prim.Native.Nat.{ℕ, zero, suc, _+_, _*_, _≤_}
+use Prim.Native.Nat.{ℕ, zero, suc, _+_, _*_, _%_, _≤_}
 use native.Mathlib.Omega.{arith}
 use native.Mathlib.Nat.{add-zero}
 use lib.Dec.{eqb}
@@ -19,23 +19,10 @@ use Rattle.ledger.specs.Table.{form, rowOf}
 use Rattle.ledger.specs.Checks.{maxSize}
 use Rattle.store.proofs.Views.{bit-one}
 use Rattle.formula_parts.specs.Parts.{partsOf}
-use Rattle.formula_tally.specs.Gives.{placeUnit, houseUnit, givesUnder, gives, seatsIn, placesIn, houseIn}
+use Rattle.logic.specs.Packed.{placeUnit, houseUnit, underUnit, counts, seatsIn, placesIn, houseIn}
+use Rattle.logic.proofs.Packed.{count-le}
+use Rattle.formula_tally.specs.Gives.{givesUnder, gives}
 use Rattle.formula_tally.specs.Gives.{atomGives, nearest}
-
-pub count-le : (q s : ℕ) (a : Formula) → count q s a ≤ size a
-unfolding count size
-count-le q s (atom p t o) = bit-le (eqb p q && eqb t s)
-count-le q s one = omega arith
-count-le q s (tensor a b) = omega (arith, count-le q s a, count-le q s b)
-count-le q s (with a b) = omega (arith, count-le q s a, count-le q s b)
-count-le q s (plus a b) = omega (arith, count-le q s a, count-le q s b)
-count-le q s (lolli a b) = omega (arith, count-le q s a, count-le q s b)
-count-le q s (implies a b) = omega (arith, count-le q s a, count-le q s b)
-count-le q s (bang a) = omega (arith, count-le q s a)
-count-le q s (at a i) = omega (arith, count-le q s a)
-count-le q s (says k a) = omega (arith, count-le q s a)
-count-le q s (superset i j) = omega arith
-count-le q s (forEvery a) = omega (arith, count-le q s a)
 
 house-le : (under : Bool) (s : ℕ) (a : Formula) → houseUnder under s a ≤ size a
 house-le under s a = omega (arith, house-seats under s a, count-le seat s a)
@@ -57,6 +44,12 @@ unpacked s a le =
     let q = count-le place s a in
     let u = house-le false s a in
     record { seats-in = omega arith; places-in = omega arith; house-in = omega arith }
+
+-- the first three of the four counts
+pub counts-gives : (s : ℕ) (a : Formula) → size a ≤ maxSize → counts s a % underUnit ≡ gives s a
+unfolding counts givesUnder
+counts-gives s a le =
+    omega (arith, count-le seat s a, count-le place s a, house-le false s a, house-le true s a)
 
 -- a formula without seats and places gives nothing
 pub gives-none : (s : ℕ) (a : Formula) → seats s a ≡ 0 → places s a ≡ 0 → gives s a ≡ 0

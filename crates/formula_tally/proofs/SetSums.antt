@@ -2,11 +2,11 @@
 use mathlib.Core.Path.{_≡_, refl, sym, ap, ap₂, _∙_}
 use mathlib.Core.List.{List}
 use mathlib.Core.Bool.{Bool, true, false}
-use Prim.Native.Nat.{ℕ, zero, suc, _+_, _-_, _*_, _/_, _%_, _^_, _≤_, _<_, min}
+use Prim.Native.Nat.{ℕ, zero, suc, _+_, _-_, _*_, _/_, _%_, _^_, _≤_, _<_}
 use native.Mathlib.Omega.{arith}
 use native.Mathlib.Nat.{pow-suc, div-one}
 use lib.Dec.{eqb}
-use lib.Pow.{pow-pos, shr-shr}
+use lib.Pow.{shr-shr}
 use lib.Bits.{bitAnd, and-step, and-self, and-shr}
 use lib.Count.{trailingZeros, under}
 use borrow.Author.Tests.{eqb-true, eq-eqb}
@@ -17,7 +17,8 @@ use Rattle.labels.specs.Labels.{member, remove, _∋_, later, prepend, pick}
 use Rattle.labels.proofs.Sets.{removed, member-below}
 use Rattle.labels.proofs.Pick.{pick-empty, pick-remove}
 use Rattle.formula_tally.specs.ByFormula.{sumTo}
-use Rattle.formula_tally.specs.Sets.{word, words, overSet, overSets, linesIn}
+use Rattle.store_cells.specs.Layout.{setLines, groupWidth}
+use Rattle.formula_tally.specs.Sets.{overSet, overSets}
 use Rattle.formula_tally.proofs.SumLaws.{to-same, to-le, to-first, to-append, to-end}
 
 -- Bits
@@ -85,84 +86,64 @@ over-list (suc n) d f =
     go (suc (suc b)) h l = absurd (omega arith)
 
 -- the lowest bit first
-pub over-next : (d : ℕ) (f : ℕ → ℕ) → 0 < d → d < 2 ^ word
-    → overSet d f ≡ f (trailingZeros word d) + overSet (bitAnd d (d - 1)) f
+pub over-next : (d : ℕ) (f : ℕ → ℕ) → 0 < d → d < 2 ^ setLines
+    → overSet d f ≡ f (trailingZeros setLines d) + overSet (bitAnd d (d - 1)) f
 unfolding overSet sum
 over-next d f h l =
-    let k = trailingZeros word d in
-    let m = lowest-in word d h l in
-    let rest : bitAnd d (d - 1) ≡ remove d k = lowest-off word d h l ∙ sym (removed d k m) in
-    over-list word d f ∙ sym (perm-sum (λ x. x) (pick-remove f word d k (member-below d word k l m) m))
-    ∙ ap (f k +_) (sym (over-list word (remove d k) f) ∙ ap (λ (x : ℕ). overSet x f) (sym rest))
+    let k = trailingZeros setLines d in
+    let m = lowest-in setLines d h l in
+    let rest : bitAnd d (d - 1) ≡ remove d k = lowest-off setLines d h l ∙ sym (removed d k m) in
+    over-list setLines d f ∙ sym (perm-sum (λ x. x) (pick-remove f setLines d k (member-below d setLines k l m) m))
+    ∙ ap (f k +_) (sym (over-list setLines (remove d k) f) ∙ ap (λ (x : ℕ). overSet x f) (sym rest))
 
 pub over-none : (f : ℕ → ℕ) → overSet 0 f ≡ 0
 unfolding overSet sum
-over-none f = over-list word 0 f ∙ ap (sum (λ x. x)) (pick-empty f word)
+over-none f = over-list setLines 0 f ∙ ap (sum (λ x. x)) (pick-empty f setLines)
 
 only-le : (b : Bool) {x m : ℕ} → x ≤ m → only b x ≤ m
 only-le true h = h
 only-le false h = omega arith
 
-pub over-le : (d m : ℕ) (f : ℕ → ℕ) → ((k : ℕ) → f k ≤ m) → overSet d f ≤ word * m
+pub over-le : (d m : ℕ) (f : ℕ → ℕ) → ((k : ℕ) → f k ≤ m) → overSet d f ≤ setLines * m
 unfolding overSet
-over-le d m f h = to-le word m _ (λ k l. only-le (member d k) (h k))
+over-le d m f h = to-le setLines m _ (λ k l. only-le (member d k) (h k))
 
 -- Sets with a bit for each number
 
 module _ (bits f : ℕ → ℕ) where
   -- what number k gives
   at : ℕ → ℕ
-  at k = only (member (bits (k / word)) (k % word)) (f k)
+  at k = only (member (bits (k / setLines)) (k % setLines)) (f k)
 
-  at-is : (w j : ℕ) → j < word → only (member (bits w) j) (f (word * w + j)) ≡ at (word * w + j)
+  at-is : (w j : ℕ) → j < setLines → only (member (bits w) j) (f (setLines * w + j)) ≡ at (setLines * w + j)
   unfolding at
   at-is w j h =
-      let e : (word * w + j) / word ≡ w = omega arith in
-      let q : (word * w + j) % word ≡ j = omega arith in
-      ap₂ (λ (x y : ℕ). only (member (bits x) y) (f (word * w + j))) (sym e) (sym q)
+      let e : (setLines * w + j) / setLines ≡ w = omega arith in
+      let q : (setLines * w + j) % setLines ≡ j = omega arith in
+      ap₂ (λ (x y : ℕ). only (member (bits x) y) (f (setLines * w + j))) (sym e) (sym q)
 
-  blocks : (n : ℕ) → sumTo n (λ w. overSet (bits w) (λ j. f (word * w + j))) ≡ sumTo (word * n) at
+  blocks : (n : ℕ) → sumTo n (λ w. overSet (bits w) (λ j. f (setLines * w + j))) ≡ sumTo (setLines * n) at
   unfolding sumTo overSet
   blocks zero = refl
   blocks (suc n) =
-      let e : word * suc n ≡ word * n + word = omega arith in
-      ap₂ _+_ (blocks n) (to-same word _ _ (λ j h. at-is n j h))
-      ∙ sym (ap (λ (k : ℕ). sumTo k at) e ∙ to-append (word * n) word at)
+      let e : setLines * suc n ≡ setLines * n + setLines = omega arith in
+      ap₂ _+_ (blocks n) (to-same setLines _ _ (λ j h. at-is n j h))
+      ∙ sym (ap (λ (k : ℕ). sumTo k at) e ∙ to-append (setLines * n) setLines at)
 
   -- where only numbers below n have a bit, and f is 0 at those that have none
-  pub sets-sum : (n : ℕ) → n ≤ word * words
-      → ((w j : ℕ) → w < words → j < word → bits w ∋ j → word * w + j < n)
-      → ((k : ℕ) → k < n → member (bits (k / word)) (k % word) ≡ false → f k ≡ 0)
+  pub sets-sum : (n : ℕ) → n ≤ setLines * groupWidth
+      → ((w j : ℕ) → w < groupWidth → j < setLines → bits w ∋ j → setLines * w + j < n)
+      → ((k : ℕ) → k < n → member (bits (k / setLines)) (k % setLines) ≡ false → f k ≡ 0)
       → overSets bits f ≡ sumTo n f
   unfolding at
   sets-sum n le within without =
-      blocks words ∙ to-end n (word * words) at le (λ k h l. past k h l _ refl) ∙ to-same n _ _ (λ k h. here k h _ refl)
+      blocks groupWidth ∙ to-end n (setLines * groupWidth) at le (λ k h l. past k h l _ refl) ∙ to-same n _ _ (λ k h. here k h _ refl)
     where
-      past : (k : ℕ) → n ≤ k → k < word * words → (b : Bool) → member (bits (k / word)) (k % word) ≡ b
+      past : (k : ℕ) → n ≤ k → k < setLines * groupWidth → (b : Bool) → member (bits (k / setLines)) (k % setLines) ≡ b
           → only b (f k) ≡ 0
-      past k h l true e = absurd (omega (arith, within (k / word) (k % word) (omega arith) (omega arith) e))
+      past k h l true e = absurd (omega (arith, within (k / setLines) (k % setLines) (omega arith) (omega arith) e))
       past k h l false e = refl
 
-      here : (k : ℕ) → k < n → (b : Bool) → member (bits (k / word)) (k % word) ≡ b → only b (f k) ≡ f k
+      here : (k : ℕ) → k < n → (b : Bool) → member (bits (k / setLines)) (k % setLines) ≡ b → only b (f k) ≡ f k
       here k h true e = refl
       here k h false e = sym (without k h e)
-
--- The lowest bits
-
-ones-in : (c j : ℕ) → j < c → (2 ^ c - 1) / 2 ^ j % 2 ≡ 1
-ones-in zero j h = absurd (omega arith)
-ones-in (suc c) zero h = ap (_% 2) (div-one _) ∙ (omega (arith, pow-suc 2 c, pow-pos c))
-ones-in (suc c) (suc j) h =
-    let e : (2 ^ suc c - 1) / 2 ≡ 2 ^ c - 1 = omega (arith, pow-suc 2 c) in
-    half-bit (2 ^ suc c - 1) j ∙ ap (λ (x : ℕ). x / 2 ^ j % 2) e ∙ ones-in c j (omega arith)
-
--- bit j of `linesIn n w` is set where formula word * w + j is below n
-pub lines-there : (n w j : ℕ) → linesIn n w ∋ j → word * w + j < n
-unfolding linesIn
-lines-there n w j h =
-    let c = min (n - word * w) word in
-    omega (arith, member-below (2 ^ c - 1) c j (omega (arith, pow-pos c)) h)
-
-pub lines-marked : (n i : ℕ) → i < n → linesIn n (i / word) ∋ i % word
-unfolding linesIn
-lines-marked n i h = eq-eqb _ _ (ones-in (min (n - word * (i / word)) word) (i % word) (omega arith))

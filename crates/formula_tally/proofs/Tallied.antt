@@ -17,16 +17,18 @@ use Rattle.ledger.specs.Checks.{maxSize, maxLive}
 use Rattle.ledger.specs.Bounds.{Bounded}
 use Rattle.labels.specs.Labels.{member, _∋_}
 use Rattle.labels.proofs.Sets.{member-below}
-use Rattle.store_cells.specs.Layout.{lowAt, highAt}
+use Rattle.store_cells.specs.Layout.{setLines, groups, groupWidth, groupAt, lowAt, highAt}
 use Rattle.store.specs.Store.{ledgerOf, Good}
 use Rattle.store.proofs.Views.{lines-length}
 use Rattle.formula_tally.specs.declared.Sums.{Sums}
-use Rattle.formula_tally.specs.Gives.{gives, seatsIn, placesIn, houseIn}
+use Rattle.logic.specs.Packed.{underUnit, counts, seatsIn, placesIn, houseIn}
+use Rattle.logic.proofs.Packed.{count-le}
+use Rattle.formula_tally.specs.Gives.{gives}
 use Rattle.formula_tally.specs.ByFormula.{singlesWith, singlesWithout, sumTo, openBy, shutBy, placedBy}
 use Rattle.formula_tally.specs.ByFormula.{openAt, seatsAt, placesAt, GivenBy, Added}
-use Rattle.formula_tally.specs.Sets.{word, words, overSet, Named, SetAdded}
+use Rattle.formula_tally.specs.Sets.{overSet, Named, SetAdded}
 use Rattle.formula_tally.proofs.SumLaws.{to-same, to-plus, to-le, to-next}
-use Rattle.formula_tally.proofs.Giving.{count-le, gives-none, unpacked}
+use Rattle.formula_tally.proofs.Giving.{gives-none, unpacked, counts-gives}
 use Rattle.formula_tally.proofs.SetSums.{lowest-in, and-member, over-next, over-none, over-le, sets-sum}
 use Rattle.formula_tally.proofs.Walks.{singles-few}
 
@@ -119,14 +121,14 @@ module _ (t : Ledger) (s m base d : ℕ) where
       none : (f : ℕ → ℕ) → overSet rest f ≡ 0
       none f = ap (λ (x : ℕ). overSet x f) e ∙ over-none f
 
-  module _ {rest o a p : ℕ} (u : Left t s m base d rest o a p) (h : 0 < rest) (l : rest < 2 ^ word) where
+  module _ {rest o a p : ℕ} (u : Left t s m base d rest o a p) (h : 0 < rest) (l : rest < 2 ^ setLines) where
     -- the next formula
-    pub next : base + trailingZeros word rest < length (t .lines)
+    pub next : base + trailingZeros setLines rest < length (t .lines)
     next =
-        let i = lowest-in word rest h l in
-        u .there (trailingZeros word rest) (member-below rest word _ l i) i
+        let i = lowest-in setLines rest h l in
+        u .there (trailingZeros setLines rest) (member-below rest setLines _ l i) i
 
-    module _ {r : Sums} (v : GivenBy t s m (base + trailingZeros word rest) r) where
+    module _ {r : Sums} (v : GivenBy t s m (base + trailingZeros setLines rest) r) where
       pub left-next : Left t s m base d (bitAnd rest (rest - 1)) (o + r .«open») (a + r .seats) (p + r .places)
       left-next = record {
         there = λ j q i. u .there j q (and-member rest (rest - 1) j i);
@@ -136,8 +138,8 @@ module _ (t : Ledger) (s m base d : ℕ) where
         places = omega (arith, u .places, v .places, over-next rest (λ j. placesAt t s m (base + j)) h l);
       }
 
-      pub left-small : Bounded t → (o + r .«open» ≤ word * mostGiven) × (a + r .seats ≤ word * mostGiven)
-          × (p + r .places ≤ word * mostGiven)
+      pub left-small : Bounded t → (o + r .«open» ≤ setLines * mostGiven) × (a + r .seats ≤ setLines * mostGiven)
+          × (p + r .places ≤ setLines * mostGiven)
       left-small b =
           let limit : (k : ℕ) → Small t s m (base + k) = λ k. small t s m b (base + k) in (
             omega (arith, left-next .opens, over-le d mostGiven _ (λ k. limit k .opens)),
@@ -149,22 +151,22 @@ module _ (t : Ledger) (s m base d : ℕ) where
 
 -- the sets have a bit for each formula that may have an atom of the session, and none for what is no formula
 pub record Marks (l : List ℕ) (s : ℕ) (bits : ℕ → ℕ) : Type 0 where
-  pub within : (w j : ℕ) → w < words → j < word → bits w ∋ j → word * w + j < length (ledgerOf l .lines)
+  pub within : (w j : ℕ) → w < groupWidth → j < setLines → bits w ∋ j → setLines * w + j < length (ledgerOf l .lines)
   pub marked : (i : ℕ) → i < length (ledgerOf l .lines) → lowAt l i ≤ s → s ≤ highAt l i
-      → bits (i / word) ∋ i % word
+      → bits (i / setLines) ∋ i % setLines
 
 -- the sums over the first w of the sets
 pub record Adding (t : Ledger) (s m : ℕ) (bits : ℕ → ℕ) (w o a p : ℕ) : Type 0 where
-  pub opens : o ≡ sumTo w (λ v. overSet (bits v) (λ j. openAt t s m (word * v + j)))
-  pub seats : a ≡ sumTo w (λ v. overSet (bits v) (λ j. seatsAt t s m (word * v + j)))
-  pub places : p ≡ sumTo w (λ v. overSet (bits v) (λ j. placesAt t s m (word * v + j)))
+  pub opens : o ≡ sumTo w (λ v. overSet (bits v) (λ j. openAt t s m (setLines * v + j)))
+  pub seats : a ≡ sumTo w (λ v. overSet (bits v) (λ j. seatsAt t s m (setLines * v + j)))
+  pub places : p ≡ sumTo w (λ v. overSet (bits v) (λ j. placesAt t s m (setLines * v + j)))
 
 module _ (t : Ledger) (s m : ℕ) (bits : ℕ → ℕ) where
   pub adding-start : Adding t s m bits 0 0 0 0
   unfolding sumTo
   adding-start = record { opens = refl; seats = refl; places = refl }
 
-  pub adding-next : {w o a p : ℕ} {r : Sums} → Adding t s m bits w o a p → SetAdded t s m (word * w) (bits w) r
+  pub adding-next : {w o a p : ℕ} {r : Sums} → Adding t s m bits w o a p → SetAdded t s m (setLines * w) (bits w) r
       → Adding t s m bits (w + 1) (o + r .«open») (a + r .seats) (p + r .places)
   adding-next {w} u v = record {
     opens = ap₂ _+_ (u .opens) (v .opens) ∙ sym (to-next w _);
@@ -173,11 +175,11 @@ module _ (t : Ledger) (s m : ℕ) (bits : ℕ → ℕ) where
   }
 
   pub adding-small : Bounded t → {w o a p : ℕ} → Adding t s m bits w o a p
-      → (o ≤ w * (word * mostGiven)) × (a ≤ w * (word * mostGiven)) × (p ≤ w * (word * mostGiven))
+      → (o ≤ w * (setLines * mostGiven)) × (a ≤ w * (setLines * mostGiven)) × (p ≤ w * (setLines * mostGiven))
   adding-small b {w} u = (
-    omega (arith, u .opens, to-le w _ _ (λ v h. over-le (bits v) _ _ (λ j. small t s m b (word * v + j) .opens))),
-    omega (arith, u .seats, to-le w _ _ (λ v h. over-le (bits v) _ _ (λ j. small t s m b (word * v + j) .seats))),
-    omega (arith, u .places, to-le w _ _ (λ v h. over-le (bits v) _ _ (λ j. small t s m b (word * v + j) .places))),
+    omega (arith, u .opens, to-le w _ _ (λ v h. over-le (bits v) _ _ (λ j. small t s m b (setLines * v + j) .opens))),
+    omega (arith, u .seats, to-le w _ _ (λ v h. over-le (bits v) _ _ (λ j. small t s m b (setLines * v + j) .seats))),
+    omega (arith, u .places, to-le w _ _ (λ v h. over-le (bits v) _ _ (λ j. small t s m b (setLines * v + j) .places))),
   )
 
 module _ (l : List ℕ) (s m : ℕ) (g : Good l) where
@@ -190,9 +192,23 @@ module _ (l : List ℕ) (s m : ℕ) (g : Good l) where
       let z = g .spans i (omega (arith, lines-length l)) in
       gives-none s (formula t i) (z seat s o) (z place s o)
 
+  -- what is kept with a formula, of its lowest session
+  pub kept : {n : ℕ} (i : ℕ) → i < length (t .lines) → s ≡ lowAt l i → n ≡ counts (lowAt l i) (formula t i)
+      → n % underUnit ≡ gives s (formula t i)
+  kept i h e c =
+      ap (_% underUnit) (c ∙ ap (λ (x : ℕ). counts x (formula t i)) (sym e))
+      ∙ counts-gives s (formula t i) (g .bounded .sizes i)
+
+  -- the sets of the session's group
+  pub marks : Marks l s (groupAt l (s % groups))
+  marks = record {
+    within = λ w j p q i. omega (arith, lines-length l, g .grouped .within (s % groups) w j (omega arith) p q i);
+    marked = λ i h p q. g .grouped .near i s (omega (arith, lines-length l)) p q;
+  }
+
   module _ (bits : ℕ → ℕ) (k : Marks l s bits) where
     -- a formula that has no bit
-    unmarked : (i : ℕ) → i < length (t .lines) → member (bits (i / word)) (i % word) ≡ false
+    unmarked : (i : ℕ) → i < length (t .lines) → member (bits (i / setLines)) (i % setLines) ≡ false
         → (s < lowAt l i) ⊎ (highAt l i < s)
     unmarked i h e = go (decLe (lowAt l i) s) (decLe s (highAt l i))
       where
@@ -202,19 +218,19 @@ module _ (l : List ℕ) (s m : ℕ) (g : Good l) where
         go (yes p) (no q) = inr (omega arith)
 
     marked-sum : (f : ℕ → ℕ) → ((i : ℕ) → seats s (formula t i) ≡ 0 → places s (formula t i) ≡ 0 → f i ≡ 0)
-        → {w x : ℕ} → w ≡ words → x ≡ sumTo w (λ v. overSet (bits v) (λ j. f (word * v + j)))
+        → {w x : ℕ} → w ≡ groupWidth → x ≡ sumTo w (λ v. overSet (bits v) (λ j. f (setLines * v + j)))
         → x ≡ sumTo (length (t .lines)) f
     marked-sum f none e h =
-        h ∙ ap (λ (x : ℕ). sumTo x (λ v. overSet (bits v) (λ j. f (word * v + j)))) e
+        h ∙ ap (λ (x : ℕ). sumTo x (λ v. overSet (bits v) (λ j. f (setLines * v + j)))) e
         ∙ sets-sum bits f (length (t .lines)) (omega (arith, g .bounded .lines)) (k .within) away
       where
-        away : (i : ℕ) → i < length (t .lines) → member (bits (i / word)) (i % word) ≡ false → f i ≡ 0
+        away : (i : ℕ) → i < length (t .lines) → member (bits (i / setLines)) (i % setLines) ≡ false → f i ≡ 0
         away i h e =
             let z = g .spans i (omega (arith, lines-length l)) in
             let o = unmarked i h e in
             none i (z seat s o) (z place s o)
 
-    pub adding-all : {w : ℕ} {r : Sums} → w ≡ words → Adding t s m bits w (r .«open») (r .seats) (r .places)
+    pub adding-all : {w : ℕ} {r : Sums} → w ≡ groupWidth → Adding t s m bits w (r .«open») (r .seats) (r .places)
         → Added t s m r
     unfolding openBy shutBy placedBy
     adding-all {w} {r} e u =

@@ -22,7 +22,8 @@ use Rattle.ledger.specs.Checks.{maxSize, maxFormulas}
 use Rattle.ledger.specs.Bounds.{lineAt, There, Bounded}
 use Rattle.formula_parts.specs.Parts.{partsOf}
 use Rattle.formula_parts.proofs.PartsOfRows.{sizeRow, parts-row, size-row}
-use Rattle.formula_tally.specs.Gives.{placeUnit, houseUnit, givesUnder, gives, atomGives, nearest, item, pushed}
+use Rattle.logic.specs.Packed.{placeUnit, houseUnit}
+use Rattle.formula_tally.specs.Gives.{givesUnder, gives, atomGives, nearest, item, pushed}
 use Rattle.formula_tally.specs.Gives.{Room}
 use Rattle.formula_tally.specs.ByFormula.{sumTo}
 use Rattle.formula_tally.proofs.SumLaws.{to-same, to-next, to-many}

@@ -1,28 +1,19 @@
 -- What one single gives: three counts of its formula in one number, and how a walk down the formula's tree finds them.
 use mathlib.Core.List.{List, [], _∷_}
 use mathlib.Core.Bool.{Bool, false}
-use Prim.Native.Nat.{ℕ, _+_, _*_, _/_, _%_, _≤_, _<_}
+use Prim.Native.Nat.{ℕ, _+_, _*_, _≤_, _<_}
 use Prim.Native.Char.{code}
 use lib.Dec.{eqb}
 use lib.ListN.{length, set}
 use Rattle.logic.specs.Choice.{pick}
 use Rattle.logic.specs.Formula.{Formula, bit, seat, place, house, seats, places, houseUnder}
+use Rattle.logic.specs.Packed.{placeUnit, houseUnit}
 use Rattle.logic.specs.Multiset.{Every}
 use Rattle.steps.specs.declared.Row.{Row}
 use Rattle.ledger.specs.Checks.{maxSize, maxFormulas}
 use Rattle.formula_parts.specs.Parts.{atomic}
 
--- three counts in one number, a byte each: what counts as one of the second, the third
-abbrev pub byte : ℕ
-byte = 256
-
-abbrev pub placeUnit : ℕ
-placeUnit = byte
-
-abbrev pub houseUnit : ℕ
-houseUnit = byte * placeUnit
-
--- Of session s in a formula: seats, places, house seats; `under` says whether the nearest ⟨K⟩ above the formula is the
+-- Of session s in a formula, in one number as `counts` of logic/specs/Packed: seats, places, house seats; `under` says whether the nearest ⟨K⟩ above the formula is the
 -- house's.
 unfoldable pub givesUnder : Bool → ℕ → Formula → ℕ
 givesUnder under s a = seats s a + placeUnit * places s a + houseUnit * houseUnder under s a
@@ -30,16 +21,6 @@ givesUnder under s a = seats s a + placeUnit * places s a + houseUnit * houseUnd
 -- above the whole formula of a credential stands nothing
 abbrev pub gives : ℕ → Formula → ℕ
 gives s a = givesUnder false s a
-
--- the three in a number
-abbrev pub seatsIn : ℕ → ℕ
-seatsIn n = n % byte
-
-abbrev pub placesIn : ℕ → ℕ
-placesIn n = n / placeUnit % byte
-
-abbrev pub houseIn : ℕ → ℕ
-houseIn n = n / houseUnit % byte
 
 -- Of a row, where u is 1 if the nearest ⟨K⟩ above it is the house's, else 0: what it gives by itself; the same number
 -- for its parts.

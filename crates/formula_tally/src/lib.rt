@@ -17,7 +17,7 @@ ghost use Rattle.store.specs.Store.{ledgerOf, Good};
 ghost use Rattle.formula_tally.specs.Gives.{gives};
 ghost use Rattle.formula_tally.specs.Tally.{Tallied};
 ghost use Rattle.formula_tally.specs.ByFormula.{ByFormula, singlesWith, singlesWithout, GivenBy, Added};
-ghost use Rattle.formula_tally.specs.Sets.{words, linesIn, Named, SetAdded};
+ghost use Rattle.formula_tally.specs.Sets.{Named, SetAdded};
 
 // The sums of a tally over the live linear credentials: "Open now counts only seats whose nearest ⟨K⟩ above them is
 // principal 1, in a window that has the minute. All other seats, bare ones too, go to shut"; placed are the places.
@@ -34,24 +34,23 @@ struct Sums {
     places: u32,
 }
 
-// Sets of formulas: bit j of number w stands for formula WORD * w + j.
-const WORD: u32 = 32;
-
-const WORDS: u32 = 7;
-
 // How many live linear credentials of a formula have the minute in their interval, and how many have not.
 struct Singles {
     inside: u32,
     outside: u32,
 }
 
-// What one single gives of a session, three counts in one number. Most formulas have no atom of the session, and the
-// numbers kept with their rows tell so.
+// What one single gives of a session, three counts in one number. Of a formula's lowest session it is kept with its row,
+// and most formulas have atoms of one session alone.
 fn count_formula(store: &Store, formula: u32, session: u32) -> u32
     requires { ⌜ Good (now store) × (formula < length (ledgerOf (now store) .lines)) ⌝ }
     ensures { λ r. ⌜ r ≡ gives session (formulaOf (ledgerOf (now (store .entry))) formula) ⌝ }
 {
-    if session < store::low_at(store, formula) {
+    let low = store::low_at(store, formula);
+    if session == low {
+        return store::gives_at(store, formula) % formula_parts::UNDER_UNIT;
+    }
+    if session < low {
         return 0;
     }
     if store::high_at(store, formula) < session {
@@ -127,9 +126,9 @@ fn given_by(store: &Store, formula: u32, session: u32, minute: u32) -> Sums
     let singles = count_singles(store, formula, minute);
     let all = singles.inside + singles.outside;
     Sums {
-        open: singles.inside * (one / walk::HOUSE_UNIT % walk::BYTE),
-        seats: all * (one % walk::BYTE),
-        places: all * (one / walk::PLACE_UNIT % walk::BYTE),
+        open: singles.inside * (one / formula_parts::HOUSE_UNIT % formula_parts::BYTE),
+        seats: all * (one % formula_parts::BYTE),
+        places: all * (one / formula_parts::PLACE_UNIT % formula_parts::BYTE),
     }
 }
 
@@ -156,23 +155,7 @@ fn add_set(store: &Store, base: u32, bits: u32, session: u32, minute: u32) -> Su
     }
 }
 
-// The formulas that there are, as a set: bit j stands for formula WORD * w + j.
-fn lines_in(store: &Store, w: u32) -> u32
-    requires { ⌜ w < words ⌝ }
-    ensures { λ r. ⌜ r ≡ linesIn (length (ledgerOf (now (store .entry)) .lines)) w ⌝ }
-{
-    let n = store::formula_count(store);
-    if n <= WORD * w {
-        return 0;
-    }
-    let more = n - WORD * w;
-    if WORD <= more {
-        return u32::MAX;
-    }
-    (1 << more) - 1
-}
-
-// What all formulas give.
+// What all formulas give: those of the session's group, for the others have nothing of it.
 fn add_up(store: &Store, session: u32, minute: u32) -> Sums
     requires { ⌜ Good (now store) ⌝ }
     ensures { λ r. ⌜ Added (ledgerOf (now (store .entry))) session minute r ⌝ }
@@ -181,9 +164,9 @@ fn add_up(store: &Store, session: u32, minute: u32) -> Sums
     let mut seats = 0;
     let mut places = 0;
     let mut w = 0;
-    while w < WORDS {
-        let bits = lines_in(store, w);
-        let more = add_set(store, WORD * w, bits, session, minute);
+    while w < store_cells::GROUP_WIDTH {
+        let bits = store::near(store, session % store_cells::GROUPS, w);
+        let more = add_set(store, store_cells::SET_LINES * w, bits, session, minute);
         open += more.open;
         seats += more.seats;
         places += more.places;

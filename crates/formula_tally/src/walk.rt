@@ -12,14 +12,6 @@ ghost use Rattle.store.specs.Store.{ledgerOf, Good};
 ghost use Rattle.formula_parts.specs.Parts.{numbers};
 ghost use Rattle.formula_tally.specs.Gives.{gives, atomGives, nearest as nearestOf, pushed, Room};
 
-// What a formula gives is three counts in one number, a byte each, for no formula has more than 64 of anything: seats,
-// places, the house's seats.
-pub const BYTE: u32 = 256;
-
-pub const PLACE_UNIT: u32 = BYTE;
-
-pub const HOUSE_UNIT: u32 = BYTE * PLACE_UNIT;
-
 // The parts that are still to be looked at: each is twice the formula's number, and one more where the nearest ⟨K⟩
 // above it is the house's. A formula has no more of them than its size.
 const ROOM: usize = ledger::MAX_SIZE as usize;
@@ -34,10 +26,10 @@ fn atom(row: Row, under: u32, session: u32) -> u32
     if (row.letter == letters::ATOM) | (row.letter == letters::NAMED) {
         if row.b == session {
             if row.a == formula_parts::SEAT {
-                return 1 + HOUSE_UNIT * under;
+                return 1 + formula_parts::HOUSE_UNIT * under;
             }
             if row.a == formula_parts::PLACE {
-                return PLACE_UNIT;
+                return formula_parts::PLACE_UNIT;
             }
         }
     }

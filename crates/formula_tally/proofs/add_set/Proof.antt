@@ -8,7 +8,7 @@ use lib.Bits.{and-le-r}
 use lib.Count.{trailingZeros}
 use denote.Ref.{now}
 use Rattle.store.specs.Store.{ledgerOf}
-use Rattle.formula_tally.specs.Sets.{word}
+use Rattle.store_cells.specs.Layout.{setLines}
 use Rattle.formula_tally.proofs.Tallied.{mostGiven, Left, left-start, left-end, next, left-next, left-small}
 use Rattle.formula_tally.proofs.add_set.Statement.{statement}
 use Rattle.formula_tally.proofs.add_set.Tie as tie
@@ -21,14 +21,14 @@ abbrev μ-loop : tie.MeasureT-loop
 μ-loop store base bits session minute rest₀ open₀ seats₀ places₀ rest «open» seats places = rest
 
 -- the bits left are those of a number that fits
-wide : (c : tie.In-loop Inv-loop μ-loop) → c .before .loop .rest < 2 ^ word
+wide : (c : tie.In-loop Inv-loop μ-loop) → c .before .loop .rest < 2 ^ setLines
 wide c =
-    let fits : c .before .before .args .bits < 2 ^ word = search needs in
+    let fits : c .before .before .args .bits < 2 ^ setLines = search needs in
     omega (arith, c .before .loop .inv .within)
 
 -- the next formula is there
 there : (c : tie.In-loop Inv-loop μ-loop)
-    → c .before .before .args .base + trailingZeros word (c .before .loop .rest)
+    → c .before .before .args .base + trailingZeros setLines (c .before .loop .rest)
     < length (ledgerOf (now (c .before .before .args .store)) .lines)
 there c =
     let s = c .before .before in
@@ -37,9 +37,9 @@ there c =
 
 -- the sums fit
 record Small (c : tie.After-given-by Inv-loop μ-loop) : Type 0 where
-  opens : c .before .before .loop .«open» + c .given-by .result .«open» ≤ word * mostGiven
-  seats : c .before .before .loop .seats + c .given-by .result .seats ≤ word * mostGiven
-  places : c .before .before .loop .places + c .given-by .result .places ≤ word * mostGiven
+  opens : c .before .before .loop .«open» + c .given-by .result .«open» ≤ setLines * mostGiven
+  seats : c .before .before .loop .seats + c .given-by .result .seats ≤ setLines * mostGiven
+  places : c .before .before .loop .places + c .given-by .result .places ≤ setLines * mostGiven
 
 small : (c : tie.After-given-by Inv-loop μ-loop) → Small c
 small c =

@@ -1,33 +1,28 @@
 -- `add_up` meets its contract. The loop: the sums over the first w of the sets.
 use mathlib.Core.Path.{_≡_, sym, subst}
 use mathlib.Core.List.{List}
-use Prim.Native.Nat.{ℕ, _+_, _*_, _-_, _≤_}
+use Prim.Native.Nat.{ℕ, _+_, _*_, _-_, _%_, _≤_}
 use native.Mathlib.Omega.{arith}
 use lib.ListN.{length}
 use denote.Ref.{now}
 use Rattle.store.specs.Store.{ledgerOf}
-use Rattle.formula_tally.specs.Sets.{word, words, linesIn, Named, SetAdded}
-use Rattle.formula_tally.proofs.SetSums.{lines-there, lines-marked}
+use Rattle.store_cells.specs.Layout.{groups, setLines, groupWidth, groupAt}
+use Rattle.formula_tally.specs.Sets.{Named, SetAdded}
 use Rattle.formula_tally.proofs.Tallied.{mostGiven, Marks, Adding, adding-start, adding-next, adding-small}
-use Rattle.formula_tally.proofs.Tallied.{adding-all}
+use Rattle.formula_tally.proofs.Tallied.{adding-all, marks}
 use Rattle.formula_tally.proofs.add_up.Statement.{statement}
 use Rattle.formula_tally.proofs.add_up.Tie as tie
 
 -- the sets, of a store and a session
 abbrev sets : List ℕ → ℕ → ℕ → ℕ
-sets l s w = linesIn (length (ledgerOf l .lines)) w
-
-marks : (l : List ℕ) (s : ℕ) → Marks l s (sets l s)
-marks l s =
-    let n = length (ledgerOf l .lines) in
-    record { within = λ w j p q i. lines-there n w j i; marked = λ i h p q. lines-marked n i h }
+sets l s = groupAt l (s % groups)
 
 abbrev Inv-loop : tie.InvT-loop
 Inv-loop store session minute open₀ seats₀ places₀ w₀ «open» seats places w =
-    (w ≤ words) × Adding (ledgerOf store) session minute (sets store session) w «open» seats places
+    (w ≤ groupWidth) × Adding (ledgerOf store) session minute (sets store session) w «open» seats places
 
 abbrev μ-loop : tie.MeasureT-loop
-μ-loop store session minute open₀ seats₀ places₀ w₀ «open» seats places w = words - w
+μ-loop store session minute open₀ seats₀ places₀ w₀ «open» seats places w = groupWidth - w
 
 loop-holds : tie.Need-loop-holds Inv-loop μ-loop
 loop-holds c =
@@ -41,8 +36,8 @@ add-set-requires c κs =
     let l = now (s .args .store) in
     let w = t .before .loop .w in (
       s .pre,
-      subst (Named (length (ledgerOf l .lines)) (word * w)) (sym (c .lines-in .ensures))
-          (λ j q i. marks l (s .args .session) .within w j (t .loop-test .taken) q i),
+      subst (Named (length (ledgerOf l .lines)) (setLines * w)) (sym (c .near .ensures))
+          (λ j q i. marks l (s .args .session) 0 (s .pre) .within w j (t .loop-test .taken) q i),
     )
 
 -- the sums with one set more
@@ -58,14 +53,14 @@ added c =
     let l = now (s .args .store) in
     let t = ledgerOf l in
     adding-next t (s .args .session) (s .args .minute) (sets l (s .args .session)) (at .loop .inv .1)
-    (subst (λ (d : ℕ). SetAdded t (s .args .session) (s .args .minute) (word * at .loop .w) d (c .add-set .result))
-    (c .before .lines-in .ensures) (c .add-set .ensures))
+    (subst (λ (d : ℕ). SetAdded t (s .args .session) (s .args .minute) (setLines * at .loop .w) d (c .add-set .result))
+    (c .before .near .ensures) (c .add-set .ensures))
 
 -- they fit
 record Small (c : tie.After-add-set Inv-loop μ-loop) : Type 0 where
-  opens : c .before .before .before .loop .«open» + c .add-set .result .«open» ≤ words * (word * mostGiven)
-  seats : c .before .before .before .loop .seats + c .add-set .result .seats ≤ words * (word * mostGiven)
-  places : c .before .before .before .loop .places + c .add-set .result .places ≤ words * (word * mostGiven)
+  opens : c .before .before .before .loop .«open» + c .add-set .result .«open» ≤ groupWidth * (setLines * mostGiven)
+  seats : c .before .before .before .loop .seats + c .add-set .result .seats ≤ groupWidth * (setLines * mostGiven)
+  places : c .before .before .before .loop .places + c .add-set .result .places ≤ groupWidth * (setLines * mostGiven)
 
 small : (c : tie.After-add-set Inv-loop μ-loop) → Small c
 small c =
@@ -83,9 +78,9 @@ returns c =
     let s = at .before in
     let l = now (s .args .store) in
     let h = c .loop-test .left in
-    let e : at .loop .w ≡ words = omega (arith, at .loop .inv .0) in
+    let e : at .loop .w ≡ groupWidth = omega (arith, at .loop .inv .0) in
     adding-all l (s .args .session) (s .args .minute) (s .pre) (sets l (s .args .session))
-    (marks l (s .args .session)) e (at .loop .inv .1)
+    (marks l (s .args .session) 0 (s .pre)) e (at .loop .inv .1)
 
 pub add-up-spec : {M : Type 1} → statement M
 add-up-spec =
@@ -94,7 +89,7 @@ add-up-spec =
     Inv-loop
     μ-loop
     loop-holds
-    (λ c κs. c .loop-test .taken)
+    (λ c κs. (omega arith, c .before .loop-test .taken))
     (λ c. let h = c .before .loop-test .taken in omega arith)
     add-set-requires
     (λ c. omega (arith, small (c .before) .opens))

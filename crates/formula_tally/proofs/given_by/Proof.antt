@@ -5,7 +5,7 @@ use native.Mathlib.Omega.{arith}
 use denote.Ref.{now}
 use Rattle.ledger.specs.Ledger.{formula}
 use Rattle.store.specs.Store.{ledgerOf}
-use Rattle.formula_tally.specs.Gives.{byte, placeUnit, houseUnit, seatsIn, placesIn, houseIn}
+use Rattle.logic.specs.Packed.{byte, placeUnit, houseUnit, seatsIn, placesIn, houseIn}
 use Rattle.formula_tally.specs.ByFormula.{openAt, seatsAt, placesAt}
 use Rattle.formula_tally.proofs.Giving.{unpacked}
 use Rattle.formula_tally.proofs.Walks.{walk-start, with-all, without-all}
