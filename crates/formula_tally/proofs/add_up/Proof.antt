@@ -89,7 +89,7 @@ add-up-spec =
     Inv-loop
     μ-loop
     loop-holds
-    (λ c κs. (omega arith, c .before .loop-test .taken))
+    (λ c κs. (omega arith, c .loop-test .taken))
     (λ c. let h = c .before .loop-test .taken in omega arith)
     add-set-requires
     (λ c. omega (arith, small (c .before) .opens))
