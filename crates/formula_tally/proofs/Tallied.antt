@@ -147,6 +147,19 @@ module _ (t : Ledger) (s m base d : ℕ) where
             omega (arith, left-next .places, over-le d mostGiven _ (λ k. limit k .places)),
           )
 
+    -- one that gives nothing is passed
+    pub left-pass : GivenBy t s m (base + trailingZeros setLines rest) nothing
+        → Left t s m base d (bitAnd rest (rest - 1)) o a p
+    left-pass v =
+        let x = left-next v in
+        record {
+          there = x .there;
+          within = x .within;
+          opens = omega (arith, x .opens);
+          seats = omega (arith, x .seats);
+          places = omega (arith, x .places);
+        }
+
 -- Over sets
 
 -- the sets have a bit for each formula that may have an atom of the session, and none for what is no formula
@@ -173,6 +186,19 @@ module _ (t : Ledger) (s m : ℕ) (bits : ℕ → ℕ) where
     seats = ap₂ _+_ (u .seats) (v .seats) ∙ sym (to-next w _);
     places = ap₂ _+_ (u .places) (v .places) ∙ sym (to-next w _);
   }
+
+  -- an empty set
+  pub adding-pass : {w o a p : ℕ} → Adding t s m bits w o a p → bits w ≡ 0 → Adding t s m bits (w + 1) o a p
+  adding-pass {w} u e = record {
+    opens = u .opens ∙ same (λ v j. openAt t s m (setLines * v + j));
+    seats = u .seats ∙ same (λ v j. seatsAt t s m (setLines * v + j));
+    places = u .places ∙ same (λ v j. placesAt t s m (setLines * v + j));
+  }
+    where
+      same : (f : ℕ → ℕ → ℕ) → sumTo w (λ v. overSet (bits v) (f v)) ≡ sumTo (w + 1) (λ v. overSet (bits v) (f v))
+      same f =
+          let z : overSet (bits w) (f w) ≡ 0 = ap (λ (d : ℕ). overSet d (f w)) e ∙ over-none (f w) in
+          omega (arith, z, to-next w (λ v. overSet (bits v) (f v)))
 
   pub adding-small : Bounded t → {w o a p : ℕ} → Adding t s m bits w o a p
       → (o ≤ w * (setLines * mostGiven)) × (a ≤ w * (setLines * mostGiven)) × (p ≤ w * (setLines * mostGiven))

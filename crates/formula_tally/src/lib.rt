@@ -88,7 +88,7 @@ fn count_singles(store: &Store, formula: u32, minute: u32) -> Singles
     ensures few { λ r. ⌜ (r .inside + r .outside) ≤ maxRows ⌝ }
 {
     let mut inside = 0;
-    let mut outside = 0;
+    let mut all = 0;
     let mut next = store::last_row(store, formula);
     while 0 < next {
         let i = next - 1;
@@ -97,24 +97,20 @@ fn count_singles(store: &Store, formula: u32, minute: u32) -> Singles
         let linear = when_linear(kind, 1);
         let one = when_has(c.interval, minute, linear);
         inside += one;
-        outside += linear - one;
+        all += linear;
         next = store::row_before(store, i);
     }
-    Singles { inside, outside }
+    Singles {
+        inside,
+        outside: all - inside,
+    }
 }
 
-// What a formula gives: its counts × what one single gives. One that has no coupon gives nothing.
+// What a formula gives: its counts × what one single gives.
 fn given_by(store: &Store, formula: u32, session: u32, minute: u32) -> Sums
     requires { ⌜ Good (now store) × (formula < length (ledgerOf (now store) .lines)) ⌝ }
     ensures { λ r. ⌜ GivenBy (ledgerOf (now (store .entry))) session minute formula r ⌝ }
 {
-    if store::last_row(store, formula) == 0 {
-        return Sums {
-            open: 0,
-            seats: 0,
-            places: 0,
-        };
-    }
     let one = count_formula(store, formula, session);
     if one == 0 {
         return Sums {
@@ -132,7 +128,7 @@ fn given_by(store: &Store, formula: u32, session: u32, minute: u32) -> Sums
     }
 }
 
-// What the formulas of a set give: bit j of `bits` stands for formula base + j.
+// What the formulas of a set give: bit j of `bits` stands for formula base + j. One that has no coupon gives nothing.
 fn add_set(store: &Store, base: u32, bits: u32, session: u32, minute: u32) -> Sums
     requires { ⌜ Good (now store) × Named (length (ledgerOf (now store) .lines)) base bits ⌝ }
     ensures { λ r. ⌜ SetAdded (ledgerOf (now (store .entry))) session minute base bits r ⌝ }
@@ -142,11 +138,14 @@ fn add_set(store: &Store, base: u32, bits: u32, session: u32, minute: u32) -> Su
     let mut seats = 0;
     let mut places = 0;
     while 0 < rest {
-        let more = given_by(store, base + u32::trailing_zeros(rest), session, minute);
-        open += more.open;
-        seats += more.seats;
-        places += more.places;
+        let formula = base + u32::trailing_zeros(rest);
         rest = rest & (rest - 1);
+        if store::last_row(store, formula) != 0 {
+            let more = given_by(store, formula, session, minute);
+            open += more.open;
+            seats += more.seats;
+            places += more.places;
+        }
     }
     Sums {
         open,
@@ -165,12 +164,15 @@ fn add_up(store: &Store, session: u32, minute: u32) -> Sums
     let mut places = 0;
     let mut w = 0;
     while w < store_cells::GROUP_WIDTH {
+        let base = store_cells::SET_LINES * w;
         let bits = store::near(store, session % store_cells::GROUPS, w);
-        let more = add_set(store, store_cells::SET_LINES * w, bits, session, minute);
-        open += more.open;
-        seats += more.seats;
-        places += more.places;
         w += 1;
+        if bits != 0 {
+            let more = add_set(store, base, bits, session, minute);
+            open += more.open;
+            seats += more.seats;
+            places += more.places;
+        }
     }
     Sums {
         open,

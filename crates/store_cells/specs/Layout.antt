@@ -12,8 +12,8 @@
 --                      goes through the formula's parts again; two numbers between which all sessions of its atoms are,
 --                      so that a tally passes it by; and what the formula gives of the lower of these sessions, in one
 --                      number
---   groupBase ..       32 rows of 7: for each group of sessions a set of lines, 32 of them to a number, bit j of number w
---                      for line 32 w + j. Session s is of group s mod 32, and every line between whose two numbers a
+--   groupBase ..       64 rows of 7: for each group of sessions a set of lines, 32 of them to a number, bit j of number w
+--                      for line 32 w + j. Session s is of group s mod 64, and every line between whose two numbers a
 --                      session is stands in the set of that session's group: a tally looks at one set alone
 --   credentialBase ..  4,096 rows of 8: a credential's (a coupon's) serial, kind (0 linear: single-use, 1
 --                      unrestricted: standing, 2 for one that has left: a gap), formula number (wording), and its
@@ -83,7 +83,7 @@ groupBase = lineBase + maxFormulas * lineWidth
 
 -- how many groups of sessions there are
 abbrev pub groups : ℕ
-groups = 32
+groups = 64
 
 -- how many lines a number of a set has room for, and how many numbers a set has
 abbrev pub setLines : ℕ

@@ -33,7 +33,7 @@ const LINE_WIDTH: usize = GIVES + 1;
 // with room for so many lines each
 const GROUP_SETS: usize = LINES + ledger::MAX_FORMULAS as usize * LINE_WIDTH;
 
-pub const GROUPS: u32 = 32;
+pub const GROUPS: u32 = 64;
 
 pub const GROUP_WIDTH: u32 = 7;
 

@@ -48,7 +48,7 @@ mark-next l m n low k g q e v = record {
         let x : g ≡ (low + i) % groups = omega arith in
         subst (λ (f : ℕ). groupAt (putMark m g n) f (n / setLines) ∋ n % setLines) x (mark-here m g n h q (o .long))
 
--- all groups are done when no more than 32 sessions are left over
+-- all groups are done: of sessions further on the groups come again
 pub mark-done : (l m : List ℕ) (n low high k : ℕ) → MarkedTo l m n low k
     → ((i : ℕ) → i < groups → i ≤ high - low → i < k) → Marked l m n low high
 mark-done l m n low high k v end = record {

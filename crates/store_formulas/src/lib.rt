@@ -47,7 +47,7 @@ pub fn has_row(store: &Store, row: Row) -> bool
     false
 }
 
-// A line joins the set of each group that a session from low to high is of: of 32 sessions one after the other each is
+// A line joins the set of each group that a session from low to high is of: of 64 sessions one after the other each is
 // of another group, and there are no more groups.
 fn mark(store: &mut Store, line: u32, low: u32, high: u32)
     requires { ⌜ (length (now store) ≡ cells) × (line < maxFormulas) ⌝ }

@@ -1,5 +1,5 @@
 -- `count_singles` meets its contract. The loop goes along the chain: the rows from the next one on have been counted.
-use mathlib.Core.Path.{_≡_, ap, ap₂, _∙_}
+use mathlib.Core.Path.{_≡_, sym, ap, ap₂, subst, _∙_}
 use Prim.Native.Nat.{suc, _+_, _-_, _≤_}
 use native.Mathlib.Omega.{arith}
 use borrow.Author.Needs.{needs}
@@ -14,28 +14,29 @@ use Rattle.formula_tally.proofs.count_singles.Statement.{statement}
 use Rattle.formula_tally.proofs.count_singles.Tie as tie
 
 abbrev Inv-loop : tie.InvT-loop
-Inv-loop store formula minute inside₀ outside₀ next₀ inside outside next =
-    Walked store minute formula next inside outside
+Inv-loop store formula minute inside₀ all₀ next₀ inside all next =
+    (inside ≤ all) × Walked store minute formula next inside (all - inside)
 
 abbrev μ-loop : tie.MeasureT-loop
-μ-loop store formula minute inside₀ outside₀ next₀ inside outside next = next
+μ-loop store formula minute inside₀ all₀ next₀ inside all next = next
 
 loop-holds : tie.Need-loop-holds Inv-loop μ-loop
 loop-holds c =
     let s = c .before in
-    walk-start (now (s .args .store)) (s .args .minute) (s .args .formula) (c .last-row .ensures)
+    (omega arith, walk-start (now (s .args .store)) (s .args .minute) (s .args .formula) (c .last-row .ensures))
 
 credential-at-requires : tie.Need-credential-at-requires Inv-loop μ-loop
 credential-at-requires c κs =
     let h = c .loop-test .taken in
     let at = c .before in
-    (at .before .before .pre .0, omega (arith, at .loop .inv .few))
+    (at .before .before .pre .0, omega (arith, at .loop .inv .1 .few))
 
 -- one credential is at most one, in all
 record One (c : tie.After-when-has Inv-loop μ-loop) : Type 0 where
   part : c .when-has .result ≤ c .before .when-linear .result
   all : c .before .when-linear .result ≤ 1
-  rows : c .before .before .before .before .loop .inside + c .before .before .before .before .loop .outside ≤ maxRows
+  rows : c .before .before .before .before .loop .all ≤ maxRows
+  inside : c .before .before .before .before .loop .inside ≤ c .before .before .before .before .loop .all
 
 one : (c : tie.After-when-has Inv-loop μ-loop) → One c
 one c =
@@ -50,7 +51,8 @@ one c =
         only-le (has (d .interval) (s .args .minute)) (l .when-linear .result),
       );
       all = one-at-most (d .kind) (l .when-linear .ensures);
-      rows = omega (arith, at .loop .inv .few, s .pre .0 .ordered .few);
+      rows = omega (arith, at .loop .inv .1 .few, at .loop .inv .0, s .pre .0 .ordered .few);
+      inside = at .loop .inv .0;
     }
 
 row-before-requires : tie.Need-row-before-requires Inv-loop μ-loop
@@ -58,7 +60,7 @@ row-before-requires c κs =
     let t = c .before .before .before in
     let h = t .loop-test .taken in
     let at = t .before in
-    (at .before .before .pre .0, omega (arith, at .loop .inv .few))
+    (at .before .before .pre .0, omega (arith, at .loop .inv .1 .few))
 
 loop-less : tie.Need-loop-less Inv-loop μ-loop
 loop-less c =
@@ -81,10 +83,17 @@ loop-again c =
     let b = has (d .interval) (s .args .minute) in
     let e = w .when-has .ensures ∙ ap (only b) (l .when-linear .ensures) in
     let p : at .loop .next ≡ suc (at .loop .next - 1) = omega arith in
-    walk-next (now (s .args .store)) (s .args .minute) (s .args .formula) (at .loop .next - 1) d (at .loop .inv) p
-    (a .credential-at .ensures) (e ∙ inside-one (d .kind) b)
-    (ap₂ _-_ (l .when-linear .ensures) e ∙ outside-one (d .kind) b) (omega (arith, one w .part, one w .all))
-    (c .row-before .ensures)
+    let x = w .when-has .result in
+    let y = l .when-linear .result in
+    let o : at .loop .all + y - (at .loop .inside + x) ≡ at .loop .all - at .loop .inside + (y - x) =
+    omega (arith, one w .part, one w .inside) in (
+      omega (arith, one w .part, one w .inside),
+      subst (Walked _ _ _ _ (at .loop .inside + x)) (sym o)
+          (walk-next (now (s .args .store)) (s .args .minute) (s .args .formula) (at .loop .next - 1) d
+          (at .loop .inv .1) p (a .credential-at .ensures) (e ∙ inside-one (d .kind) b)
+          (ap₂ _-_ (l .when-linear .ensures) e ∙ outside-one (d .kind) b) (omega (arith, one w .part, one w .all))
+          (c .row-before .ensures)),
+    )
 
 returns : tie.Need-returns Inv-loop μ-loop
 returns c =
@@ -93,10 +102,10 @@ returns c =
     let l = now (s .args .store) in
     let h = c .loop-test .left in
     let e : at .loop .next ≡ 0 = omega arith in (
-      with-all l (s .args .minute) (s .args .formula) e (at .loop .inv),
+      with-all l (s .args .minute) (s .args .formula) e (at .loop .inv .1),
       (
-        without-all l (s .args .minute) (s .args .formula) e (at .loop .inv),
-        omega (arith, at .loop .inv .few, s .pre .0 .ordered .few),
+        without-all l (s .args .minute) (s .args .formula) e (at .loop .inv .1),
+        omega (arith, at .loop .inv .1 .few, s .pre .0 .ordered .few),
       ),
     )
 
@@ -112,10 +121,10 @@ count-singles-spec =
     credential-at-requires
     (λ c κs. search needs)
     (λ c κs. search needs)
-    (λ c. omega (arith, one c .part, one c .all, one c .rows))
-    (λ c. omega (arith, one c .part))
-    (λ c. omega (arith, one c .part, one c .all, one c .rows))
+    (λ c. omega (arith, one c .part, one c .all, one c .rows, one c .inside))
+    (λ c. omega (arith, one c .all, one c .rows))
     row-before-requires
     loop-less
     loop-again
+    (λ c. omega (arith, c .before .loop .inv .0))
     returns)

@@ -8,50 +8,39 @@ use Rattle.store.specs.Store.{ledgerOf}
 use Rattle.logic.specs.Packed.{byte, placeUnit, houseUnit, seatsIn, placesIn, houseIn}
 use Rattle.formula_tally.specs.ByFormula.{openAt, seatsAt, placesAt}
 use Rattle.formula_tally.proofs.Giving.{unpacked}
-use Rattle.formula_tally.proofs.Walks.{walk-start, with-all, without-all}
-use Rattle.formula_tally.proofs.Tallied.{Small, small, no-singles, no-counts}
+use Rattle.formula_tally.proofs.Tallied.{Small, small, no-counts}
 use Rattle.formula_tally.proofs.given_by.Statement.{statement}
 use Rattle.formula_tally.proofs.given_by.Tie as tie
 
 returns : tie.Need-returns
 returns c =
     let s = c .before .before in
-    let l = now (s .args .store) in
-    let m = s .args .minute in
-    let k = s .args .formula in
-    let z = c .if1 .taken in
-    let w = walk-start l m k (c .before .last-row .ensures) in
-    no-singles (ledgerOf l) (s .args .session) m k (with-all l m k z w) (without-all l m k z w)
-
-returns-2 : tie.Need-returns-2
-returns-2 c =
-    let s = c .before .before .before .before in
     no-counts (ledgerOf (now (s .args .store))) (s .args .session) (s .args .minute) (s .args .formula)
-    (s .pre .0 .bounded .sizes (s .args .formula)) (sym (c .before .count-formula .ensures) ∙ c .if2 .taken)
+    (s .pre .0 .bounded .sizes (s .args .formula)) (sym (c .before .count-formula .ensures) ∙ c .if1 .taken)
 
 -- the products
 record Products (c : tie.After-count-singles) : Type 0 where
   opens : c .count-singles .result .inside * (c .before .before .count-formula .result / houseUnit % byte)
-      ≡ openAt (ledgerOf (now (c .before .before .before .before .before .args .store)))
-      (c .before .before .before .before .before .args .session)
-      (c .before .before .before .before .before .args .minute)
-      (c .before .before .before .before .before .args .formula)
+      ≡ openAt (ledgerOf (now (c .before .before .before .args .store)))
+      (c .before .before .before .args .session)
+      (c .before .before .before .args .minute)
+      (c .before .before .before .args .formula)
   seats : (c .count-singles .result .inside + c .count-singles .result .outside)
       * (c .before .before .count-formula .result % byte)
-      ≡ seatsAt (ledgerOf (now (c .before .before .before .before .before .args .store)))
-      (c .before .before .before .before .before .args .session)
-      (c .before .before .before .before .before .args .minute)
-      (c .before .before .before .before .before .args .formula)
+      ≡ seatsAt (ledgerOf (now (c .before .before .before .args .store)))
+      (c .before .before .before .args .session)
+      (c .before .before .before .args .minute)
+      (c .before .before .before .args .formula)
   places : (c .count-singles .result .inside + c .count-singles .result .outside)
       * (c .before .before .count-formula .result / placeUnit % byte)
-      ≡ placesAt (ledgerOf (now (c .before .before .before .before .before .args .store)))
-      (c .before .before .before .before .before .args .session)
-      (c .before .before .before .before .before .args .minute)
-      (c .before .before .before .before .before .args .formula)
+      ≡ placesAt (ledgerOf (now (c .before .before .before .args .store)))
+      (c .before .before .before .args .session)
+      (c .before .before .before .args .minute)
+      (c .before .before .before .args .formula)
 
 products : (c : tie.After-count-singles) → Products c
 products c =
-    let s = c .before .before .before .before .before in
+    let s = c .before .before .before in
     let t = ledgerOf (now (s .args .store)) in
     let k = s .args .formula in
     let e = c .count-singles .ensures in
@@ -65,16 +54,16 @@ products c =
     }
 
 limits : (c : tie.After-count-singles)
-    → Small (ledgerOf (now (c .before .before .before .before .before .args .store)))
-    (c .before .before .before .before .before .args .session)
-    (c .before .before .before .before .before .args .minute)
-    (c .before .before .before .before .before .args .formula)
+    → Small (ledgerOf (now (c .before .before .before .args .store)))
+    (c .before .before .before .args .session)
+    (c .before .before .before .args .minute)
+    (c .before .before .before .args .formula)
 limits c =
-    let s = c .before .before .before .before .before in
+    let s = c .before .before .before in
     small (ledgerOf (now (s .args .store))) (s .args .session) (s .args .minute) (s .pre .0 .bounded) (s .args .formula)
 
-returns-3 : tie.Need-returns-3
-returns-3 c =
+returns-2 : tie.Need-returns-2
+returns-2 c =
     let p = products (c .before .before) in
     record { opens = p .opens; seats = p .seats; places = p .places }
 
@@ -82,14 +71,12 @@ pub given-by-spec : {M : Type 1} → statement M
 given-by-spec =
     tie.close
     (tie.spec
-    (λ c κs. (c .pre .0, omega (arith, c .pre .1, c .pre .0 .bounded .lines)))
+    (λ c κs. c .pre)
     returns
-    (λ c κs. c .before .before .pre)
-    returns-2
-    (λ c κs. let s = c .before .before .before .before in
+    (λ c κs. let s = c .before .before in
     (s .pre .0, omega (arith, s .pre .1, s .pre .0 .bounded .lines)))
     (λ c. omega (arith, c .before .count-singles .ensures .1 .1))
     (λ c. omega (arith, products (c .before .before) .opens, limits (c .before .before) .opens))
     (λ c. omega (arith, products (c .before .before) .seats, limits (c .before .before) .seats))
     (λ c. omega (arith, products (c .before .before) .places, limits (c .before .before) .places))
-    returns-3)
+    returns-2)
