@@ -10,10 +10,8 @@ use borrow.Author.Tests.{eqb-true}
 use Rattle.logic.specs.Choice.{pick}
 use Rattle.logic.specs.Formula.{Formula, atom, one, tensor, with, plus, lolli, implies, bang, at, says, superset}
 use Rattle.logic.specs.Formula.{forEvery, size, bit, count, seat, place, seats, places, houseUnder, houseSeats}
-use Rattle.logic.proofs.Tests.{bit-le}
 use Rattle.logic.proofs.Houses.{house-seats}
 use Rattle.request.specs.Request.{Line}
-use Rattle.steps.specs.declared.Row.{Row}
 use Rattle.ledger.specs.Table.{form, rowOf}
 use Rattle.ledger.specs.Checks.{maxSize}
 use Rattle.formula_parts.specs.Parts.{partsOf}

@@ -22,20 +22,18 @@ use Rattle.formula_parts.proofs.PartsOfRows.{sizeRow, parts-row, size-row}
 use Rattle.formula_tally.specs.Gives.{givesUnder, atomGives, nearest}
 use Rattle.formula_tally.proofs.Giving.{gives-le, orParts, row-gives}
 
--- a part of a formula of size m: what is asked before it is walked, and that it is smaller
-pub record Part (l : List ℕ) (m k : ℕ) : Type 0 where
-  pub less : size (formula (ledgerOf l) k) < m
-  pub there : Good l × (k < length (ledgerOf l .lines))
+-- What is asked before part k of a formula of size m is walked: it is smaller, and it is there.
+abbrev pub Part : List ℕ → ℕ → ℕ → Type 0
+Part l m k = (size (formula (ledgerOf l) k) < m) × (Good l × (k < length (ledgerOf l .lines)))
 
 each-part : (l : List ℕ) {m : ℕ} → Good l → (ks : List ℕ) → There (ledgerOf l) ks
     → sum (λ k. size (formula (ledgerOf l) k)) ks < m → Every (Part l m) ks
 unfolding sum
 each-part l g [] h s = tt
-each-part l g (k ∷ ks) h s =
-    (record { less = omega arith; there = (g, h .0) }, each-part l g ks (h .1) (omega arith))
+each-part l g (k ∷ ks) h s = ((omega arith, (g, h .0)), each-part l g ks (h .1) (omega arith))
 
--- Formula n of size m: ks are its parts, a is what it gives where it has none, and v tells whether the nearest ⟨K⟩ above
--- its parts is the house's.
+-- Formula n of size m: ks are its parts, a is what it gives where it has none, and v tells whether the nearest ⟨K⟩
+-- above its parts is the house's.
 pub record Parted (l : List ℕ) (m n : ℕ) (under : Bool) (s a : ℕ) (v : Bool) (ks : List ℕ) : Type 0 where
   pub each : Every (Part l m) ks
   pub gives : orParts a (λ k. givesUnder v s (formula (ledgerOf l) k)) ks ≡ givesUnder under s (formula (ledgerOf l) n)

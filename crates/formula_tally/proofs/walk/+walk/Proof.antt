@@ -11,7 +11,7 @@ use Rattle.store.specs.Store.{ledgerOf}
 use Rattle.formula_parts.specs.declared.Parts.{Parts}
 use Rattle.formula_parts.specs.Parts.{numbers}
 use Rattle.formula_tally.specs.Gives.{atomGives}
-use Rattle.formula_tally.proofs.Walking.{Part, Parted, parted}
+use Rattle.formula_tally.proofs.Walking.{Parted, parted}
 use Rattle.formula_tally.proofs.walk.walk.Reads as walk
 use Rattle.formula_tally.proofs.walk.walk.Kinds as walk-kinds
 use Rattle.formula_tally.proofs.walk.+walk.Lts-walk as walk-lts
@@ -48,23 +48,13 @@ walk-with t = (
 -- what is known of the parts in each arm
 parts : (t : ℕ) (c : walk-lts.After-parts-of (walk-with t) (walk-at t) walk.Post) {q : Parts}
     → c .parts-of .result ≡ q
-    → (let s = c .before .before .before in
-    Parted (s .args .store .now) t (s .args .formula) (s .args .under) (s .args .session)
-    (atomGives (s .args .under) (s .args .session) (c .before .before .line-at .result)) (c .before .nearest .result)
-    (numbers q))
+    → (let s = c .before .before .before .args in
+    Parted (s .store .now) t (s .formula) (s .under) (s .session)
+    (atomGives (s .under) (s .session) (c .before .before .line-at .result)) (c .before .nearest .result) (numbers q))
 parts t c =
     let s = c .before .before .before in
     parted _ (s .pre .1 .0) (s .args .formula) (s .args .under) (s .args .session) _
     (c .before .before .line-at .ensures) (s .pre .0) (c .before .nearest .ensures) (c .parts-of .ensures)
-
--- the two parts of a pair
-pair : (t : ℕ) (c : walk-lts.After-i2 (walk-with t) (walk-at t) walk.Post)
-    → (let p = c .before .before in
-    let s = p .before .before .before in
-    Parted (s .args .store .now) t (s .args .formula) (s .args .under) (s .args .session)
-    (atomGives (s .args .under) (s .args .session) (p .before .before .line-at .result)) (p .before .nearest .result)
-    (numbers (Parts.Two (c .i2 .given .0 .0) (c .i2 .given .0 .1 .0))))
-pair t c = parts t (c .before .before) (c .i2 .given .1)
 
 pub +walk-spec : {M : Type 1} → statement M
 +walk-spec =
@@ -72,14 +62,14 @@ pub +walk-spec : {M : Type 1} → statement M
     (λ t. walk-lts.spec (walk-with t) (walk-at t) walk.Post
     (λ c κs. c .pre .1) (λ c κs. search needs) (λ c κs. search needs) (λ c. search needs) (λ c κs. search needs)
     (λ c. search needs)
-    (λ c κs. let i = c .before in
-    let p = parts t (i .before .before) (i .i .given .1) .each .0 in
-    (p .less, p .there))
+    (λ c κs. let i = c .before in parts t (i .before .before) (i .i .given .1) .each .0)
     (λ c. search needs)
-    (λ c κs. let p = pair t (c .before) .each .0 in (p .less, p .there))
-    (λ c κs. let p = pair t (c .before .before) .each .1 .0 in (p .less, p .there))
-    (λ c. let p = pair t (c .before .before .before) in
+    (λ c κs. let i = c .before in parts t (i .before .before) (i .i2 .given .1) .each .0)
+    (λ c κs. let i = c .before .before in parts t (i .before .before) (i .i2 .given .1) .each .1 .0)
+    (λ c. let i = c .before .before .before in
+    let p = parts t (i .before .before) (i .i2 .given .1) in
     omega (arith, c .before .walk2 .ensures, c .walk3 .ensures, p .gives, p .small))
     (λ c. c .atom .ensures ∙ parts t (c .before .before .before) (c .before .enum-told .given .1) .gives)
     (λ c. let i = c .before .before in c .walk .ensures ∙ parts t (i .before .before) (i .i .given .1) .gives)
-    (λ c. ap₂ _+_ (c .before .walk2 .ensures) (c .walk3 .ensures) ∙ pair t (c .before .before .before) .gives))
+    (λ c. let i = c .before .before .before in
+    ap₂ _+_ (c .before .walk2 .ensures) (c .walk3 .ensures) ∙ parts t (i .before .before) (i .i2 .given .1) .gives))
