@@ -56,7 +56,7 @@ fn count_formula(store: &Store, formula: u32, session: u32) -> u32
     if store::high_at(store, formula) < session {
         return 0;
     }
-    walk::walk(store, formula, session)
+    walk::walk(store, formula, false, session)
 }
 
 // "over live singles"

@@ -7,6 +7,5 @@ pub nearest-spec : {M : Type 1} → statement M
 nearest-spec =
     tie.close
     (tie.spec
-    (λ c. simp (eq-eqb _ _ (c .before .before .if1 .taken), eq-eqb _ _ (c .if2 .taken)))
-    (λ c. simp (eq-eqb _ _ (c .before .before .if1 .taken), ne-eqb _ _ (c .if2 .left)))
+    (λ c. simp (eq-eqb _ _ (c .before .if1 .taken)))
     (λ c. simp (ne-eqb _ _ (c .if1 .left))))
