@@ -17,7 +17,7 @@ use Rattle.labels.specs.Labels.{member, remove, _∋_, later, prepend, pick}
 use Rattle.labels.proofs.Sets.{removed, member-below}
 use Rattle.labels.proofs.Pick.{pick-empty, pick-remove}
 use Rattle.formula_tally.specs.ByFormula.{sumTo}
-use Rattle.store_cells.specs.Layout.{setLines, groupWidth}
+use Rattle.store_cells.specs.Layout.{setLines, setWidth}
 use Rattle.formula_tally.specs.Sets.{overSet, overSets}
 use Rattle.formula_tally.proofs.SumLaws.{to-same, to-le, to-first, to-append, to-end}
 
@@ -131,15 +131,15 @@ module _ (bits f : ℕ → ℕ) where
       ∙ sym (ap (λ (k : ℕ). sumTo k at) e ∙ to-append (setLines * n) setLines at)
 
   -- where only numbers below n have a bit, and f is 0 at those that have none
-  pub sets-sum : (n : ℕ) → n ≤ setLines * groupWidth
-      → ((w j : ℕ) → w < groupWidth → j < setLines → bits w ∋ j → setLines * w + j < n)
+  pub sets-sum : (n : ℕ) → n ≤ setLines * setWidth
+      → ((w j : ℕ) → w < setWidth → j < setLines → bits w ∋ j → setLines * w + j < n)
       → ((k : ℕ) → k < n → member (bits (k / setLines)) (k % setLines) ≡ false → f k ≡ 0)
       → overSets bits f ≡ sumTo n f
   unfolding at
   sets-sum n le within without =
-      blocks groupWidth ∙ to-end n (setLines * groupWidth) at le (λ k h l. past k h l _ refl) ∙ to-same n _ _ (λ k h. here k h _ refl)
+      blocks setWidth ∙ to-end n (setLines * setWidth) at le (λ k h l. past k h l _ refl) ∙ to-same n _ _ (λ k h. here k h _ refl)
     where
-      past : (k : ℕ) → n ≤ k → k < setLines * groupWidth → (b : Bool) → member (bits (k / setLines)) (k % setLines) ≡ b
+      past : (k : ℕ) → n ≤ k → k < setLines * setWidth → (b : Bool) → member (bits (k / setLines)) (k % setLines) ≡ b
           → only b (f k) ≡ 0
       past k h l true e = absurd (omega (arith, within (k / setLines) (k % setLines) (omega arith) (omega arith) e))
       past k h l false e = refl

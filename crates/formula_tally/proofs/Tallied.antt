@@ -17,7 +17,7 @@ use Rattle.ledger.specs.Checks.{maxSize, maxLive}
 use Rattle.ledger.specs.Bounds.{Bounded}
 use Rattle.labels.specs.Labels.{member, _∋_}
 use Rattle.labels.proofs.Sets.{member-below}
-use Rattle.store_cells.specs.Layout.{setLines, groups, groupWidth, groupAt, lowAt, highAt}
+use Rattle.store_cells.specs.Layout.{setLines, groups, setWidth, groupAt, lowAt, highAt}
 use Rattle.store.specs.Store.{ledgerOf, Good}
 use Rattle.store.proofs.Views.{lines-length}
 use Rattle.formula_tally.specs.declared.Sums.{Sums}
@@ -164,7 +164,7 @@ module _ (t : Ledger) (s m base d : ℕ) where
 
 -- the sets have a bit for each formula that may have an atom of the session, and none for what is no formula
 pub record Marks (l : List ℕ) (s : ℕ) (bits : ℕ → ℕ) : Type 0 where
-  pub within : (w j : ℕ) → w < groupWidth → j < setLines → bits w ∋ j → setLines * w + j < length (ledgerOf l .lines)
+  pub within : (w j : ℕ) → w < setWidth → j < setLines → bits w ∋ j → setLines * w + j < length (ledgerOf l .lines)
   pub marked : (i : ℕ) → i < length (ledgerOf l .lines) → lowAt l i ≤ s → s ≤ highAt l i
       → bits (i / setLines) ∋ i % setLines
 
@@ -244,7 +244,7 @@ module _ (l : List ℕ) (s m : ℕ) (g : Good l) where
         go (yes p) (no q) = inr (omega arith)
 
     marked-sum : (f : ℕ → ℕ) → ((i : ℕ) → seats s (formula t i) ≡ 0 → places s (formula t i) ≡ 0 → f i ≡ 0)
-        → {w x : ℕ} → w ≡ groupWidth → x ≡ sumTo w (λ v. overSet (bits v) (λ j. f (setLines * v + j)))
+        → {w x : ℕ} → w ≡ setWidth → x ≡ sumTo w (λ v. overSet (bits v) (λ j. f (setLines * v + j)))
         → x ≡ sumTo (length (t .lines)) f
     marked-sum f none e h =
         h ∙ ap (λ (x : ℕ). sumTo x (λ v. overSet (bits v) (λ j. f (setLines * v + j)))) e
@@ -256,7 +256,7 @@ module _ (l : List ℕ) (s m : ℕ) (g : Good l) where
             let o = unmarked i h e in
             none i (z seat s o) (z place s o)
 
-    pub adding-all : {w : ℕ} {r : Sums} → w ≡ groupWidth → Adding t s m bits w (r .«open») (r .seats) (r .places)
+    pub adding-all : {w : ℕ} {r : Sums} → w ≡ setWidth → Adding t s m bits w (r .«open») (r .seats) (r .places)
         → Added t s m r
     unfolding openBy shutBy placedBy
     adding-all {w} {r} e u =

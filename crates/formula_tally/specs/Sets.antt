@@ -5,16 +5,16 @@ use Prim.Native.Nat.{ℕ, _+_, _*_, _<_}
 use Rattle.ledger.specs.Ledger.{Ledger}
 use Rattle.ledger.specs.Calls.{only}
 use Rattle.labels.specs.Labels.{member}
-use Rattle.store_cells.specs.Layout.{setLines, groupWidth}
+use Rattle.store_cells.specs.Layout.{setLines, setWidth}
 use Rattle.formula_tally.specs.declared.Sums.{Sums}
 use Rattle.formula_tally.specs.ByFormula.{sumTo, openAt, seatsAt, placesAt}
 
--- the sum of f over the bits of d; over those of bits 0, .., bits (groupWidth - 1)
+-- the sum of f over the bits of d; over those of bits 0, .., bits (setWidth - 1)
 unfoldable pub overSet : ℕ → (ℕ → ℕ) → ℕ
 overSet d f = sumTo setLines (λ j. only (member d j) (f j))
 
 abbrev pub overSets : (ℕ → ℕ) → (ℕ → ℕ) → ℕ
-overSets bits f = sumTo groupWidth (λ w. overSet (bits w) (λ j. f (setLines * w + j)))
+overSets bits f = sumTo setWidth (λ w. overSet (bits w) (λ j. f (setLines * w + j)))
 
 -- where bit j stands for formula base + j, there are n formulas, and no bit stands for another
 abbrev pub Named : ℕ → ℕ → ℕ → Type 0

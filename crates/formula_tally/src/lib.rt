@@ -163,7 +163,7 @@ fn add_up(store: &Store, session: u32, minute: u32) -> Sums
     let mut seats = 0;
     let mut places = 0;
     let mut w = 0;
-    while w < store_cells::GROUP_WIDTH {
+    while w < store_cells::SET_WIDTH {
         let base = store_cells::SET_LINES * w;
         let bits = store::near(store, session % store_cells::GROUPS, w);
         w += 1;

@@ -20,7 +20,7 @@ ghost use Rattle.ledger.specs.Table.{rowOf};
 ghost use Rattle.ledger.specs.Ledger.{empty, formula, isKind};
 ghost use Rattle.ledger.specs.Checks.{maxFormulas};
 ghost use Rattle.store_cells.specs.Layout.{rowCount, rowAt, credentialAt, ofAt, lowAt, highAt};
-ghost use Rattle.store_cells.specs.Layout.{groups, groupWidth, groupAt};
+ghost use Rattle.store_cells.specs.Layout.{groups, setWidth, groupAt, filledAt};
 ghost use Rattle.store.specs.Chain.{lastOf};
 ghost use Rattle.store.specs.Store.{ledgerOf, Good, StandsFor};
 
@@ -152,10 +152,18 @@ pub fn gives_at(store: &Store, n: u32) -> u32
 
 // A number of the set of lines that have something of a group's sessions: bit j of number w stands for line 32 w + j.
 pub fn near(store: &Store, group: u32, w: u32) -> u32
-    requires { ⌜ (group < groups) × (w < groupWidth) ⌝ }
+    requires { ⌜ (group < groups) × (w < setWidth) ⌝ }
     ensures { λ r. ⌜ r ≡ groupAt (now (store .entry)) group w ⌝ }
 {
     groups::set(store, group, w)
+}
+
+// Bit w of this number is set where number w of the group's set is not 0.
+pub fn filled(store: &Store, group: u32) -> u32
+    requires { ⌜ group < groups ⌝ }
+    ensures { λ r. ⌜ r ≡ filledAt (now (store .entry)) group ⌝ }
+{
+    groups::set(store, group, store_cells::SET_WIDTH)
 }
 
 // How many credential rows are in use, gaps too.

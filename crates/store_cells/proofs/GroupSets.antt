@@ -1,22 +1,22 @@
 -- A line joins the set of a group: which sets have which lines after it. All else in the store stays.
 use mathlib.Core.Path.{_≡_, refl, sym, ap, subst, _∙_}
 use mathlib.Core.List.{List}
-use mathlib.Core.Bool.{true}
+use mathlib.Core.Bool.{false, true≢false}
 use Prim.Native.Nat.{ℕ, zero, suc, _+_, _*_, _-_, _/_, _%_, _^_, _≤_, _<_, max}
 use native.Mathlib.Omega.{arith}
 use native.Mathlib.Nat.{pow-suc}
 use native.Mathlib.Decide.{decLt, ℕ-discrete}
 use lib.Bits.{bitOr, or-step, or-shr}
 use lib.Pow.{pow-lt, pow-add, shl-shr, high}
-use lib.ListN.{length, getD, length-set}
+use lib.ListN.{length, getD, set, length-set}
 use lib.Seq.{getD-set-same, getD-set-other}
 use lib.Dec.{eqb}
 use borrow.Author.Tests.{eqb-true, eq-eqb}
 use Rattle.ledger.specs.Checks.{maxFormulas}
 use Rattle.labels.specs.Labels.{member, insert, _∋_}
 use Rattle.labels.proofs.Sets.{only-member}
-use Rattle.store_cells.specs.Layout.{cells, groupBase, groups, setLines, groupWidth, credentialBase, cell, groupAt}
-use Rattle.store_cells.specs.Layout.{putMark}
+use Rattle.store_cells.specs.Layout.{cells, groupBase, groups, setLines, setWidth, groupPlace, credentialBase}
+use Rattle.store_cells.specs.Layout.{cell, groupAt, filledAt, putMark}
 
 -- Bits
 
@@ -51,52 +51,106 @@ insert-other d k j h =
 
 -- Line n joins the set of group g.
 module _ (m : List ℕ) (g n : ℕ) (h : g < groups) (q : n < maxFormulas) where
-  abbrev place : ℕ
-  place = groupBase + g * groupWidth + n / setLines
+  abbrev w : ℕ
+  w = n / setLines
+
+  abbrev mid : List ℕ
+  mid = set m (groupPlace g w) (insert (groupAt m g w) (n % setLines))
 
   pub mark-long : length (putMark m g n) ≡ length m
   unfolding putMark
-  mark-long = length-set m place _
+  mark-long = length-set mid (groupPlace g setWidth) _ ∙ length-set m (groupPlace g w) _
+
+  -- another place
+  elsewhere : (k : ℕ) → (k ≡ groupPlace g w → ⊥) → (k ≡ groupPlace g setWidth → ⊥)
+      → getD (putMark m g n) k 0 ≡ getD m k 0
+  unfolding putMark
+  elsewhere k a b =
+      getD-set-other mid (groupPlace g setWidth) k _ 0 b ∙ getD-set-other m (groupPlace g w) k _ 0 a
 
   pub mark-below : (k : ℕ) → k < groupBase → getD (putMark m g n) k 0 ≡ getD m k 0
-  unfolding putMark
-  mark-below k l = getD-set-other m place k _ 0 (omega arith)
+  mark-below k l = elsewhere k (omega arith) (omega arith)
 
   pub mark-above : (k : ℕ) → credentialBase ≤ k → getD (putMark m g n) k 0 ≡ getD m k 0
-  unfolding putMark
-  mark-above k l = getD-set-other m place k _ 0 (omega arith)
+  mark-above k l = elsewhere k (omega arith) (omega arith)
 
-  pub mark-here : length m ≡ cells → groupAt (putMark m g n) g (n / setLines) ∋ n % setLines
+  -- the number that has the line, and the one that has this number
+  line-joins : length m ≡ cells → groupAt (putMark m g n) g w ≡ insert (groupAt m g w) (n % setLines)
   unfolding putMark groupAt cell
-  mark-here e =
-      subst (λ (d : ℕ). d ∋ n % setLines) (sym (getD-set-same m place _ 0 (omega arith)))
-      (insert-here (getD m place 0) (n % setLines))
+  line-joins e =
+      getD-set-other mid (groupPlace g setWidth) (groupPlace g w) _ 0 (omega arith)
+      ∙ getD-set-same m (groupPlace g w) _ 0 (omega arith)
 
-  -- another group's set stays
-  mark-apart : (f w : ℕ) → f < groups → w < groupWidth → (f ≡ g → ⊥) → groupAt (putMark m g n) f w ≡ groupAt m f w
+  number-joins : length m ≡ cells → filledAt (putMark m g n) g ≡ insert (filledAt m g) w
   unfolding putMark groupAt cell
-  mark-apart f w a b d = getD-set-other m place (groupBase + f * groupWidth + w) _ 0 (omega arith)
+  number-joins e =
+      getD-set-same mid (groupPlace g setWidth) _ 0 (omega (
+        arith,
+        length-set m (groupPlace g w) (insert (groupAt m g w)
+            (n % setLines)),
+      ))
 
-  -- and so does every other line
-  pub mark-other : length m ≡ cells → (f w j : ℕ) → f < groups → w < groupWidth → j < setLines
-      → (w * setLines + j ≡ n → ⊥) → member (groupAt (putMark m g n) f w) j ≡ member (groupAt m f w) j
-  unfolding putMark groupAt cell
-  mark-other e f w j a b c d = go (ℕ-discrete f g) (ℕ-discrete w (n / setLines))
-    where
-      go : Dec (f ≡ g) → Dec (w ≡ n / setLines) → member (groupAt (putMark m g n) f w) j ≡ member (groupAt m f w) j
-      go (yes x) (yes y) =
-          rw (x, y) (ap (λ (z : ℕ). member z j) (getD-set-same m place _ 0 (omega arith))
-          ∙ insert-other (getD m place 0) (n % setLines) j (omega arith))
-      go (yes x) (no y) = ap (λ (z : ℕ). member z j)
-          (getD-set-other m place (groupBase + f * groupWidth + w) _ 0 (omega arith))
-      go (no x) y = ap (λ (z : ℕ). member z j) (mark-apart f w a b x)
+  -- the other numbers
+  numbers-stay : (f v : ℕ) → f < groups → v < setWidth → (f ≡ g → v ≡ w → ⊥)
+      → groupAt (putMark m g n) f v ≡ groupAt m f v
+  unfolding groupAt cell
+  numbers-stay f v a b d = elsewhere (groupPlace f v) (λ e. d (omega arith) (omega arith)) (omega arith)
 
-  -- the line stays in the sets that it is in
-  pub mark-stays : length m ≡ cells → (f : ℕ) → f < groups → groupAt m f (n / setLines) ∋ n % setLines
-      → groupAt (putMark m g n) f (n / setLines) ∋ n % setLines
-  mark-stays e f a b = go (ℕ-discrete f g)
-    where
-      go : Dec (f ≡ g) → groupAt (putMark m g n) f (n / setLines) ∋ n % setLines
-      go (yes x) = subst (λ (z : ℕ). groupAt (putMark m g n) z (n / setLines) ∋ n % setLines) (sym x) (mark-here e)
-      go (no x) =
-          subst (λ (z : ℕ). z ∋ n % setLines) (sym (mark-apart f (n / setLines) a (omega arith) x)) b
+  filled-stays : (f : ℕ) → f < groups → (f ≡ g → ⊥) → filledAt (putMark m g n) f ≡ filledAt m f
+  unfolding groupAt cell
+  filled-stays f a d = elsewhere (groupPlace f setWidth) (omega arith) (omega arith)
+
+  module _ (e : length m ≡ cells) where
+    pub mark-here : groupAt (putMark m g n) g w ∋ n % setLines
+    mark-here = subst (λ (d : ℕ). d ∋ n % setLines) (sym (line-joins e)) (insert-here (groupAt m g w) (n % setLines))
+
+    -- every other line stays
+    pub mark-other : (f v j : ℕ) → f < groups → v < setWidth → j < setLines → (v * setLines + j ≡ n → ⊥)
+        → member (groupAt (putMark m g n) f v) j ≡ member (groupAt m f v) j
+    mark-other f v j a b c d = go (ℕ-discrete f g) (ℕ-discrete v w)
+      where
+        go : Dec (f ≡ g) → Dec (v ≡ w) → member (groupAt (putMark m g n) f v) j ≡ member (groupAt m f v) j
+        go (yes x) (yes y) =
+            rw (x, y) (ap (λ (z : ℕ). member z j) (line-joins e)
+            ∙ insert-other (groupAt m g w) (n % setLines) j (omega arith))
+        go (yes x) (no y) = ap (λ (z : ℕ). member z j) (numbers-stay f v a b (λ _ k. y k))
+        go (no x) y = ap (λ (z : ℕ). member z j) (numbers-stay f v a b (λ k _. x k))
+
+    -- the line stays in the sets that it is in
+    pub mark-stays : (f : ℕ) → f < groups → groupAt m f w ∋ n % setLines → groupAt (putMark m g n) f w ∋ n % setLines
+    mark-stays f a b = go (ℕ-discrete f g)
+      where
+        go : Dec (f ≡ g) → groupAt (putMark m g n) f w ∋ n % setLines
+        go (yes x) = subst (λ (z : ℕ). groupAt (putMark m g n) z w ∋ n % setLines) (sym x) mark-here
+        go (no x) =
+            subst (λ (z : ℕ). z ∋ n % setLines) (sym (numbers-stay f w a (omega arith) (λ k _. x k))) b
+
+    -- which numbers are not 0
+    pub mark-filled : (f v : ℕ) → f < groups → filledAt (putMark m g n) f ∋ v → (v ≡ w → ⊥) → filledAt m f ∋ v
+    mark-filled f v a b d = go (ℕ-discrete f g)
+      where
+        go : Dec (f ≡ g) → filledAt m f ∋ v
+        go (yes x) =
+            sym (insert-other (filledAt m f) w v d) ∙ ap (λ (z : ℕ). member (insert (filledAt m z) w) v) x
+            ∙ ap (λ (z : ℕ). member z v) (sym (number-joins e))
+            ∙ ap (λ (z : ℕ). member (filledAt (putMark m g n) z) v) (sym x) ∙ b
+        go (no x) = ap (λ (z : ℕ). member z v) (sym (filled-stays f a x)) ∙ b
+
+    pub mark-empty : (f v : ℕ) → f < groups → v < setWidth → member (filledAt (putMark m g n) f) v ≡ false
+        → (member (filledAt m f) v ≡ false) × (groupAt (putMark m g n) f v ≡ groupAt m f v)
+    mark-empty f v a b c = go (ℕ-discrete f g) (ℕ-discrete v w)
+      where
+        go : Dec (f ≡ g) → Dec (v ≡ w)
+            → (member (filledAt m f) v ≡ false) × (groupAt (putMark m g n) f v ≡ groupAt m f v)
+        go (yes x) (yes y) =
+            absurd (true≢false (sym (insert-here (filledAt m g) w) ∙ ap (λ (z : ℕ). member z w) (sym (number-joins e))
+            ∙ (rw (x, y) at c)))
+        go (yes x) (no y) = (
+          sym (insert-other (filledAt m f) w v y) ∙ ap (λ (z : ℕ). member (insert (filledAt m z) w) v) x
+              ∙ ap (λ (z : ℕ). member z v) (sym (number-joins e)) ∙ (rw x at c),
+          numbers-stay f v a b (λ _ k. y k),
+        )
+        go (no x) y = (
+          ap (λ (z : ℕ). member z v) (sym (filled-stays f a x)) ∙ c,
+          numbers-stay f v a b (λ k _. x k),
+        )

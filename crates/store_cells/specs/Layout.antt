@@ -12,14 +12,15 @@
 --                      goes through the formula's parts again; two numbers between which all sessions of its atoms are,
 --                      so that a tally passes it by; and what the formula gives of the lower of these sessions, in one
 --                      number
---   groupBase ..       64 rows of 7: for each group of sessions a set of lines, 32 of them to a number, bit j of number w
---                      for line 32 w + j. Session s is of group s mod 64, and every line between whose two numbers a
---                      session is stands in the set of that session's group: a tally looks at one set alone
+--   groupBase ..       64 rows of 8: for each group of sessions a set of lines, in seven numbers, 32 lines to a number,
+--                      bit j of number w for line 32 w + j; then a number whose bit w is set where number w is not 0.
+--                      Session s is of group s mod 64, and every line between whose two numbers a session is stands in
+--                      the set of that session's group: a tally looks at one set alone
 --   credentialBase ..  4,096 rows of 8: a credential's (a coupon's) serial, kind (0 linear: single-use, 1
 --                      unrestricted: standing, 2 for one that has left: a gap), formula number (wording), and its
---                      interval (window), from, to, first, last; then the row's link (below). Rows stand in the order of their serials, and a row
---                      that leaves is only marked, so that no other one moves; there are twice as many rows as may
---                      live, and when all are in use the live ones are moved together
+--                      interval (window), from, to, first, last; then the row's link (below). Rows stand in the order of
+--                      their serials, and a row that leaves is only marked, so that no other one moves; there are twice
+--                      as many rows as may live, and when all are in use the live ones are moved together
 --   hintBase ..        4,096 hints: at serial mod 4,096 the row where the credential of that serial may stand. A hint
 --                      is only a guess that the search tests first: nothing is asked of its value
 --   linkBase ..        200 links, one for each formula: the rows of one formula are chained, gaps too. A formula's link
@@ -89,8 +90,12 @@ groups = 64
 abbrev pub setLines : ℕ
 setLines = 32
 
+abbrev pub setWidth : ℕ
+setWidth = 7
+
+-- how wide a group's row is: after its set stands which of the set's numbers are not 0
 abbrev pub groupWidth : ℕ
-groupWidth = 7
+groupWidth = setWidth + 1
 
 abbrev pub credentialBase : ℕ
 credentialBase = groupBase + groups * groupWidth
@@ -227,10 +232,17 @@ putLine l i r size plain balanced unbound quantified low high gives =
 unfoldable pub groupAt : List ℕ → ℕ → ℕ → ℕ
 groupAt l g w = cell l groupBase groupWidth g w
 
+abbrev pub filledAt : List ℕ → ℕ → ℕ
+filledAt l g = groupAt l g setWidth
+
+abbrev pub groupPlace : ℕ → ℕ → ℕ
+groupPlace g w = groupBase + g * groupWidth + w
+
 -- line n joins the set of group g
 unfoldable pub putMark : List ℕ → ℕ → ℕ → List ℕ
 putMark l g n =
-    set l (groupBase + g * groupWidth + n / setLines) (insert (groupAt l g (n / setLines)) (n % setLines))
+    set (set l (groupPlace g (n / setLines)) (insert (groupAt l g (n / setLines)) (n % setLines)))
+    (groupPlace g setWidth) (insert (filledAt l g) (n / setLines))
 
 -- Credential rows
 

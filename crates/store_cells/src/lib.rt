@@ -1,7 +1,7 @@
 // The numbers of the ledger's state, read and put: the counts at the head of the array (head.rt), the formula rows
-// (lines.rt), the sets of lines (groups.rt), the credential rows, the hints and the links (credentials.rt), the intervals in rows of both kinds
-// (interval.rt). No other functions know where a number stands in the array. specs/Layout.antt has the layout and its
-// reason.
+// (lines.rt), the sets of lines (groups.rt), the credential rows, the hints and the links (credentials.rt), the
+// intervals in rows of both kinds (interval.rt). No other functions know where a number stands in the array.
+// specs/Layout.antt has the layout and its reason.
 pub mod credentials;
 pub mod groups;
 pub mod head;
@@ -29,19 +29,21 @@ const GIVES: usize = HIGH + 1;
 
 const LINE_WIDTH: usize = GIVES + 1;
 
-// where the sets of lines start; how many groups of sessions there are, each with a set, and how many numbers a set has,
-// with room for so many lines each
+// where the sets of lines start; how many groups of sessions there are, each with a set; how many numbers a set has,
+// with room for so many lines each; how wide a group's row is
 const GROUP_SETS: usize = LINES + ledger::MAX_FORMULAS as usize * LINE_WIDTH;
 
 pub const GROUPS: u32 = 64;
 
-pub const GROUP_WIDTH: u32 = 7;
+pub const SET_WIDTH: u32 = 7;
 
 pub const SET_LINES: u32 = 32;
 
+const GROUP_WIDTH: usize = SET_WIDTH as usize + 1;
+
 // where the credential rows start, where a row's link stands in it, how wide they are and how many there are: twice as
 // many as may live
-const CREDENTIALS: usize = GROUP_SETS + (GROUPS * GROUP_WIDTH) as usize;
+const CREDENTIALS: usize = GROUP_SETS + GROUPS as usize * GROUP_WIDTH;
 
 const BEFORE: usize = 7;
 

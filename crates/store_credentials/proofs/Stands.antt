@@ -13,7 +13,7 @@ use Rattle.ledger.specs.Ledger.{Ledger, formula}
 use Rattle.ledger.specs.Checks.{maxFormulas}
 use Rattle.ledger.specs.Bounds.{Bounded}
 use Rattle.store.specs.Tab.{tab, present}
-use Rattle.store_cells.specs.Layout.{lineCount, nextSerial, rowCount, entryAt, putHint, groups, setLines}
+use Rattle.store_cells.specs.Layout.{lineCount, nextSerial, rowCount, entryAt, putHint, groups, setLines, setWidth}
 use Rattle.store.specs.Store.{lineOf, ledgerOf, Canonical, RowsOrdered, Good, StandsFor}
 use Rattle.store.proofs.Tabs.{tab-ext}
 use Rattle.store_cells.proofs.CellWrites.{SameLines, lines-self, same-row, same-size, same-plain, same-balanced}
@@ -55,11 +55,17 @@ module _ (l m : List ℕ) (g : Good l) (s : SameLines l m) where
         givens = λ i h. same-gives l m s i (small i (below i h)) ∙ g .givens i (below i h)
             ∙ ap₂ counts (sym (same-low l m s i (small i (below i h)))) (sym (same-formula i));
         grouped = record {
-          within = λ f w j p q r e. rw (s .count) (g .grouped .within f w j p q r (rw (same-group l m s f w p q) at e));
+          within = λ f w j p q r e. rw (s .count)
+              (g .grouped .within f w j p q r (rw (same-group l m s f w p (omega arith)) at e));
           near = λ n t h a c.
               rw (same-group l m s (t % groups) (n / setLines) (omega arith) (omega (arith, small n (below n h))))
               (g .grouped .near n t (below n h) (rw (same-low l m s n (small n (below n h))) at a)
               (rw (same-high l m s n (small n (below n h))) at c));
+          filled = record {
+            numbers = λ f w p e. g .grouped .filled .numbers f w p (rw (same-group l m s f setWidth p (omega arith)) at e);
+            others = λ f w p q e. same-group l m s f w p (omega arith)
+                ∙ g .grouped .filled .others f w p q (rw (same-group l m s f setWidth p (omega arith)) at e);
+          };
         };
         bounded = b;
       }

@@ -22,10 +22,10 @@ use Rattle.store.specs.Tab.{tab}
 use Rattle.store_cells.specs.Layout.{lineCount, lineCell, rowAt, sizeAt, plainAt, balancedAt, lineCells, putLineCount}
 use Rattle.store_cells.specs.Layout.{putLine, sizeCell, plainCell, balancedCell, lineWidth, unboundAt, quantifiedAt}
 use Rattle.store_cells.specs.Layout.{unboundCell, quantifiedCell, lowCell, highCell, givesCell, lowAt, highAt}
-use Rattle.store_cells.specs.Layout.{givesAt, groups, setLines, groupWidth, groupAt}
+use Rattle.store_cells.specs.Layout.{givesAt, groups, setLines, setWidth, groupAt}
 use Rattle.logic.specs.Packed.{counts}
 use Rattle.labels.specs.Labels.{member, _∋_}
-use Rattle.store.specs.Groups.{Near, Grouped}
+use Rattle.store.specs.Groups.{Near, Filled, Grouped}
 use Rattle.store_formulas.specs.Marked.{Marked}
 use Rattle.logic.specs.Span.{Spans}
 use Rattle.logic.proofs.Spans.{spans-same}
@@ -98,20 +98,36 @@ module _ (l : List ℕ) (r : Row) (s : ℕ) (p b u z : Bool) (low high gives : �
     new-group g w = head-group joined 0 (n + 1) g w (omega arith)
 
     -- of another line
-    member-same : (g w i : ℕ) → g < groups → w < groupWidth → i < setLines → (w * setLines + i ≡ n → ⊥)
+    member-same : (g w i : ℕ) → g < groups → w < setWidth → i < setLines → (w * setLines + i ≡ n → ⊥)
         → member (groupAt m g w) i ≡ member (groupAt l g w) i
     member-same g w i x y z d =
         ap (λ (v : ℕ). member v i) (new-group g w) ∙ j .only .others g w i x y z d
         ∙ ap (λ (v : ℕ). member v i) (old-group g w)
+
+    filled-all : Filled m
+    filled-all =
+        let z = j .only .filled rowed-filled in
+        record {
+          numbers = λ g w x e. z .numbers g w x (rw (new-group g setWidth) at e);
+          others = λ g w x y e. new-group g w ∙ z .others g w x y (rw (new-group g setWidth) at e);
+        }
+      where
+        rowed-filled : Filled rowed
+        rowed-filled = record {
+          numbers = λ g w x e. a .good .grouped .filled .numbers g w x (rw (old-group g setWidth) at e);
+          others = λ g w x y e. old-group g w
+              ∙ a .good .grouped .filled .others g w x y (rw (old-group g setWidth) at e);
+        }
 
     grouped : Grouped m
     unfolding lowAt highAt
     grouped = record {
       within = λ g w i x y z e. within-in g w i x y z e (ℕ-discrete (w * setLines + i) n);
       near = λ k i h x y. near-in k i h x y (ℕ-discrete k n);
+      filled = filled-all;
     }
       where
-        within-in : (g w i : ℕ) → g < groups → w < groupWidth → i < setLines → groupAt m g w ∋ i
+        within-in : (g w i : ℕ) → g < groups → w < setWidth → i < setLines → groupAt m g w ∋ i
             → Dec (w * setLines + i ≡ n) → w * setLines + i < lineCount m
         within-in g w i x y z e (yes d) = omega (arith, count)
         within-in g w i x y z e (no d) =

@@ -3,13 +3,14 @@ use mathlib.Core.Path.{_≡_, refl, ap, subst, _∙_}
 use mathlib.Core.List.{List}
 use Prim.Native.Nat.{ℕ, _+_, _*_, _-_, _/_, _%_, _≤_, _<_}
 use native.Mathlib.Omega.{arith}
-use native.Mathlib.Decide.{decLt}
+use native.Mathlib.Decide.{decLt, ℕ-discrete}
 use lib.ListN.{length}
 use Rattle.ledger.specs.Checks.{maxFormulas}
 use Rattle.labels.specs.Labels.{_∋_}
-use Rattle.store_cells.specs.Layout.{cells, groups, setLines, groupAt, putMark}
+use Rattle.store_cells.specs.Layout.{cells, groups, setLines, setWidth, groupAt, filledAt, putMark}
 use Rattle.store_cells.proofs.GroupSets.{mark-long, mark-below, mark-above, mark-here, mark-other, mark-stays}
-use Rattle.store.specs.Groups.{Near}
+use Rattle.store_cells.proofs.GroupSets.{mark-filled, mark-empty}
+use Rattle.store.specs.Groups.{Near, Filled}
 use Rattle.store_formulas.specs.Marked.{OnlyLine, Marked, MarkedTo}
 
 pub only-self : (l : List ℕ) (n : ℕ) → length l ≡ cells → OnlyLine l l n
@@ -18,6 +19,7 @@ only-self l n e = record {
   below = λ k h. refl;
   above = λ k h. refl;
   others = λ g w j a b c d. refl;
+  filled = λ z. z;
 }
 
 pub mark-start : (l : List ℕ) (n low : ℕ) → length l ≡ cells → MarkedTo l l n low 0
@@ -32,6 +34,7 @@ mark-next l m n low k g q e v = record {
     below = λ c a. mark-below m g n h q c a ∙ o .below c a;
     above = λ c a. mark-above m g n h q c a ∙ o .above c a;
     others = λ f w j a b c d. mark-other m g n h q (o .long) f w j a b c d ∙ o .others f w j a b c d;
+    filled = λ z. filled-next (o .filled z);
   };
   near = λ i a. go i a (decLt i k);
 }
@@ -41,6 +44,18 @@ mark-next l m n low k g q e v = record {
 
     h : g < groups
     h = omega arith
+
+    filled-next : Filled m → Filled (putMark m g n)
+    filled-next z = record {
+      numbers = λ f w a b. in-numbers f w a b (ℕ-discrete w (n / setLines));
+      others = λ f w a b c.
+          let x = mark-empty m g n h q (o .long) f w a b c in
+          x .1 ∙ z .others f w a b (x .0);
+    }
+      where
+        in-numbers : (f w : ℕ) → f < groups → filledAt (putMark m g n) f ∋ w → Dec (w ≡ n / setLines) → w < setWidth
+        in-numbers f w a b (yes d) = omega arith
+        in-numbers f w a b (no d) = z .numbers f w a (mark-filled m g n h q (o .long) f w a b d)
 
     go : (i : ℕ) → i < k + 1 → Dec (i < k) → Near (putMark m g n) (low + i) n
     go i a (yes z) = mark-stays m g n h q (o .long) ((low + i) % groups) (omega arith) (v .near i z)

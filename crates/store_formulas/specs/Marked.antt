@@ -4,16 +4,17 @@ use mathlib.Core.List.{List}
 use Prim.Native.Nat.{ℕ, _+_, _*_, _≤_, _<_}
 use lib.ListN.{length, getD}
 use Rattle.labels.specs.Labels.{member}
-use Rattle.store_cells.specs.Layout.{cells, groupBase, groups, setLines, groupWidth, credentialBase, groupAt}
-use Rattle.store.specs.Groups.{Near}
+use Rattle.store_cells.specs.Layout.{cells, groupBase, groups, setLines, setWidth, credentialBase, groupAt}
+use Rattle.store.specs.Groups.{Near, Filled}
 
 -- all that is not a set stays, and so does every other line in the sets
 pub record OnlyLine (l m : List ℕ) (n : ℕ) : Type 0 where
   pub long : length m ≡ cells
   pub below : (k : ℕ) → k < groupBase → getD m k 0 ≡ getD l k 0
   pub above : (k : ℕ) → credentialBase ≤ k → getD m k 0 ≡ getD l k 0
-  pub others : (g w j : ℕ) → g < groups → w < groupWidth → j < setLines → (w * setLines + j ≡ n → ⊥)
+  pub others : (g w j : ℕ) → g < groups → w < setWidth → j < setLines → (w * setLines + j ≡ n → ⊥)
       → member (groupAt m g w) j ≡ member (groupAt l g w) j
+  pub filled : Filled l → Filled m
 
 pub record Marked (l m : List ℕ) (n low high : ℕ) : Type 0 where
   pub only : OnlyLine l m n

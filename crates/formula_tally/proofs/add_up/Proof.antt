@@ -6,7 +6,7 @@ use native.Mathlib.Omega.{arith}
 use lib.ListN.{length}
 use denote.Ref.{now}
 use Rattle.store.specs.Store.{ledgerOf}
-use Rattle.store_cells.specs.Layout.{groups, setLines, groupWidth, groupAt}
+use Rattle.store_cells.specs.Layout.{groups, setLines, setWidth, groupAt}
 use Rattle.formula_tally.specs.Sets.{Named, SetAdded}
 use Rattle.formula_tally.proofs.Tallied.{mostGiven, Marks, Adding, adding-start, adding-next, adding-small}
 use Rattle.formula_tally.proofs.Tallied.{adding-pass, adding-all, marks}
@@ -19,10 +19,10 @@ sets l s = groupAt l (s % groups)
 
 abbrev Inv-loop : tie.InvT-loop
 Inv-loop store session minute open₀ seats₀ places₀ w₀ «open» seats places w =
-    (w ≤ groupWidth) × Adding (ledgerOf store) session minute (sets store session) w «open» seats places
+    (w ≤ setWidth) × Adding (ledgerOf store) session minute (sets store session) w «open» seats places
 
 abbrev μ-loop : tie.MeasureT-loop
-μ-loop store session minute open₀ seats₀ places₀ w₀ «open» seats places w = groupWidth - w
+μ-loop store session minute open₀ seats₀ places₀ w₀ «open» seats places w = setWidth - w
 
 loop-holds : tie.Need-loop-holds Inv-loop μ-loop
 loop-holds c =
@@ -61,11 +61,11 @@ added c =
 -- they fit
 record Small (c : tie.After-add-set Inv-loop μ-loop) : Type 0 where
   opens : c .before .before .before .before .loop .«open» + c .add-set .result .«open»
-      ≤ groupWidth * (setLines * mostGiven)
+      ≤ setWidth * (setLines * mostGiven)
   seats : c .before .before .before .before .loop .seats + c .add-set .result .seats
-      ≤ groupWidth * (setLines * mostGiven)
+      ≤ setWidth * (setLines * mostGiven)
   places : c .before .before .before .before .loop .places + c .add-set .result .places
-      ≤ groupWidth * (setLines * mostGiven)
+      ≤ setWidth * (setLines * mostGiven)
 
 small : (c : tie.After-add-set Inv-loop μ-loop) → Small c
 small c =
@@ -96,7 +96,7 @@ returns c =
     let s = at .before in
     let l = now (s .args .store) in
     let h = c .loop-test .left in
-    let e : at .loop .w ≡ groupWidth = omega (arith, at .loop .inv .0) in
+    let e : at .loop .w ≡ setWidth = omega (arith, at .loop .inv .0) in
     adding-all l (s .args .session) (s .args .minute) (s .pre) (sets l (s .args .session))
     (marks l (s .args .session) 0 (s .pre)) e (at .loop .inv .1)
 
