@@ -108,6 +108,22 @@ pub over-le : (d m : ℕ) (f : ℕ → ℕ) → ((k : ℕ) → f k ≤ m) → ov
 unfolding overSet
 over-le d m f h = to-le setLines m _ (λ k l. only-le (member d k) (h k))
 
+-- where only numbers below n are in d, and f is 0 at those that are not
+pub over-all : (d n : ℕ) (f : ℕ → ℕ) → n ≤ setLines → ((k : ℕ) → d ∋ k → k < n)
+    → ((k : ℕ) → k < n → member d k ≡ false → f k ≡ 0) → overSet d f ≡ sumTo n f
+unfolding overSet
+over-all d n f le within without =
+    to-end n setLines (λ k. only (member d k) (f k)) le (λ k h l. past k h (member d k) refl)
+    ∙ to-same n _ _ (λ k h. here k h (member d k) refl)
+  where
+    past : (k : ℕ) → n ≤ k → (b : Bool) → member d k ≡ b → only b (f k) ≡ 0
+    past k h true e = absurd (omega (arith, within k e))
+    past k h false e = refl
+
+    here : (k : ℕ) → k < n → (b : Bool) → member d k ≡ b → only b (f k) ≡ f k
+    here k h true e = refl
+    here k h false e = sym (without k h e)
+
 -- Sets with a bit for each number
 
 module _ (bits f : ℕ → ℕ) where
@@ -137,7 +153,8 @@ module _ (bits f : ℕ → ℕ) where
       → overSets bits f ≡ sumTo n f
   unfolding at
   sets-sum n le within without =
-      blocks setWidth ∙ to-end n (setLines * setWidth) at le (λ k h l. past k h l _ refl) ∙ to-same n _ _ (λ k h. here k h _ refl)
+      blocks setWidth ∙ to-end n (setLines * setWidth) at le (λ k h l. past k h l _ refl)
+      ∙ to-same n _ _ (λ k h. here k h _ refl)
     where
       past : (k : ℕ) → n ≤ k → k < setLines * setWidth → (b : Bool) → member (bits (k / setLines)) (k % setLines) ≡ b
           → only b (f k) ≡ 0

@@ -26,12 +26,6 @@ unfolding sumTo
 to-le zero m f h = omega arith
 to-le (suc n) m f h = omega (arith, to-le n m f (λ k l. h k (omega arith)), h n (omega arith))
 
--- at least as many as there are
-pub to-many : (n : ℕ) (f : ℕ → ℕ) → ((k : ℕ) → 1 ≤ f k) → n ≤ sumTo n f
-unfolding sumTo
-to-many zero f h = omega arith
-to-many (suc n) f h = omega (arith, to-many n f h, h n)
-
 -- one more
 pub to-next : (n : ℕ) (f : ℕ → ℕ) → sumTo (n + 1) f ≡ sumTo n f + f n
 unfolding sumTo

@@ -17,7 +17,7 @@ use Rattle.ledger.specs.Checks.{maxSize, maxLive}
 use Rattle.ledger.specs.Bounds.{Bounded}
 use Rattle.labels.specs.Labels.{member, _∋_}
 use Rattle.labels.proofs.Sets.{member-below}
-use Rattle.store_cells.specs.Layout.{setLines, groups, setWidth, groupAt, lowAt, highAt}
+use Rattle.store_cells.specs.Layout.{setLines, groups, setWidth, groupAt, filledAt, lowAt, highAt}
 use Rattle.store.specs.Store.{ledgerOf, Good}
 use Rattle.store.proofs.Views.{lines-length}
 use Rattle.formula_tally.specs.declared.Sums.{Sums}
@@ -27,9 +27,10 @@ use Rattle.formula_tally.specs.Gives.{gives}
 use Rattle.formula_tally.specs.ByFormula.{singlesWith, singlesWithout, sumTo, openBy, shutBy, placedBy}
 use Rattle.formula_tally.specs.ByFormula.{openAt, seatsAt, placesAt, GivenBy, Added}
 use Rattle.formula_tally.specs.Sets.{overSet, Named, SetAdded}
-use Rattle.formula_tally.proofs.SumLaws.{to-same, to-plus, to-le, to-next}
+use Rattle.formula_tally.proofs.SumLaws.{to-same, to-plus}
 use Rattle.formula_tally.proofs.Giving.{gives-none, unpacked, counts-gives}
-use Rattle.formula_tally.proofs.SetSums.{lowest-in, and-member, over-next, over-none, over-le, sets-sum}
+use Rattle.formula_tally.proofs.SetSums.{lowest-in, and-member, over-next, over-none, over-le}
+use Rattle.formula_tally.proofs.SetSums.{over-all, sets-sum}
 use Rattle.formula_tally.proofs.Walks.{singles-few}
 
 -- Of one formula
@@ -162,51 +163,58 @@ module _ (t : Ledger) (s m base d : ℕ) where
 
 -- Over sets
 
--- the sets have a bit for each formula that may have an atom of the session, and none for what is no formula
-pub record Marks (l : List ℕ) (s : ℕ) (bits : ℕ → ℕ) : Type 0 where
+-- d has the numbers of the sets that are not 0, and the sets a bit for each formula that may have an atom of the
+-- session, and none for what is no formula
+pub record Marks (l : List ℕ) (s d : ℕ) (bits : ℕ → ℕ) : Type 0 where
+  pub numbers : (w : ℕ) → d ∋ w → w < setWidth
+  pub others : (w : ℕ) → w < setWidth → member d w ≡ false → bits w ≡ 0
   pub within : (w j : ℕ) → w < setWidth → j < setLines → bits w ∋ j → setLines * w + j < length (ledgerOf l .lines)
   pub marked : (i : ℕ) → i < length (ledgerOf l .lines) → lowAt l i ≤ s → s ≤ highAt l i
       → bits (i / setLines) ∋ i % setLines
 
--- the sums over the first w of the sets
-pub record Adding (t : Ledger) (s m : ℕ) (bits : ℕ → ℕ) (w o a p : ℕ) : Type 0 where
-  pub opens : o ≡ sumTo w (λ v. overSet (bits v) (λ j. openAt t s m (setLines * v + j)))
-  pub seats : a ≡ sumTo w (λ v. overSet (bits v) (λ j. seatsAt t s m (setLines * v + j)))
-  pub places : p ≡ sumTo w (λ v. overSet (bits v) (λ j. placesAt t s m (setLines * v + j)))
+-- what set w gives to a sum
+abbrev setGives : (ℕ → ℕ) → (ℕ → ℕ) → ℕ → ℕ
+setGives bits f w = overSet (bits w) (λ j. f (setLines * w + j))
 
-module _ (t : Ledger) (s m : ℕ) (bits : ℕ → ℕ) where
-  pub adding-start : Adding t s m bits 0 0 0 0
-  unfolding sumTo
-  adding-start = record { opens = refl; seats = refl; places = refl }
+-- of the numbers of d those of `rest` are left
+pub record Adding (t : Ledger) (s m d : ℕ) (bits : ℕ → ℕ) (rest o a p : ℕ) : Type 0 where
+  pub within : rest ≤ d
+  pub there : (w : ℕ) → rest ∋ w → d ∋ w
+  pub opens : o + overSet rest (setGives bits (openAt t s m)) ≡ overSet d (setGives bits (openAt t s m))
+  pub seats : a + overSet rest (setGives bits (seatsAt t s m)) ≡ overSet d (setGives bits (seatsAt t s m))
+  pub places : p + overSet rest (setGives bits (placesAt t s m)) ≡ overSet d (setGives bits (placesAt t s m))
 
-  pub adding-next : {w o a p : ℕ} {r : Sums} → Adding t s m bits w o a p → SetAdded t s m (setLines * w) (bits w) r
-      → Adding t s m bits (w + 1) (o + r .«open») (a + r .seats) (p + r .places)
-  adding-next {w} u v = record {
-    opens = ap₂ _+_ (u .opens) (v .opens) ∙ sym (to-next w _);
-    seats = ap₂ _+_ (u .seats) (v .seats) ∙ sym (to-next w _);
-    places = ap₂ _+_ (u .places) (v .places) ∙ sym (to-next w _);
+module _ (t : Ledger) (s m d : ℕ) (bits : ℕ → ℕ) where
+  pub adding-start : Adding t s m d bits d 0 0 0
+  adding-start = record {
+    within = omega arith;
+    there = λ w i. i;
+    opens = omega arith;
+    seats = omega arith;
+    places = omega arith;
   }
 
-  -- an empty set
-  pub adding-pass : {w o a p : ℕ} → Adding t s m bits w o a p → bits w ≡ 0 → Adding t s m bits (w + 1) o a p
-  adding-pass {w} u e = record {
-    opens = u .opens ∙ same (λ v j. openAt t s m (setLines * v + j));
-    seats = u .seats ∙ same (λ v j. seatsAt t s m (setLines * v + j));
-    places = u .places ∙ same (λ v j. placesAt t s m (setLines * v + j));
-  }
-    where
-      same : (f : ℕ → ℕ → ℕ) → sumTo w (λ v. overSet (bits v) (f v)) ≡ sumTo (w + 1) (λ v. overSet (bits v) (f v))
-      same f =
-          let z : overSet (bits w) (f w) ≡ 0 = ap (λ (d : ℕ). overSet d (f w)) e ∙ over-none (f w) in
-          omega (arith, z, to-next w (λ v. overSet (bits v) (f v)))
+  module _ {rest o a p : ℕ} (u : Adding t s m d bits rest o a p) (h : 0 < rest) (l : rest < 2 ^ setLines) {r : Sums}
+      (v : SetAdded t s m (setLines * trailingZeros setLines rest) (bits (trailingZeros setLines rest)) r) where
+    pub adding-next : Adding t s m d bits (bitAnd rest (rest - 1)) (o + r .«open») (a + r .seats) (p + r .places)
+    adding-next = record {
+      within = omega (arith, and-le-l rest (rest - 1), u .within);
+      there = λ w i. u .there w (and-member rest (rest - 1) w i);
+      opens = omega (arith, u .opens, v .opens, over-next rest (setGives bits (openAt t s m)) h l);
+      seats = omega (arith, u .seats, v .seats, over-next rest (setGives bits (seatsAt t s m)) h l);
+      places = omega (arith, u .places, v .places, over-next rest (setGives bits (placesAt t s m)) h l);
+    }
 
-  pub adding-small : Bounded t → {w o a p : ℕ} → Adding t s m bits w o a p
-      → (o ≤ w * (setLines * mostGiven)) × (a ≤ w * (setLines * mostGiven)) × (p ≤ w * (setLines * mostGiven))
-  adding-small b {w} u = (
-    omega (arith, u .opens, to-le w _ _ (λ v h. over-le (bits v) _ _ (λ j. small t s m b (setLines * v + j) .opens))),
-    omega (arith, u .seats, to-le w _ _ (λ v h. over-le (bits v) _ _ (λ j. small t s m b (setLines * v + j) .seats))),
-    omega (arith, u .places, to-le w _ _ (λ v h. over-le (bits v) _ _ (λ j. small t s m b (setLines * v + j) .places))),
-  )
+    pub adding-small : Bounded t → (o + r .«open» ≤ setLines * (setLines * mostGiven))
+        × (a + r .seats ≤ setLines * (setLines * mostGiven)) × (p + r .places ≤ setLines * (setLines * mostGiven))
+    adding-small b =
+        let limit : (f : ℕ → ℕ) → ((k : ℕ) → f k ≤ mostGiven) → overSet d (setGives bits f)
+        ≤ setLines * (setLines * mostGiven) =
+        λ f q. over-le d (setLines * mostGiven) (setGives bits f) (λ w. over-le (bits w) mostGiven _ (λ j. q _)) in (
+          omega (arith, adding-next .opens, limit (openAt t s m) (λ k. small t s m b k .opens)),
+          omega (arith, adding-next .seats, limit (seatsAt t s m) (λ k. small t s m b k .seats)),
+          omega (arith, adding-next .places, limit (placesAt t s m) (λ k. small t s m b k .places)),
+        )
 
 module _ (l : List ℕ) (s m : ℕ) (g : Good l) where
   abbrev t : Ledger
@@ -226,13 +234,15 @@ module _ (l : List ℕ) (s m : ℕ) (g : Good l) where
       ∙ counts-gives s (formula t i) (g .bounded .sizes i)
 
   -- the sets of the session's group
-  pub marks : Marks l s (groupAt l (s % groups))
+  pub marks : Marks l s (filledAt l (s % groups)) (groupAt l (s % groups))
   marks = record {
+    numbers = λ w i. g .grouped .filled .numbers (s % groups) w (omega arith) i;
+    others = λ w h e. g .grouped .filled .others (s % groups) w (omega arith) h e;
     within = λ w j p q i. omega (arith, lines-length l, g .grouped .within (s % groups) w j (omega arith) p q i);
     marked = λ i h p q. g .grouped .near i s (omega (arith, lines-length l)) p q;
   }
 
-  module _ (bits : ℕ → ℕ) (k : Marks l s bits) where
+  module _ (d : ℕ) (bits : ℕ → ℕ) (k : Marks l s d bits) where
     -- a formula that has no bit
     unmarked : (i : ℕ) → i < length (t .lines) → member (bits (i / setLines)) (i % setLines) ≡ false
         → (s < lowAt l i) ⊎ (highAt l i < s)
@@ -243,11 +253,15 @@ module _ (l : List ℕ) (s m : ℕ) (g : Good l) where
         go (no p) q = inl (omega arith)
         go (yes p) (no q) = inr (omega arith)
 
+    -- a sum over the sets is one over all formulas, where it sees only those of the session
     marked-sum : (f : ℕ → ℕ) → ((i : ℕ) → seats s (formula t i) ≡ 0 → places s (formula t i) ≡ 0 → f i ≡ 0)
-        → {w x : ℕ} → w ≡ setWidth → x ≡ sumTo w (λ v. overSet (bits v) (λ j. f (setLines * v + j)))
+        → {rest x : ℕ} → rest ≡ 0 → x + overSet rest (setGives bits f) ≡ overSet d (setGives bits f)
         → x ≡ sumTo (length (t .lines)) f
-    marked-sum f none e h =
-        h ∙ ap (λ (x : ℕ). sumTo x (λ v. overSet (bits v) (λ j. f (setLines * v + j)))) e
+    marked-sum f none {rest} {x} e h =
+        let z : overSet rest (setGives bits f) ≡ 0 = ap (λ (n : ℕ). overSet n (setGives bits f)) e ∙ over-none _ in
+        let y : x ≡ overSet d (setGives bits f) = omega arith in
+        y ∙ over-all d setWidth (setGives bits f) (omega arith) (k .numbers)
+        (λ w q i. ap (λ (n : ℕ). overSet n (λ j. f (setLines * w + j))) (k .others w q i) ∙ over-none _)
         ∙ sets-sum bits f (length (t .lines)) (omega (arith, g .bounded .lines)) (k .within) away
       where
         away : (i : ℕ) → i < length (t .lines) → member (bits (i / setLines)) (i % setLines) ≡ false → f i ≡ 0
@@ -256,10 +270,10 @@ module _ (l : List ℕ) (s m : ℕ) (g : Good l) where
             let o = unmarked i h e in
             none i (z seat s o) (z place s o)
 
-    pub adding-all : {w : ℕ} {r : Sums} → w ≡ setWidth → Adding t s m bits w (r .«open») (r .seats) (r .places)
+    pub adding-all : {rest : ℕ} {r : Sums} → rest ≡ 0 → Adding t s m d bits rest (r .«open») (r .seats) (r .places)
         → Added t s m r
     unfolding openBy shutBy placedBy
-    adding-all {w} {r} e u =
+    adding-all {rest} {r} e u =
         let n = length (t .lines) in
         record {
           opens = marked-sum (openAt t s m)

@@ -40,8 +40,8 @@ struct Singles {
     outside: u32,
 }
 
-// What one single gives of a session, three counts in one number. Of a formula's lowest session it is kept with its row,
-// and most formulas have atoms of one session alone.
+// What one single gives of a session, three counts in one number. Of a formula's lowest session it is kept with its
+// row, and most formulas have atoms of one session alone.
 fn count_formula(store: &Store, formula: u32, session: u32) -> u32
     requires { ⌜ Good (now store) × (formula < length (ledgerOf (now store) .lines)) ⌝ }
     ensures { λ r. ⌜ r ≡ gives session (formulaOf (ledgerOf (now (store .entry))) formula) ⌝ }
@@ -154,25 +154,24 @@ fn add_set(store: &Store, base: u32, bits: u32, session: u32, minute: u32) -> Su
     }
 }
 
-// What all formulas give: those of the session's group, for the others have nothing of it.
+// What all formulas give: those in the set of the session's group, for the others have nothing of it.
 fn add_up(store: &Store, session: u32, minute: u32) -> Sums
     requires { ⌜ Good (now store) ⌝ }
     ensures { λ r. ⌜ Added (ledgerOf (now (store .entry))) session minute r ⌝ }
 {
+    let group = session % store_cells::GROUPS;
+    let mut rest = store::filled(store, group);
     let mut open = 0;
     let mut seats = 0;
     let mut places = 0;
-    let mut w = 0;
-    while w < store_cells::SET_WIDTH {
-        let base = store_cells::SET_LINES * w;
-        let bits = store::near(store, session % store_cells::GROUPS, w);
-        w += 1;
-        if bits != 0 {
-            let more = add_set(store, base, bits, session, minute);
-            open += more.open;
-            seats += more.seats;
-            places += more.places;
-        }
+    while 0 < rest {
+        let w = u32::trailing_zeros(rest);
+        rest = rest & (rest - 1);
+        let bits = store::near(store, group, w);
+        let more = add_set(store, store_cells::SET_LINES * w, bits, session, minute);
+        open += more.open;
+        seats += more.seats;
+        places += more.places;
     }
     Sums {
         open,

@@ -227,7 +227,8 @@ module _ (m : List ℕ) (i : ℕ) (r : Row) (s : ℕ) (p b u q : Bool) (low high
   pub line-same : length m ≡ cells → i < maxFormulas → (f : ℕ) → f < lineWidth
       → lineCell (putLine m i r s p b u q low high gives) i f ≡ getD (lineCells r s p b u q low high gives) f 0
   unfolding lineCell putLine
-  line-same n h f x = row-same m lineBase lineWidth i (lineCells r s p b u q low high gives) f (omega arith) (omega arith)
+  line-same n h f x =
+      row-same m lineBase lineWidth i (lineCells r s p b u q low high gives) f (omega arith) (omega arith)
 
   pub line-other : (k f : ℕ) → (k ≡ i → ⊥) → f < lineWidth
       → lineCell (putLine m i r s p b u q low high gives) k f ≡ lineCell m k f
@@ -237,7 +238,8 @@ module _ (m : List ℕ) (i : ℕ) (r : Row) (s : ℕ) (p b u q : Bool) (low high
   pub line-group : i < maxFormulas → (g w : ℕ) → groupAt (putLine m i r s p b u q low high gives) g w ≡ groupAt m g w
   unfolding groupAt cell putLine
   line-group h g w =
-      put-above m lineBase lineWidth i (lineCells r s p b u q low high gives) (groupBase + g * groupWidth + w) (omega arith)
+      put-above m lineBase lineWidth i (lineCells r s p b u q low high gives) (groupBase + g * groupWidth + w)
+      (omega arith)
 
   line-before : (k : ℕ) → k < lineBase → getD (putLine m i r s p b u q low high gives) k 0 ≡ getD m k 0
   unfolding putLine

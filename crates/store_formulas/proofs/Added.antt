@@ -148,7 +148,8 @@ module _ (l : List ℕ) (r : Row) (s : ℕ) (p b u z : Bool) (low high gives : �
     new-row : rowAt m n ≡ r
     new-row =
         row-below m n (omega (arith, count)) room
-        ∙ row-ext (lineCell m n) (λ f. getD (lineCells r s p b u z low high gives) f 0) (λ f q. new-cell f (omega arith))
+        ∙ row-ext (lineCell m n) (λ f. getD (lineCells r s p b u z low high gives) f 0)
+        (λ f q. new-cell f (omega arith))
 
     old-row : (k : ℕ) → k < n → rowAt m k ≡ rowAt l k
     old-row k h =

@@ -58,7 +58,8 @@ loop-holds c =
     (c .pre .1)
 
 -- a bit less is left
-less : (c : tie.In-loop Inv-loop μ-loop) → bitAnd (c .before .loop .rest) (c .before .loop .rest - 1) < c .before .loop .rest
+less : (c : tie.In-loop Inv-loop μ-loop)
+    → bitAnd (c .before .loop .rest) (c .before .loop .rest - 1) < c .before .loop .rest
 less c =
     let h = c .loop-test .taken in
     omega (arith, and-le-r (c .before .loop .rest) (c .before .loop .rest - 1))
