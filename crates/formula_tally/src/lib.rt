@@ -91,14 +91,13 @@ fn count_singles(store: &Store, formula: u32, minute: u32) -> Singles
     let mut all = 0;
     let mut next = store::last_row(store, formula);
     while 0 < next {
-        let i = next - 1;
-        let c = store::credential_at(store, i);
+        let c = store::credential_at(store, next - 1);
         let kind = c.kind;
         let linear = when_linear(kind, 1);
         let one = when_has(c.interval, minute, linear);
         inside += one;
         all += linear;
-        next = store::row_before(store, i);
+        next = store::row_before(store, next);
     }
     Singles {
         inside,

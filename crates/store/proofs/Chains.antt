@@ -2,7 +2,7 @@
 -- that sees one formula alone.
 use mathlib.Core.Path.{_≡_, refl, sym, ap, subst, _∙_}
 use mathlib.Core.List.{List}
-use Prim.Native.Nat.{ℕ, zero, suc, _+_, _<_, _≤_}
+use Prim.Native.Nat.{ℕ, zero, suc, _+_, _-_, _<_, _≤_}
 use native.Mathlib.Omega.{arith}
 use native.Mathlib.Numerals.{add-one}
 use native.Mathlib.Decide.{ℕ-discrete}
@@ -12,8 +12,8 @@ use Rattle.logic.specs.Multiset.{sum}
 use Rattle.logic.proofs.Multisets.{snoc-sum}
 use Rattle.ledger.specs.declared.Credential.{Credential}
 use Rattle.ledger.specs.Checks.{maxFormulas}
-use Rattle.store_cells.specs.Layout.{cells, maxRows, linkAt, beforeAt, ofAt, putCredential}
-use Rattle.store_cells.proofs.CellWrites.{Stays, stays-credential, stays-link}
+use Rattle.store_cells.specs.Layout.{cells, maxRows, rowLink, formulaLink, linkAt, ofAt, putCredential}
+use Rattle.store_cells.proofs.CellWrites.{Stays, stays-credential}
 use Rattle.store_cells.proofs.CredentialRows.{credential-same, credential-stays, credential-link, credential-last}
 use Rattle.store_cells.proofs.CredentialRows.{credential-links}
 use Rattle.store.specs.Tab.{tab}
@@ -63,25 +63,31 @@ last-none f n (suc k) h = last-pass f n k (h k (omega arith)) ∙ last-none f n 
 
 -- Another store whose rows are of the same formulas, with the same links.
 pub chain-same : (l m : List ℕ) (k : ℕ) → Chained l k → ((i : ℕ) → i < k → ofAt m i ≡ ofAt l i)
-    → ((i : ℕ) → i < k → beforeAt m i ≡ beforeAt l i) → ((n : ℕ) → linkAt m n ≡ linkAt l n) → Chained m k
-chain-same l m k c e b q = record {
-  last = λ n h. q n ∙ c .last n h ∙ last-ext (ofAt l) (ofAt m) n k (λ i p. sym (e i p));
-  before = λ i h. b i h ∙ c .before i h
+    → ((j : ℕ) → linkAt m j ≡ linkAt l j) → Chained m k
+chain-same l m k c e q = record {
+  last = λ n h. q (formulaLink n) ∙ c .last n h ∙ last-ext (ofAt l) (ofAt m) n k (λ i p. sym (e i p));
+  before = λ i h. q (rowLink i) ∙ c .before i h
       ∙ last-ext (ofAt l) (ofAt m) (ofAt l i) i (λ j p. sym (e j (omega arith)))
       ∙ ap (λ (n : ℕ). lastOf (ofAt m) n i) (sym (e i h));
 }
 
 -- Another store with the same rows.
 pub chain-stays : (l m : List ℕ) (k : ℕ) → Chained l k → ((i : ℕ) → i < k → Stays l m i)
-    → ((n : ℕ) → linkAt m n ≡ linkAt l n) → Chained m k
+    → ((j : ℕ) → linkAt m j ≡ linkAt l j) → Chained m k
 chain-stays l m k c s q =
-    chain-same l m k c (λ i h. ap (λ (x : Credential). x .formula) (stays-credential l m i (s i h)))
-    (λ i h. stays-link l m i (s i h)) q
+    chain-same l m k c (λ i h. ap (λ (x : Credential). x .formula) (stays-credential l m i (s i h))) q
 
 -- No row yet.
-pub chain-none : (l : List ℕ) → ((n : ℕ) → n < maxFormulas → linkAt l n ≡ 0) → Chained l 0
+pub chain-none : (l : List ℕ) → ((n : ℕ) → n < maxFormulas → linkAt l (formulaLink n) ≡ 0) → Chained l 0
 unfolding lastOf
 chain-none l h = record { last = h; before = λ i q. absurd (omega arith) }
+
+-- The link of a row that is known by its number and one.
+pub chain-before : (l : List ℕ) (k p : ℕ) → Chained l k → 0 < p → p ≤ k
+    → linkAt l p ≡ lastOf (ofAt l) (ofAt l (p - 1)) (p - 1)
+chain-before l k p c h q =
+    let e : p ≡ rowLink (p - 1) = omega arith in
+    ap (linkAt l) e ∙ c .before (p - 1) (omega arith)
 
 -- One row more.
 module _ (l : List ℕ) (k : ℕ) (x : Credential) (long : length l ≡ cells) (h : k < maxRows) (q : x .formula < maxFormulas)
@@ -98,27 +104,29 @@ module _ (l : List ℕ) (k : ℕ) (x : Credential) (long : length l ≡ cells) (
   new-of : ofAt m k ≡ x .formula
   new-of = ap (λ (y : Credential). y .formula) (credential-same l k x long h)
 
-  last-next : (n : ℕ) → n < maxFormulas → linkAt m n ≡ lastOf (ofAt m) n (suc k)
+  last-next : (n : ℕ) → n < maxFormulas → linkAt m (formulaLink n) ≡ lastOf (ofAt m) n (suc k)
   last-next n p = go (ℕ-discrete n (x .formula))
     where
-      go : Dec (n ≡ x .formula) → linkAt m n ≡ lastOf (ofAt m) n (suc k)
+      go : Dec (n ≡ x .formula) → linkAt m (formulaLink n) ≡ lastOf (ofAt m) n (suc k)
       go (yes e) =
-          ap (linkAt m) e ∙ credential-last l k x long h q ∙ add-one k ∙ sym (last-here (ofAt m) n k (new-of ∙ sym e))
+          ap (λ (z : ℕ). linkAt m (formulaLink z)) e ∙ credential-last l k x long h q ∙ add-one k
+          ∙ sym (last-here (ofAt m) n k (new-of ∙ sym e))
       go (no e) =
-          credential-links l k x h n e ∙ c .last n p ∙ last-ext (ofAt l) (ofAt m) n k old-of
+          credential-links l k x h (formulaLink n) (omega arith) (omega arith) ∙ c .last n p
+          ∙ last-ext (ofAt l) (ofAt m) n k old-of
           ∙ sym (last-pass (ofAt m) n k (λ z. e (sym z ∙ new-of)))
 
-  before-next : (i : ℕ) → i < suc k → beforeAt m i ≡ lastOf (ofAt m) (ofAt m i) i
+  before-next : (i : ℕ) → i < suc k → linkAt m (rowLink i) ≡ lastOf (ofAt m) (ofAt m i) i
   before-next i p = go (ℕ-discrete i k)
     where
-      go : Dec (i ≡ k) → beforeAt m i ≡ lastOf (ofAt m) (ofAt m i) i
+      go : Dec (i ≡ k) → linkAt m (rowLink i) ≡ lastOf (ofAt m) (ofAt m i) i
       go (yes e) =
-          ap (beforeAt m) e ∙ credential-link l k x long h ∙ c .last (x .formula) q
+          ap (λ (z : ℕ). linkAt m (rowLink z)) e ∙ credential-link l k x long h ∙ c .last (x .formula) q
           ∙ last-ext (ofAt l) (ofAt m) (x .formula) k old-of
           ∙ ap (λ (n : ℕ). lastOf (ofAt m) n k) (sym new-of)
           ∙ ap (λ (z : ℕ). lastOf (ofAt m) (ofAt m z) z) (sym e)
       go (no e) =
-          stays-link l m i (old-stays i (omega arith)) ∙ c .before i (omega arith)
+          credential-links l k x h (rowLink i) (omega arith) (omega arith) ∙ c .before i (omega arith)
           ∙ last-ext (ofAt l) (ofAt m) (ofAt l i) i (λ j z. old-of j (omega arith))
           ∙ ap (λ (n : ℕ). lastOf (ofAt m) n i) (old-of i (omega arith))
 

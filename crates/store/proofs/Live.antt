@@ -19,7 +19,7 @@ use Rattle.ledger.specs.Checks.{maxFormulas}
 use Rattle.ledger.proofs.Bounds.{empty-bounded}
 use Rattle.store.specs.Tab.{tab, present}
 use Rattle.store_cells.specs.Layout.{cells, lineCount, liveCount, nextSerial, rowCount, credentialAt, gapAt, entryAt}
-use Rattle.store_cells.specs.Layout.{linkAt, setWidth, groupAt}
+use Rattle.store_cells.specs.Layout.{formulaLink, linkAt, setWidth, groupAt}
 use Rattle.labels.specs.Labels.{_∋_}
 use Rattle.store.specs.Store.{ledgerOf, RowsOrdered, StandsFor}
 use Rattle.store.proofs.Tabs.{tab-ext, present-sum}
@@ -36,7 +36,7 @@ no-member {d} j e m =
 
 -- The empty ledger.
 pub empty-stands : (l : List ℕ) → length l ≡ cells → lineCount l ≡ 0 → liveCount l ≡ 0 → nextSerial l ≡ 1
-    → rowCount l ≡ 0 → ((n : ℕ) → n < maxFormulas → linkAt l n ≡ 0) → ((g w : ℕ) → groupAt l g w ≡ 0)
+    → rowCount l ≡ 0 → ((n : ℕ) → n < maxFormulas → linkAt l (formulaLink n) ≡ 0) → ((g w : ℕ) → groupAt l g w ≡ 0)
     → StandsFor l empty
 unfolding ledgerOf tab present
 empty-stands l h a b c d z y =

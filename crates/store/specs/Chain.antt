@@ -6,7 +6,7 @@ use Prim.Native.Nat.{ℕ, zero, suc, _<_}
 use lib.Dec.{eqb}
 use Rattle.logic.specs.Choice.{pick}
 use Rattle.ledger.specs.Checks.{maxFormulas}
-use Rattle.store_cells.specs.Layout.{linkAt, beforeAt, ofAt}
+use Rattle.store_cells.specs.Layout.{rowLink, formulaLink, linkAt, ofAt}
 
 -- of the first k rows, where f gives the formula of a row, the last one of formula n: its number and one; 0 for none
 unfoldable pub lastOf : (ℕ → ℕ) → ℕ → ℕ → ℕ
@@ -16,5 +16,5 @@ lastOf f n (suc k) = pick (eqb (f k) n) (suc k) (lastOf f n k)
 -- the links of the first k rows, gaps too: a formula's leads to its last row, a row's to the last one before it that is
 -- of the same formula
 pub record Chained (l : List ℕ) (k : ℕ) : Type 0 where
-  pub last : (n : ℕ) → n < maxFormulas → linkAt l n ≡ lastOf (ofAt l) n k
-  pub before : (i : ℕ) → i < k → beforeAt l i ≡ lastOf (ofAt l) (ofAt l i) i
+  pub last : (n : ℕ) → n < maxFormulas → linkAt l (formulaLink n) ≡ lastOf (ofAt l) n k
+  pub before : (i : ℕ) → i < k → linkAt l (rowLink i) ≡ lastOf (ofAt l) (ofAt l i) i

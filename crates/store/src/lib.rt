@@ -9,7 +9,7 @@ use store_cells::groups;
 use store_cells::head;
 use store_cells::lines;
 ghost use mathlib.Core.Path.{_≡_};
-ghost use Prim.Native.Nat.{_<_};
+ghost use Prim.Native.Nat.{_-_, _≤_, _<_};
 ghost use lib.ListN.{length};
 ghost use Rattle.logic.specs.Formula.{size, plain, unbound, quantified};
 ghost use Rattle.logic.specs.Counts.{balanced};
@@ -181,20 +181,20 @@ pub fn credential_at(store: &Store, i: u32) -> Credential
     credentials::credential(store, i)
 }
 
-// The rows of a formula, gaps too, from the last to the first: the last one of a formula, and the one before a row that
-// is of the same formula; each by its number and one, 0 where there is none.
+// The rows of a formula, gaps too, from the last to the first: the last one of a formula, and the one before row p that
+// is of the same formula; each row by its number and one, 0 where there is none.
 pub fn last_row(store: &Store, formula: u32) -> u32
     requires { ⌜ Good (now store) × (formula < maxFormulas) ⌝ }
     ensures { λ r. ⌜ r ≡ lastOf (ofAt (now (store .entry))) formula (rowCount (now (store .entry))) ⌝ }
 {
-    credentials::link(store, formula)
+    credentials::formula_link(store, formula)
 }
 
-pub fn row_before(store: &Store, i: u32) -> u32
-    requires { ⌜ Good (now store) × (i < rowCount (now store)) ⌝ }
-    ensures { λ r. ⌜ r ≡ lastOf (ofAt (now (store .entry))) (ofAt (now (store .entry)) i) i ⌝ }
+pub fn row_before(store: &Store, p: u32) -> u32
+    requires { ⌜ Good (now store) × (0 < p) × (p ≤ rowCount (now store)) ⌝ }
+    ensures { λ r. ⌜ r ≡ lastOf (ofAt (now (store .entry))) (ofAt (now (store .entry)) (p - 1)) (p - 1) ⌝ }
 {
-    credentials::row_link(store, i)
+    credentials::link(store, p)
 }
 
 // Whether the credential of a row is linear (document 01: single-use), by its kind alone.

@@ -17,7 +17,7 @@ use Rattle.ledger.specs.declared.Credential.{Credential}
 use Rattle.ledger.specs.Table.{rowOf}
 use Rattle.ledger.specs.Checks.{maxFormulas}
 use Rattle.store_cells.specs.Layout.{lineBase, sizeCell, plainCell, balancedCell, lineWidth, credentialBase}
-use Rattle.store_cells.specs.Layout.{credentialWidth, gapKind}
+use Rattle.store_cells.specs.Layout.{credentialNumbers, gapKind}
 use Rattle.store_cells.specs.Layout.{unboundCell, quantifiedCell, unboundAt, quantifiedAt}
 use Rattle.store_cells.specs.Layout.{credentialCell, credentialPlace}
 use Rattle.store_cells.specs.Layout.{cells, maxRows, cell, lineCount, liveCount, nextSerial, rowCount, rowFrom}
@@ -25,7 +25,6 @@ use Rattle.store_cells.specs.Layout.{lineCell, rowAt, sizeAt, plainAt, b
 use Rattle.store_cells.specs.Layout.{credentialFrom, credentialAt, gapAt, entryAt, linkBase, linkAt}
 use Rattle.store_cells.specs.Layout.{lowCell, highCell, givesCell, lowAt, highAt, givesAt}
 use Rattle.store_cells.specs.Layout.{groupBase, groups, groupWidth, groupAt}
-use Rattle.store_cells.specs.Layout.{beforeCell, beforeAt}
 use Rattle.store_cells.proofs.Cells.{length-putRow, row-same, row-other, put-below, put-above}
 
 -- a row is known by its cells
@@ -49,7 +48,8 @@ row-ext g h e j = record {
   };
 }
 
-pub credential-ext : (g h : ℕ → ℕ) → ((f : ℕ) → f < credentialWidth → g f ≡ h f) → credentialFrom g ≡ credentialFrom h
+pub credential-ext : (g h : ℕ → ℕ) → ((f : ℕ) → f < credentialNumbers → g f ≡ h f)
+    → credentialFrom g ≡ credentialFrom h
 credential-ext g h e j = record {
   serial = e 0 (omega arith) j;
   kind = kindFrom (e 1 (omega arith) j);
@@ -140,7 +140,7 @@ module _ (l m : List ℕ) (s : SameLines l m) where
 
 -- row i of the credentials stands in m as in l
 abbrev pub Stays : List ℕ → List ℕ → ℕ → Type 0
-Stays l m i = (f : ℕ) → f < credentialWidth → credentialCell m i f ≡ credentialCell l i f
+Stays l m i = (f : ℕ) → f < credentialNumbers → credentialCell m i f ≡ credentialCell l i f
 
 module _ (l m : List ℕ) (i : ℕ) (s : Stays l m i) where
   pub stays-credential : credentialAt m i ≡ credentialAt l i
@@ -157,10 +157,6 @@ module _ (l m : List ℕ) (i : ℕ) (s : Stays l m i) where
 
   pub stays-serial : credentialAt m i .serial ≡ credentialAt l i .serial
   stays-serial = ap (λ (c : Credential). c .serial) stays-credential
-
-  pub stays-link : beforeAt m i ≡ beforeAt l i
-  unfolding beforeAt
-  stays-link = s beforeCell (omega arith)
 
 -- m has l's credential rows, their counts and the next serial: all that no work on formulas changes
 pub record SameLive (l m : List ℕ) : Type 0 where
@@ -233,7 +229,7 @@ module _ (m : List ℕ) (i : ℕ) (r : Row) (s : ℕ) (p b u q : Bool) (low high
   pub line-other : (k f : ℕ) → (k ≡ i → ⊥) → f < lineWidth
       → lineCell (putLine m i r s p b u q low high gives) k f ≡ lineCell m k f
   unfolding lineCell putLine
-  line-other k f h x = row-other m lineBase lineWidth i (lineCells r s p b u q low high gives) refl k f h x
+  line-other k f h x = row-other m lineBase lineWidth i (lineCells r s p b u q low high gives) (omega arith) k f h x
 
   pub line-group : i < maxFormulas → (g w : ℕ) → groupAt (putLine m i r s p b u q low high gives) g w ≡ groupAt m g w
   unfolding groupAt cell putLine

@@ -59,7 +59,7 @@ module _ (l : List ℕ) (b w i : ℕ) (vs : List ℕ) where
   unfolding putRow
   put-above k h = sets-above 0 vs l (b + i * w) k h
 
-  pub row-other : length vs ≡ w → (k f : ℕ) → (k ≡ i → ⊥) → f < w → cell (putRow l b w i vs) b w k f ≡ cell l b w k f
+  pub row-other : length vs ≤ w → (k f : ℕ) → (k ≡ i → ⊥) → f < w → cell (putRow l b w i vs) b w k f ≡ cell l b w k f
   unfolding putRow cell
   row-other n k f h q = go (decLt k i)
     where

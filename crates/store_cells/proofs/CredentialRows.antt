@@ -18,7 +18,7 @@ use Rattle.store_cells.specs.Layout.{cells, maxRows, cell, kindFrom, kin
 use Rattle.store_cells.specs.Layout.{credentialBase, credentialWidth, hintBase, gapKind, credentialCell}
 use Rattle.store_cells.specs.Layout.{credentialPlace}
 use Rattle.store_cells.specs.Layout.{credentialCells, putCredential, putGap, putHint, links, linkBase, linkAt}
-use Rattle.store_cells.specs.Layout.{putLink, putRow, beforeCell, beforeAt}
+use Rattle.store_cells.specs.Layout.{putLink, putRow, rowLink, formulaLink, credentialNumbers}
 use Rattle.store_cells.proofs.Cells.{length-putRow, row-same, row-other, put-below, put-above}
 use Rattle.store_cells.proofs.CellWrites.{credential-ext, SameLines, lines-self, Stays, SameLive}
 
@@ -72,24 +72,34 @@ module _ (m : List ℕ) (k v : ℕ) where
 
 -- A credential is put, and its row before the chain of its formula.
 module _ (m : List ℕ) (i : ℕ) (c : Credential) where
+  abbrev last : ℕ
+  last = formulaLink (c .formula)
+
   abbrev numbers : List ℕ
-  numbers = credentialCells c (linkAt m (c .formula))
+  numbers = credentialCells c
 
   abbrev row : List ℕ
   row = putRow m credentialBase credentialWidth i numbers
 
+  abbrev linked : List ℕ
+  linked = putLink row (rowLink i) (linkAt m last)
+
   row-long : length row ≡ length m
   row-long = length-putRow m credentialBase credentialWidth i numbers
+
+  linked-long : length linked ≡ length m
+  unfolding putLink
+  linked-long = length-set row (linkBase + rowLink i) (linkAt m last) ∙ row-long
 
   pub credential-before : (k : ℕ) → k < credentialBase → getD (putCredential m i c) k 0 ≡ getD m k 0
   unfolding putCredential
   credential-before k h =
-      link-before row (c .formula) (i + 1) k (omega arith)
+      link-before linked last (rowLink i) k (omega arith) ∙ link-before row (rowLink i) (linkAt m last) k (omega arith)
       ∙ put-below m credentialBase credentialWidth i numbers k h
 
   pub credential-long : length (putCredential m i c) ≡ length m
   unfolding putCredential putLink
-  credential-long = length-set row (linkBase + c .formula) (i + 1) ∙ row-long
+  credential-long = length-set linked (linkBase + last) (rowLink i) ∙ linked-long
 
   pub credential-lines : (l : List ℕ) → SameLines l m → SameLines l (putCredential m i c)
   credential-lines l s = record {
@@ -101,14 +111,14 @@ module _ (m : List ℕ) (i : ℕ) (c : Credential) where
   pub credential-stays : (k : ℕ) → k < maxRows → (k ≡ i → ⊥) → Stays m (putCredential m i c) k
   unfolding putCredential
   credential-stays k p h f q =
-      link-stays row (c .formula) (i + 1) k p f q
-      ∙ row-other m credentialBase credentialWidth i numbers refl k f h q
+      link-stays linked last (rowLink i) k p f q ∙ link-stays row (rowLink i) (linkAt m last) k p f q
+      ∙ row-other m credentialBase credentialWidth i numbers (omega arith) k f h (omega arith)
 
   module _ (n : length m ≡ cells) (h : i < maxRows) where
-    put-cell : (f : ℕ) → f < credentialWidth → credentialCell (putCredential m i c) i f ≡ getD numbers f 0
+    put-cell : (f : ℕ) → f < credentialNumbers → credentialCell (putCredential m i c) i f ≡ getD numbers f 0
     unfolding putCredential
     put-cell f q =
-        link-stays row (c .formula) (i + 1) i h f q
+        link-stays linked last (rowLink i) i h f q ∙ link-stays row (rowLink i) (linkAt m last) i h f q
         ∙ row-same m credentialBase credentialWidth i numbers f (omega arith) (omega arith)
 
     pub credential-same : credentialAt (putCredential m i c) i ≡ c
@@ -122,18 +132,21 @@ module _ (m : List ℕ) (i : ℕ) (c : Credential) where
     credential-there = ap (λ (n : ℕ). eqb n gapKind) (put-cell 1 (omega arith)) ∙ kind-stands (c .kind)
 
     -- its row leads to the one that its formula led to, and the formula to the row
-    pub credential-link : beforeAt (putCredential m i c) i ≡ linkAt m (c .formula)
-    unfolding beforeAt
-    credential-link = put-cell beforeCell (omega arith)
-
-    pub credential-last : c .formula < maxFormulas → linkAt (putCredential m i c) (c .formula) ≡ i + 1
+    pub credential-link : linkAt (putCredential m i c) (rowLink i) ≡ linkAt m (formulaLink (c .formula))
     unfolding putCredential
-    credential-last q = link-same row (c .formula) (i + 1) (row-long ∙ n) q
+    credential-link =
+        link-other linked last (rowLink i) (rowLink i) (omega arith)
+        ∙ link-same row (rowLink i) (linkAt m last) (row-long ∙ n) (omega arith)
 
-  pub credential-links : i < maxRows → (k : ℕ) → (k ≡ c .formula → ⊥) → linkAt (putCredential m i c) k ≡ linkAt m k
+    pub credential-last : c .formula < maxFormulas → linkAt (putCredential m i c) (formulaLink (c .formula)) ≡ rowLink i
+    unfolding putCredential
+    credential-last q = link-same linked last (rowLink i) (linked-long ∙ n) (omega arith)
+
+  pub credential-links : i < maxRows → (k : ℕ) → (k ≡ rowLink i → ⊥) → (k ≡ formulaLink (c .formula) → ⊥)
+      → linkAt (putCredential m i c) k ≡ linkAt m k
   unfolding putCredential linkAt
-  credential-links h k q =
-      link-other row (c .formula) (i + 1) k q
+  credential-links h k p q =
+      link-other linked last (rowLink i) k q ∙ link-other row (rowLink i) (linkAt m last) k p
       ∙ put-above m credentialBase credentialWidth i numbers (linkBase + k) (omega arith)
 
 -- A credential leaves: its serial and the other rows stay.
@@ -153,10 +166,6 @@ module _ (m : List ℕ) (i : ℕ) where
   pub gap-of : (k : ℕ) → credentialAt (putGap m i) k .formula ≡ credentialAt m k .formula
   unfolding credentialAt putGap cell
   gap-of k = getD-set-other m (credentialPlace i 1) (credentialPlace k 2) gapKind 0 (omega arith)
-
-  pub gap-link : (k : ℕ) → beforeAt (putGap m i) k ≡ beforeAt m k
-  unfolding beforeAt putGap cell
-  gap-link k = getD-set-other m (credentialPlace i 1) (credentialPlace k beforeCell) gapKind 0 (omega arith)
 
   pub gap-before : (k : ℕ) → k < credentialBase → getD (putGap m i) k 0 ≡ getD m k 0
   unfolding putGap

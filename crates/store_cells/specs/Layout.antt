@@ -18,14 +18,16 @@
 --                      the set of that session's group: a tally looks at one set alone
 --   credentialBase ..  4,096 rows of 8: a credential's (a coupon's) serial, kind (0 linear: single-use, 1
 --                      unrestricted: standing, 2 for one that has left: a gap), formula number (wording), and its
---                      interval (window), from, to, first, last; then the row's link (below). Rows stand in the order of
+--                      interval (window), from, to, first, last; the eighth number is not used, and nothing is asked of
+--                      it: a row is as wide as a power of 2, so that its place is a shift. Rows stand in the order of
 --                      their serials, and a row that leaves is only marked, so that no other one moves; there are twice
 --                      as many rows as may live, and when all are in use the live ones are moved together
 --   hintBase ..        4,096 hints: at serial mod 4,096 the row where the credential of that serial may stand. A hint
 --                      is only a guess that the search tests first: nothing is asked of its value
---   linkBase ..        200 links, one for each formula: the rows of one formula are chained, gaps too. A formula's link
---                      leads to its last row, a row's own link to the row before it of the same formula; a link is the
---                      row's number and one, or 0 where there is none
+--   linkBase ..        4,297 links, by which the rows of one formula are chained, gaps too: number 0 is not used; then
+--                      one for each row, number i + 1 for row i; then one for each formula. A formula's link leads to
+--                      its last row, a row's link to the row before it of the same formula; a link is the row's number
+--                      and one, or 0 where there is none. So a link is itself the number of the link that comes next
 use mathlib.Core.List.{List, [], _∷_}
 use mathlib.Core.Bool.{Bool}
 use mathlib.Core.Option.{Option, none, some}
@@ -100,12 +102,12 @@ groupWidth = setWidth + 1
 abbrev pub credentialBase : ℕ
 credentialBase = groupBase + groups * groupWidth
 
--- in a row the credential's own numbers stand before the row's link
-abbrev pub beforeCell : ℕ
-beforeCell = 7
+-- how many numbers of a row are the credential's, and how wide the row is
+abbrev pub credentialNumbers : ℕ
+credentialNumbers = 7
 
 abbrev pub credentialWidth : ℕ
-credentialWidth = beforeCell + 1
+credentialWidth = credentialNumbers + 1
 
 -- how many credential rows there are: twice as many as may live
 abbrev pub maxRows : ℕ
@@ -117,9 +119,16 @@ hintBase = credentialBase + maxRows * credentialWidth
 abbrev pub linkBase : ℕ
 linkBase = hintBase + maxRows
 
+-- the number of the link of row i, and of formula n
+abbrev pub rowLink : ℕ → ℕ
+rowLink i = i + 1
+
+abbrev pub formulaLink : ℕ → ℕ
+formulaLink n = rowLink maxRows + n
+
 -- how many links there are
 abbrev pub links : ℕ
-links = maxFormulas
+links = formulaLink maxFormulas
 
 -- how many numbers there are
 abbrev pub cells : ℕ
@@ -279,10 +288,10 @@ gapAt l i = eqb (credentialCell l i 1) gapKind
 unfoldable pub entryAt : List ℕ → ℕ → Option Credential
 entryAt l i = pick (gapAt l i) none (some (credentialAt l i))
 
-abbrev pub credentialCells : Credential → ℕ → List ℕ
-credentialCells c before =
+abbrev pub credentialCells : Credential → List ℕ
+credentialCells c =
     let i = c .interval in
-    c .serial ∷ kindNumber (c .kind) ∷ c .formula ∷ i .from ∷ i .to ∷ i .first ∷ i .last ∷ before ∷ []
+    c .serial ∷ kindNumber (c .kind) ∷ c .formula ∷ i .from ∷ i .to ∷ i .first ∷ i .last ∷ []
 
 -- the credential of row i leaves
 unfoldable pub putGap : List ℕ → ℕ → List ℕ
@@ -309,12 +318,9 @@ putLink l k v = set l (linkBase + k) v
 abbrev pub ofAt : List ℕ → ℕ → ℕ
 ofAt l i = credentialAt l i .formula
 
--- the link of row i
-unfoldable pub beforeAt : List ℕ → ℕ → ℕ
-beforeAt l i = credentialCell l i beforeCell
-
 -- a credential is put in row i, and the row before the chain of its formula
 unfoldable pub putCredential : List ℕ → ℕ → Credential → List ℕ
 putCredential l i c =
-    let n = c .formula in
-    putLink (putRow l credentialBase credentialWidth i (credentialCells c (linkAt l n))) n (i + 1)
+    let k = formulaLink (c .formula) in
+    putLink (putLink (putRow l credentialBase credentialWidth i (credentialCells c)) (rowLink i) (linkAt l k)) k
+    (rowLink i)

@@ -1,7 +1,7 @@
 // The credentials (document 01: the coupons): their rows, the hints and the links.
-use crate::BEFORE;
 use crate::CREDENTIAL_WIDTH;
 use crate::CREDENTIALS;
+use crate::FORMULA_LINKS;
 use crate::HINTS;
 use crate::LINKS;
 use crate::ROWS;
@@ -10,13 +10,13 @@ use crate::interval;
 use ledger::Credential;
 use request::Kind;
 ghost use mathlib.Core.Path.{_≡_};
-ghost use Prim.Native.Nat.{_<_};
+ghost use Prim.Native.Nat.{_≤_, _<_};
 ghost use Rattle.request.specs.declared.Kind.the-variants.{Linear};
 ghost use Rattle.ledger.specs.Ledger.{isKind};
 ghost use Rattle.ledger.specs.Checks.{maxFormulas};
 ghost use Rattle.store_cells.specs.Layout.{maxRows};
 ghost use Rattle.store_cells.specs.Layout.{kindFrom, kindNumber, credentialAt, gapAt, putCredential, putGap};
-ghost use Rattle.store_cells.specs.Layout.{hintAt, putHint, links, linkAt, putLink, beforeAt};
+ghost use Rattle.store_cells.specs.Layout.{hintAt, putHint, formulaLink, linkAt, putLink};
 
 // how a kind is kept: linear, unrestricted, that of a credential that has left
 const LINEAR: u32 = 0;
@@ -94,14 +94,14 @@ pub fn put_credential(store: &mut Store, i: u32, c: Credential)
 {
     let kind = c.kind;
     let k = kind_number(kind);
-    let last = link(store, c.formula);
+    let last = formula_link(store, c.formula);
     let at = CREDENTIALS + (i as usize) * CREDENTIAL_WIDTH;
     store[at] = c.serial;
     store[at + 1] = k;
     store[at + 2] = c.formula;
     interval::put(store, at + 3, c.interval);
-    store[at + BEFORE] = last;
-    put_link(store, c.formula, i + 1);
+    put_link(store, i + 1, last);
+    put_formula_link(store, c.formula, i + 1);
 }
 
 // The row where the credential of a serial may stand: any number may be answered.
@@ -117,25 +117,32 @@ pub fn put_hint(store: &mut Store, serial: u32, i: u32)
     store[HINTS + (serial % ROWS) as usize] = i;
 }
 
+// The link of the row whose number and one is p.
+pub fn link(store: &Store, p: u32) -> u32
+    requires { ⌜ p ≤ maxRows ⌝ }
+    ensures { λ r. ⌜ r ≡ linkAt (now (store .entry)) p ⌝ }
+{
+    store[LINKS + p as usize]
+}
+
+fn put_link(store: &mut Store, p: u32, v: u32)
+    requires { ⌜ p ≤ maxRows ⌝ }
+    ensures { λ _. ⌜ now (store .exit) ≡ putLink (now (store .entry)) p v ⌝ }
+{
+    store[LINKS + p as usize] = v;
+}
+
 // The link of a formula.
-pub fn link(store: &Store, k: u32) -> u32
-    requires { ⌜ k < links ⌝ }
-    ensures { λ r. ⌜ r ≡ linkAt (now (store .entry)) k ⌝ }
+pub fn formula_link(store: &Store, n: u32) -> u32
+    requires { ⌜ n < maxFormulas ⌝ }
+    ensures { λ r. ⌜ r ≡ linkAt (now (store .entry)) (formulaLink n) ⌝ }
 {
-    store[LINKS + k as usize]
+    store[FORMULA_LINKS + n as usize]
 }
 
-pub fn put_link(store: &mut Store, k: u32, v: u32)
-    requires { ⌜ k < links ⌝ }
-    ensures { λ _. ⌜ now (store .exit) ≡ putLink (now (store .entry)) k v ⌝ }
+pub fn put_formula_link(store: &mut Store, n: u32, v: u32)
+    requires { ⌜ n < maxFormulas ⌝ }
+    ensures { λ _. ⌜ now (store .exit) ≡ putLink (now (store .entry)) (formulaLink n) v ⌝ }
 {
-    store[LINKS + k as usize] = v;
-}
-
-// The link of a credential row.
-pub fn row_link(store: &Store, i: u32) -> u32
-    requires { ⌜ i < maxRows ⌝ }
-    ensures { λ r. ⌜ r ≡ beforeAt (now (store .entry)) i ⌝ }
-{
-    store[CREDENTIALS + (i as usize) * CREDENTIAL_WIDTH + BEFORE]
+    store[FORMULA_LINKS + n as usize] = v;
 }

@@ -41,23 +41,22 @@ pub const SET_LINES: u32 = 32;
 
 const GROUP_WIDTH: usize = SET_WIDTH as usize + 1;
 
-// where the credential rows start, where a row's link stands in it, how wide they are and how many there are: twice as
-// many as may live
+// where the credential rows start, how wide they are and how many there are: twice as many as may live
 const CREDENTIALS: usize = GROUP_SETS + GROUPS as usize * GROUP_WIDTH;
 
-const BEFORE: usize = 7;
-
-const CREDENTIAL_WIDTH: usize = BEFORE + 1;
+const CREDENTIAL_WIDTH: usize = 8;
 
 pub const ROWS: u32 = 2 * ledger::MAX_LIVE;
 
 // where the hints start
 const HINTS: usize = CREDENTIALS + ROWS as usize * CREDENTIAL_WIDTH;
 
-// where the formulas' links start
+// where the links start, and those of the formulas after the rows'
 const LINKS: usize = HINTS + ROWS as usize;
 
+const FORMULA_LINKS: usize = LINKS + 1 + ROWS as usize;
+
 // how many numbers there are
-pub const CELLS: usize = LINKS + ledger::MAX_FORMULAS as usize;
+pub const CELLS: usize = FORMULA_LINKS + ledger::MAX_FORMULAS as usize;
 
 pub type Store = [u32; CELLS];

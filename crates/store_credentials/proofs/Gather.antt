@@ -16,7 +16,7 @@ use Rattle.ledger.specs.Bounds.{Rises, Below}
 use Rattle.store.specs.Tab.{tab, present}
 use Rattle.store_cells.specs.Layout.{maxRows, lineCount, liveCount, nextSerial, rowCount, credentialAt, gapAt, entryAt}
 use Rattle.store_cells.specs.Layout.{putCredential, putRowCount, putHint, cell, credentialPlace, linkAt, putLink}
-use Rattle.store_cells.specs.Layout.{ofAt}
+use Rattle.store_cells.specs.Layout.{ofAt, formulaLink}
 use Rattle.store.specs.Store.{ledgerOf, RowsOrdered, Good, Compacted}
 use Rattle.store.proofs.Tabs.{length-tab, tab-ext, tab-append, every-tab, every-present, present-next, present-all}
 use Rattle.store_credentials.proofs.RowSerials.{rises-between}
@@ -54,20 +54,24 @@ pub record Gathering (l m : List ℕ) (i k : ℕ) : Type 0 where
   pub chained : Chained m k
 
 -- Chains are left, one by one.
-pub unlink-next : (l m : List ℕ) (i : ℕ) → UnlinkedTo l m i → i < maxFormulas → UnlinkedTo l (putLink m i 0) (i + 1)
+pub unlink-next : (l m : List ℕ) (i : ℕ) → UnlinkedTo l m i → i < maxFormulas
+    → UnlinkedTo l (putLink m (formulaLink i) 0) (i + 1)
 unlink-next l m i u h = record {
-  long = link-lines m i 0 m (lines-self m (u .long)) .long;
-  rest = λ k q. link-before m i 0 k q ∙ u .rest k q;
+  long = link-lines m (formulaLink i) 0 m (lines-self m (u .long)) .long;
+  rest = λ k q. link-before m (formulaLink i) 0 k q ∙ u .rest k q;
   none = λ n q. go n q (ℕ-discrete n i);
-  others = λ n q. link-other m i 0 n (omega arith) ∙ u .others n (omega arith);
+  others = λ n q. link-other m (formulaLink i) 0 (formulaLink n) (omega arith) ∙ u .others n (omega arith);
 }
   where
-    go : (n : ℕ) → n < i + 1 → Dec (n ≡ i) → linkAt (putLink m i 0) n ≡ 0
-    go n q (yes e) = ap (linkAt (putLink m i 0)) e ∙ link-same m i 0 (u .long) (omega arith)
-    go n q (no e) = link-other m i 0 n e ∙ u .none n (omega arith)
+    go : (n : ℕ) → n < i + 1 → Dec (n ≡ i) → linkAt (putLink m (formulaLink i) 0) (formulaLink n) ≡ 0
+    go n q (yes e) =
+        ap (λ (x : ℕ). linkAt (putLink m (formulaLink i) 0) (formulaLink x)) e
+        ∙ link-same m (formulaLink i) 0 (u .long) (omega arith)
+    go n q (no e) = link-other m (formulaLink i) 0 (formulaLink n) (omega arith) ∙ u .none n (omega arith)
 
 -- One that leads nowhere is passed.
-pub unlink-pass : (l m : List ℕ) (i : ℕ) → UnlinkedTo l m i → linkAt m i ≡ 0 → UnlinkedTo l m (i + 1)
+pub unlink-pass : (l m : List ℕ) (i : ℕ) → UnlinkedTo l m i → linkAt m (formulaLink i) ≡ 0
+    → UnlinkedTo l m (i + 1)
 unlink-pass l m i u e = record {
   long = u .long;
   rest = u .rest;
@@ -75,8 +79,8 @@ unlink-pass l m i u e = record {
   others = λ n q. u .others n (omega arith);
 }
   where
-    go : (n : ℕ) → n < i + 1 → Dec (n ≡ i) → linkAt m n ≡ 0
-    go n q (yes d) = ap (linkAt m) d ∙ e
+    go : (n : ℕ) → n < i + 1 → Dec (n ≡ i) → linkAt m (formulaLink n) ≡ 0
+    go n q (yes d) = ap (λ (x : ℕ). linkAt m (formulaLink x)) d ∙ e
     go n q (no d) = u .none n (omega arith)
 
 -- A number that no line has yet has no chain.
@@ -88,7 +92,7 @@ unlink-done {l} {m} {i} g e u = record {
   others = λ n q. u .others n (omega (arith, g .lines));
 }
   where
-    go : (n : ℕ) → n < maxFormulas → Dec (n < i) → linkAt m n ≡ 0
+    go : (n : ℕ) → n < maxFormulas → Dec (n < i) → linkAt m (formulaLink n) ≡ 0
     go n q (yes z) = u .none n z
     go n q (no z) =
         u .others n (omega arith) ∙ g .ordered .chained .last n q

@@ -39,8 +39,8 @@ fn unlink(store: &mut Store)
     while n < lines {
         let k = n;
         n += 1;
-        if credentials::link(store, k) != 0 {
-            credentials::put_link(store, k, 0);
+        if credentials::formula_link(store, k) != 0 {
+            credentials::put_formula_link(store, k, 0);
         }
     }
 }

@@ -60,7 +60,7 @@ row-before-requires c κs =
     let t = c .before .before .before in
     let h = t .loop-test .taken in
     let at = t .before in
-    (at .before .before .pre .0, omega (arith, at .loop .inv .1 .few))
+    (at .before .before .pre .0, omega arith, omega (arith, at .loop .inv .1 .few))
 
 loop-less : tie.Need-loop-less Inv-loop μ-loop
 loop-less c =

@@ -6,16 +6,19 @@ use lib.ListN.{replicate}
 use lib.Seq.{getD-set-other}
 use Rattle.logic.proofs.Stores.{replicate-is}
 use Rattle.ledger.specs.Checks.{maxFormulas}
-use Rattle.store_cells.specs.Layout.{cells, linkBase, linkAt, putNext, cell, groupBase, groupWidth, groupAt}
+use Rattle.store_cells.specs.Layout.{cells, linkBase, formulaLink, linkAt, putNext, cell}
+use Rattle.store_cells.specs.Layout.{groupBase, groupWidth, groupAt}
 use borrow.Author.Needs.{needs}
 use Rattle.store.proofs.Live.{empty-stands}
 use Rattle.store.proofs.start.Statement.{statement}
 use Rattle.store.proofs.start.Tie as tie
 
 -- a link of the array
-none : (n : ℕ) → n < maxFormulas → linkAt (putNext (replicate cells 0) 1) n ≡ 0
+none : (n : ℕ) → n < maxFormulas → linkAt (putNext (replicate cells 0) 1) (formulaLink n) ≡ 0
 unfolding linkAt
-none n h = getD-set-other (replicate cells 0) 2 (linkBase + n) 1 0 (omega arith) ∙ replicate-is 0 cells (linkBase + n)
+none n h =
+    getD-set-other (replicate cells 0) 2 (linkBase + formulaLink n) 1 0 (omega arith)
+    ∙ replicate-is 0 cells (linkBase + formulaLink n)
 
 -- and a number of a set
 nothing : (g w : ℕ) → groupAt (putNext (replicate cells 0) 1) g w ≡ 0

@@ -37,13 +37,13 @@ loop-again : tie.Need-loop-again Inv-loop μ-loop
 loop-again c =
     let t = c .before .before .before .before .before in
     let h = t .loop-test .taken in
-    (omega arith, rw (c .put-link .ensures) (unlink-next _ _ _ (t .before .loop .inv .1) (few t)))
+    (omega arith, rw (c .put-formula-link .ensures) (unlink-next _ _ _ (t .before .loop .inv .1) (few t)))
 
 loop-again-2 : tie.Need-loop-again-2 Inv-loop μ-loop
 loop-again-2 c =
     let t = c .before .before .before in
     let h = t .loop-test .taken in
-    (omega arith, unlink-pass _ _ _ (t .before .loop .inv .1) (sym (c .before .link .ensures) ∙ c .if1 .left))
+    (omega arith, unlink-pass _ _ _ (t .before .loop .inv .1) (sym (c .before .formula-link .ensures) ∙ c .if1 .left))
 
 returns : tie.Need-returns Inv-loop μ-loop
 returns c =

@@ -1,4 +1,4 @@
--- `put_credential` meets its contract: four stores and an interval are the row; one store more is its formula's link.
+-- `put_credential` meets its contract: three stores and an interval are the row; two stores more are the links.
 use native.Mathlib.Numerals.{towards-suc}
 use Rattle.store_cells.specs.Layout.{putRow, putInterval, putCredential}
 use borrow.Author.Needs.{needs}
@@ -8,9 +8,16 @@ use Rattle.store_cells.proofs.credentials.put_credential.Tie as tie
 returns : tie.Need-returns
 unfolding putCredential putRow putInterval
 returns c =
-    let put = c .before .before in
-    let link = put .before .before in
-    rw (c .put-link .ensures, put .put .ensures, link .link .ensures, link .before .before .kind-number .ensures)
+    let link = c .before .before in
+    let put = link .before .before in
+    let last = put .before .before in
+    rw (
+      c .put-formula-link .ensures,
+      link .put-link .ensures,
+      put .put .ensures,
+      last .formula-link .ensures,
+      last .before .before .kind-number .ensures,
+    )
     (simp towards-suc)
 
 pub put-credential-spec : {M : Type 1} → statement M
@@ -19,4 +26,4 @@ put-credential-spec =
     (tie.spec (λ c κs. search needs) (λ c κs. search needs) (λ c. search needs) (λ c. search needs) (λ c. search needs)
     (λ c. search needs) (λ c. search needs) (λ c. search needs) (λ c. search needs) (λ c. search needs)
     (λ c. search needs) (λ c. search needs) (λ c. search needs) (λ c κs. search needs) (λ c. search needs)
-    (λ c. search needs) (λ c. search needs) (λ c. search needs) (λ c κs. search needs) returns)
+    (λ c κs. search needs) (λ c. search needs) (λ c κs. search needs) returns)
