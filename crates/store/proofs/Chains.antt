@@ -90,8 +90,8 @@ chain-before l k p c h q =
     ap (linkAt l) e ∙ c .before (p - 1) (omega arith)
 
 -- One row more.
-module _ (l : List ℕ) (k : ℕ) (x : Credential) (long : length l ≡ cells) (h : k < maxRows) (q : x .formula < maxFormulas)
-    (c : Chained l k) where
+module _ (l : List ℕ) (k : ℕ) (x : Credential) (long : length l ≡ cells) (h : k < maxRows)
+    (q : x .formula < maxFormulas) (c : Chained l k) where
   abbrev m : List ℕ
   m = putCredential l k x
 

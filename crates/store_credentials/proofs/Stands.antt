@@ -62,7 +62,8 @@ module _ (l m : List ℕ) (g : Good l) (s : SameLines l m) where
               (g .grouped .near n t (below n h) (rw (same-low l m s n (small n (below n h))) at a)
               (rw (same-high l m s n (small n (below n h))) at c));
           filled = record {
-            numbers = λ f w p e. g .grouped .filled .numbers f w p (rw (same-group l m s f setWidth p (omega arith)) at e);
+            numbers = λ f w p e.
+                g .grouped .filled .numbers f w p (rw (same-group l m s f setWidth p (omega arith)) at e);
             others = λ f w p q e. same-group l m s f w p (omega arith)
                 ∙ g .grouped .filled .others f w p q (rw (same-group l m s f setWidth p (omega arith)) at e);
           };
