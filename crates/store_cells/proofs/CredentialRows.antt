@@ -78,28 +78,29 @@ module _ (m : List ℕ) (i : ℕ) (c : Credential) where
   abbrev numbers : List ℕ
   numbers = credentialCells c
 
-  abbrev row : List ℕ
-  row = putRow m credentialBase credentialWidth i numbers
-
   abbrev linked : List ℕ
-  linked = putLink row (rowLink i) (linkAt m last)
+  linked = putLink m (rowLink i) (linkAt m last)
 
-  row-long : length row ≡ length m
-  row-long = length-putRow m credentialBase credentialWidth i numbers
+  abbrev led : List ℕ
+  led = putLink linked last (rowLink i)
 
   linked-long : length linked ≡ length m
   unfolding putLink
-  linked-long = length-set row (linkBase + rowLink i) (linkAt m last) ∙ row-long
+  linked-long = length-set m (linkBase + rowLink i) (linkAt m last)
+
+  led-long : length led ≡ length m
+  unfolding putLink
+  led-long = length-set linked (linkBase + last) (rowLink i) ∙ linked-long
 
   pub credential-before : (k : ℕ) → k < credentialBase → getD (putCredential m i c) k 0 ≡ getD m k 0
   unfolding putCredential
   credential-before k h =
-      link-before linked last (rowLink i) k (omega arith) ∙ link-before row (rowLink i) (linkAt m last) k (omega arith)
-      ∙ put-below m credentialBase credentialWidth i numbers k h
+      put-below led credentialBase credentialWidth i numbers k h
+      ∙ link-before linked last (rowLink i) k (omega arith) ∙ link-before m (rowLink i) (linkAt m last) k (omega arith)
 
   pub credential-long : length (putCredential m i c) ≡ length m
-  unfolding putCredential putLink
-  credential-long = length-set linked (linkBase + last) (rowLink i) ∙ linked-long
+  unfolding putCredential
+  credential-long = length-putRow led credentialBase credentialWidth i numbers ∙ led-long
 
   pub credential-lines : (l : List ℕ) → SameLines l m → SameLines l (putCredential m i c)
   credential-lines l s = record {
@@ -111,15 +112,19 @@ module _ (m : List ℕ) (i : ℕ) (c : Credential) where
   pub credential-stays : (k : ℕ) → k < maxRows → (k ≡ i → ⊥) → Stays m (putCredential m i c) k
   unfolding putCredential
   credential-stays k p h f q =
-      link-stays linked last (rowLink i) k p f q ∙ link-stays row (rowLink i) (linkAt m last) k p f q
-      ∙ row-other m credentialBase credentialWidth i numbers (omega arith) k f h (omega arith)
+      row-other led credentialBase credentialWidth i numbers (omega arith) k f h (omega arith)
+      ∙ link-stays linked last (rowLink i) k p f q ∙ link-stays m (rowLink i) (linkAt m last) k p f q
+
+  -- a link, which no row reaches
+  row-links : i < maxRows → (k : ℕ) → linkAt (putCredential m i c) k ≡ linkAt led k
+  unfolding putCredential linkAt
+  row-links h k = put-above led credentialBase credentialWidth i numbers (linkBase + k) (omega arith)
 
   module _ (n : length m ≡ cells) (h : i < maxRows) where
     put-cell : (f : ℕ) → f < credentialNumbers → credentialCell (putCredential m i c) i f ≡ getD numbers f 0
     unfolding putCredential
     put-cell f q =
-        link-stays linked last (rowLink i) i h f q ∙ link-stays row (rowLink i) (linkAt m last) i h f q
-        ∙ row-same m credentialBase credentialWidth i numbers f (omega arith) (omega arith)
+        row-same led credentialBase credentialWidth i numbers f (omega (arith, led-long)) (omega arith)
 
     pub credential-same : credentialAt (putCredential m i c) i ≡ c
     unfolding credentialAt
@@ -133,21 +138,17 @@ module _ (m : List ℕ) (i : ℕ) (c : Credential) where
 
     -- its row leads to the one that its formula led to, and the formula to the row
     pub credential-link : linkAt (putCredential m i c) (rowLink i) ≡ linkAt m (formulaLink (c .formula))
-    unfolding putCredential
     credential-link =
-        link-other linked last (rowLink i) (rowLink i) (omega arith)
-        ∙ link-same row (rowLink i) (linkAt m last) (row-long ∙ n) (omega arith)
+        row-links h (rowLink i) ∙ link-other linked last (rowLink i) (rowLink i) (omega arith)
+        ∙ link-same m (rowLink i) (linkAt m last) n (omega arith)
 
     pub credential-last : c .formula < maxFormulas → linkAt (putCredential m i c) (formulaLink (c .formula)) ≡ rowLink i
-    unfolding putCredential
-    credential-last q = link-same linked last (rowLink i) (linked-long ∙ n) (omega arith)
+    credential-last q = row-links h last ∙ link-same linked last (rowLink i) (linked-long ∙ n) (omega arith)
 
   pub credential-links : i < maxRows → (k : ℕ) → (k ≡ rowLink i → ⊥) → (k ≡ formulaLink (c .formula) → ⊥)
       → linkAt (putCredential m i c) k ≡ linkAt m k
-  unfolding putCredential linkAt
   credential-links h k p q =
-      link-other linked last (rowLink i) k q ∙ link-other row (rowLink i) (linkAt m last) k p
-      ∙ put-above m credentialBase credentialWidth i numbers (linkBase + k) (omega arith)
+      row-links h k ∙ link-other linked last (rowLink i) k q ∙ link-other m (rowLink i) (linkAt m last) k p
 
 -- A credential leaves: its serial and the other rows stay.
 module _ (m : List ℕ) (i : ℕ) where

@@ -322,5 +322,5 @@ ofAt l i = credentialAt l i .formula
 unfoldable pub putCredential : List ℕ → ℕ → Credential → List ℕ
 putCredential l i c =
     let k = formulaLink (c .formula) in
-    putLink (putLink (putRow l credentialBase credentialWidth i (credentialCells c)) (rowLink i) (linkAt l k)) k
-    (rowLink i)
+    putRow (putLink (putLink l (rowLink i) (linkAt l k)) k (rowLink i)) credentialBase credentialWidth i
+    (credentialCells c)

@@ -92,16 +92,16 @@ pub fn put_credential(store: &mut Store, i: u32, c: Credential)
     requires { ⌜ (i < maxRows) × (c .formula < maxFormulas) ⌝ }
     ensures { λ _. ⌜ now (store .exit) ≡ putCredential (now (store .entry)) i c ⌝ }
 {
+    let last = formula_link(store, c.formula);
+    put_link(store, i + 1, last);
+    put_formula_link(store, c.formula, i + 1);
     let kind = c.kind;
     let k = kind_number(kind);
-    let last = formula_link(store, c.formula);
     let at = CREDENTIALS + (i as usize) * CREDENTIAL_WIDTH;
     store[at] = c.serial;
     store[at + 1] = k;
     store[at + 2] = c.formula;
     interval::put(store, at + 3, c.interval);
-    put_link(store, i + 1, last);
-    put_formula_link(store, c.formula, i + 1);
 }
 
 // The row where the credential of a serial may stand: any number may be answered.
