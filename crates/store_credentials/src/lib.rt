@@ -67,9 +67,9 @@ fn compact(store: &mut Store)
     head::put_row_count(store, k);
 }
 
-// A row is free, and going through the rows costs what lives: where all are in use, or most of them are gaps, the live
-// credentials move together. At least every second row in use is then a gap made since rows last moved, so that each
-// removal pays for two rows gone through and one moved.
+// A row is free, and going through a formula's rows costs what lives: where all are in use, or most of them are gaps, the
+// live credentials move together. At least every second row in use is then a gap made since rows last moved, so that each
+// removal pays for two rows gone through and one moved; of few live ones two of three are gaps, and it pays for less.
 fn make_room(store: &mut Store)
     requires { ⌜ Good (now store) × (length (ledgerOf (now store) .live) < maxRows) ⌝ }
     ensures { λ _. ⌜ StandsFor (now (store .exit)) (ledgerOf (now (store .entry)))
@@ -77,7 +77,7 @@ fn make_room(store: &mut Store)
 {
     let used = head::row_count(store);
     let live = head::live_count(store);
-    if (used == store_cells::ROWS) | (used > 2 * live + SPARE_ROWS) {
+    if (used == store_cells::ROWS) | (used > 3 * live + SPARE_ROWS) {
         compact(store);
     }
 }
