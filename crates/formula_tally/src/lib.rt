@@ -159,13 +159,13 @@ fn add_up(store: &Store, session: u32, minute: u32) -> Sums
     ensures { λ r. ⌜ Added (ledgerOf (now (store .entry))) session minute r ⌝ }
 {
     let group = session % store_cells::GROUPS;
-    let mut rest = store::filled(store, group);
+    let mut numbers = store::filled(store, group);
     let mut open = 0;
     let mut seats = 0;
     let mut places = 0;
-    while 0 < rest {
-        let w = u32::trailing_zeros(rest);
-        rest = rest & (rest - 1);
+    while 0 < numbers {
+        let w = u32::trailing_zeros(numbers);
+        numbers = numbers & (numbers - 1);
         let bits = store::near(store, group, w);
         let more = add_set(store, store_cells::SET_LINES * w, bits, session, minute);
         open += more.open;

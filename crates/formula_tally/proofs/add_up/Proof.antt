@@ -25,11 +25,11 @@ abbrev filled : List ℕ → ℕ → ℕ
 filled l s = filledAt l (s % groups)
 
 abbrev Inv-loop : tie.InvT-loop
-Inv-loop store session minute group rest₀ open₀ seats₀ places₀ rest «open» seats places =
-    Adding (ledgerOf store) session minute (filled store session) (sets store session) rest «open» seats places
+Inv-loop store session minute group numbers₀ open₀ seats₀ places₀ numbers «open» seats places =
+    Adding (ledgerOf store) session minute (filled store session) (sets store session) numbers «open» seats places
 
 abbrev μ-loop : tie.MeasureT-loop
-μ-loop store session minute group rest₀ open₀ seats₀ places₀ rest «open» seats places = rest
+μ-loop store session minute group numbers₀ open₀ seats₀ places₀ numbers «open» seats places = numbers
 
 loop-holds : tie.Need-loop-holds Inv-loop μ-loop
 loop-holds c =
@@ -41,25 +41,25 @@ loop-holds c =
     (sets l (s .args .session)))
 
 -- the bits left are those of a number that fits
-wide : (c : tie.In-loop Inv-loop μ-loop) → c .before .loop .rest < 2 ^ setLines
+wide : (c : tie.In-loop Inv-loop μ-loop) → c .before .loop .numbers < 2 ^ setLines
 wide c =
     let f = c .before .before in
     let fits : f .filled .result < 2 ^ setLines = search needs in
     omega (arith, f .filled .ensures, c .before .loop .inv .within)
 
 -- the next number is one of the set
-number : (c : tie.In-loop Inv-loop μ-loop) → trailingZeros setLines (c .before .loop .rest) < setWidth
+number : (c : tie.In-loop Inv-loop μ-loop) → trailingZeros setLines (c .before .loop .numbers) < setWidth
 number c =
     let s = c .before .before .before in
     marks (now (s .args .store)) (s .args .session) 0 (s .pre) .numbers _
-    (c .before .loop .inv .there _ (lowest-in setLines (c .before .loop .rest) (c .loop-test .taken) (wide c)))
+    (c .before .loop .inv .there _ (lowest-in setLines (c .before .loop .numbers) (c .loop-test .taken) (wide c)))
 
 add-set-requires : tie.Need-add-set-requires Inv-loop μ-loop
 add-set-requires c κs =
     let t = c .before in
     let s = t .before .before .before in
     let l = now (s .args .store) in
-    let w = trailingZeros setLines (t .before .loop .rest) in (
+    let w = trailingZeros setLines (t .before .loop .numbers) in (
       s .pre,
       subst (Named (length (ledgerOf l .lines)) (setLines * w)) (sym (c .near .ensures))
           (λ j q i. marks l (s .args .session) 0 (s .pre) .within w j (number t) q i),
@@ -70,14 +70,14 @@ gave : (c : tie.After-add-set Inv-loop μ-loop)
     → (let t = c .before .before in
     let s = t .before .before .before in
     let l = now (s .args .store) in
-    let w = trailingZeros setLines (t .before .loop .rest) in
+    let w = trailingZeros setLines (t .before .loop .numbers) in
     SetAdded (ledgerOf l) (s .args .session) (s .args .minute) (setLines * w) (sets l (s .args .session) w)
     (c .add-set .result))
 gave c =
     let t = c .before .before in
     let s = t .before .before .before in
     let l = now (s .args .store) in
-    let w = trailingZeros setLines (t .before .loop .rest) in
+    let w = trailingZeros setLines (t .before .loop .numbers) in
     subst (λ (d : ℕ). SetAdded (ledgerOf l) (s .args .session) (s .args .minute) (setLines * w) d (c .add-set .result))
     (c .before .near .ensures) (c .add-set .ensures)
 
@@ -100,7 +100,7 @@ loop-less : tie.Need-loop-less Inv-loop μ-loop
 loop-less c =
     let t = c .before .before .before .before .before in
     let h = t .loop-test .taken in
-    omega (arith, and-le-r (t .before .loop .rest) (t .before .loop .rest - 1))
+    omega (arith, and-le-r (t .before .loop .numbers) (t .before .loop .numbers - 1))
 
 loop-again : tie.Need-loop-again Inv-loop μ-loop
 loop-again c =
@@ -117,7 +117,7 @@ returns c =
     let s = at .before .before in
     let l = now (s .args .store) in
     let h = c .loop-test .left in
-    let e : at .loop .rest ≡ 0 = omega arith in
+    let e : at .loop .numbers ≡ 0 = omega arith in
     adding-all l (s .args .session) (s .args .minute) (s .pre) (filled l (s .args .session)) (sets l (s .args .session))
     (marks l (s .args .session) 0 (s .pre)) e (at .loop .inv)
 
