@@ -67,9 +67,10 @@ fn compact(store: &mut Store)
     head::put_row_count(store, k);
 }
 
-// A row is free, and going through a formula's rows costs what lives: where all are in use, or most of them are gaps, the
-// live credentials move together. At least every second row in use is then a gap made since rows last moved, so that each
-// removal pays for two rows gone through and one moved; of few live ones two of three are gaps, and it pays for less.
+// A row is free, and going through a formula's rows costs what lives: where all are in use, or most of them are gaps,
+// the live credentials move together. At least every second row in use is then a gap made since rows last moved, so
+// that each removal pays for two rows gone through and one moved; of few live ones two of three are gaps, and it pays
+// for less.
 fn make_room(store: &mut Store)
     requires { ⌜ Good (now store) × (length (ledgerOf (now store) .live) < maxRows) ⌝ }
     ensures { λ _. ⌜ StandsFor (now (store .exit)) (ledgerOf (now (store .entry)))
