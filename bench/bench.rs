@@ -27,7 +27,7 @@ const TURNS: usize = 21;
 const TURN: Duration = Duration::from_millis(10);
 /// The buffer lent to closing: some bytes more than the longest text, which have to stay.
 const BUFFER: usize = MAX_TEXT + 64;
-const NUMBERS: usize = 36172; // TILL_NUMBERS
+const NUMBERS: usize = 45677; // TILL_NUMBERS
 /// How a start, a closing, and an opening before its text, stand in a list.
 const START: &[u8] = b":start\n";
 const CLOSE: &[u8] = b":close\n";

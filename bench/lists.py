@@ -56,6 +56,23 @@ def tallies(most):
     return begin, [f"tally,{n % 50},{n}" for n in range(200)]
 
 
+def panel(most, bookings):
+    """The panel after each booking: 25 sessions with M1's eight wordings each, so many coupons over them, an offer for each
+    session and then seats and tokens in turn; M1's booking in one session after another, and after each a tally of all."""
+    turns = []
+    for n in range(bookings):
+        session, seat = n % 25, 26 + 2 * n
+        turns.append(book(f"540,{8 * session + 5},540,600,0,0", [1 + session, seat, seat + 1], M1_STEPS))
+        turns += [f"tally,{each},540" for each in range(25)]
+    parts = [f"r,{8 * n + 7}" for n in range(25)] + [f"s,{8 * (n // 2 % 25) + 3 + n % 2}" for n in range(most - 25)]
+    return words(session_lines()) + [f"issue,{part},0,{600 + n},0,0" for n, part in enumerate(parts)], turns
+
+
+def bookings_alone(lists):
+    begin, turns = lists
+    return begin, [turn for turn in turns if turn.startswith("book")]
+
+
 def three_live(rounds):
     """M1's booking, a tally and a withdrawal over and over: a seat and a token are issued, tallied and booked with the
     offer, and the place is withdrawn. Three coupons are live at the tally, and each round three come and go."""
@@ -107,16 +124,21 @@ def text(next_serial, lines, coupons):
     return "\n".join([":open", f"till,{1 if len(coupons) <= 512 else 2},{next_serial},{len(lines)},{len(coupons)}", *lines, *coupons])
 
 
-def full(most):
-    """25 sessions with M1's eight wordings, so many coupons over their offers, seats and tokens."""
+def session_lines():
+    """M1's eight wordings for each of 25 sessions."""
     lines = []
     for session in range(25):
         at = 8 * session
         lines += [f"a,1,{session}", f"a,2,{session}", f"a,9,{session}", f"s,1,{at}", f"s,2,{at + 2}", f"s,1,{at + 1}"]
         lines += [f"t,{at + 3},{at + 4}", f"l,{at + 6},{at + 5}"]
+    return lines
+
+
+def full(most):
+    """25 sessions with M1's eight wordings, so many coupons over their offers, seats and tokens."""
     kinds = [("r", 7), ("s", 3), ("s", 4)]
     given = [(n, *kinds[n // 25 % 3]) for n in range(most)]
-    return text(3 * most + 500, lines, [f"{3 * n + 1},{kind},{8 * (n % 25) + part},0,{600 + n},0,0" for n, kind, part in given])
+    return text(3 * most + 500, session_lines(), [f"{3 * n + 1},{kind},{8 * (n % 25) + part},0,{600 + n},0,0" for n, kind, part in given])
 
 
 def longest():
@@ -163,7 +185,11 @@ LISTS = {
     "withdrawals": lambda: withdrawals(512),
     "withdrawals_hall": lambda: withdrawals(2048),
     "tallies": lambda: tallies(512),
+    "tallies_few": lambda: tallies(3),
     "tallies_hall": lambda: tallies(2048),
+    "panel": lambda: panel(512, 200),
+    "panel_few": lambda: panel(27, 1),
+    "panel_hall": lambda: panel(2048, 200),
     "bookings_15_steps": lambda: booked_15(100),
     "bookings_hall": lambda: booked_15(1000),
     "bookings_256_steps": booked_256,
@@ -182,8 +208,8 @@ LISTS = {
     "opening_longest": lambda: ([], [longest(), ":close"] * 20),
 }
 
-# for the whole program: a million sheets
-PROGRAM = {"three_live": lambda: three_live(200000)}
+# for the whole programs: a million sheets for tillrun, the panel's bookings for the kiosk, which tallies by itself
+PROGRAM = {"three_live": lambda: three_live(200000), "panel": lambda: bookings_alone(panel(2048, 1000))}
 
 
 def stream(sheets):

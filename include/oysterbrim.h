@@ -27,8 +27,8 @@ extern "C" {
  * till_edition and till_start below. */
 #define TILL_EDITION 2
 
-/* A till: a block of 36,172 numbers of 32 bits (144,688 bytes), aligned as uint32_t. It holds no pointer. */
-#define TILL_NUMBERS 36172
+/* A till: a block of 45,677 numbers of 32 bits (182,708 bytes), aligned as uint32_t. It holds no pointer. */
+#define TILL_NUMBERS 45677
 
 /* No sheet has more bytes; a longer one is refused with TILL_TOO_LONG. */
 #define TILL_SHEET_BYTES 16384

@@ -35,6 +35,32 @@ TOUR = []  # a house seat in each of forty sessions: serial 1 in session 100, se
 for at in range(MANY):
     TOUR += [b"word,a,1,%d\n" % (FIRST + at), b"word,s,1,%d\n" % (2 * at), b"issue,s,%d,0,9999,0,0\n" % (2 * at + 1)]
 
+# M1 in each of 25 sessions, 200 wordings in all: offer, seat and token of each, then a booking of each.
+HOUSES = range(25)
+
+
+def moved(sheet, session):
+    """M1's sheet for another session: its wordings are the eight from 8 * session on."""
+    f = sheet.split(b",")
+    at = 8 * session
+    if f[0] == b"word" and f[1] == b"a":
+        f[3] = b"%d\n" % session
+    elif f[0] == b"word":
+        f[3] = b"%d\n" % (int(f[3]) + at)
+        f[2] = f[2] if f[1] == b"s" else b"%d" % (int(f[2]) + at)
+    elif f[0] == b"issue":
+        f[2] = b"%d" % (int(f[2]) + at)
+    elif f[0] == b"book":
+        f[2] = b"%d" % (int(f[2]) + at)
+        for serial in (3, 2, 1):
+            f = b",".join(f).replace(b"hold,%d\n" % serial, b"hold,%d\n" % (serial + 3 * session)).split(b",")
+    return b",".join(f)
+
+
+PANEL = [moved(sheet, session) for session in HOUSES for sheet in M1 if sheet.startswith(b"word")]
+PANEL += [moved(sheet, session) for session in HOUSES for sheet in M1 if sheet.startswith(b"issue")]
+PANEL_BOOKINGS = [moved(BOOKING, session) for session in HOUSES]
+
 
 def wrote(name, data):
     with open(name, "wb") as file:

@@ -5,7 +5,7 @@ import re
 import subprocess
 from collections import Counter
 
-from lists import BEFORE, BOOKING, KIOSK, M1, TOUR, WRONG, sheets_of, wrote
+from lists import BEFORE, BOOKING, KIOSK, M1, PANEL, PANEL_BOOKINGS, TOUR, WRONG, sheets_of, wrote
 from shared import ROOT, TILLRUN, check, read
 
 LINE_MOST = 240  # kiosk/line.h
@@ -199,6 +199,25 @@ def scripted(name, data, work):
     tallies = ["ok,{},{},{}".format(*count.figures(*place)) for place in asked]
     check(due[len(played):] == tallies, f"{name}: the tallies, {due[len(played):][:3]} for {tallies[:3]}")
     reopened(name, ended, count, data, work)
+
+
+def followed():
+    """The panel of every session after each booking, with 200 wordings (document 02, ask 9), beside a recount."""
+    sheets, count, minute = PANEL + PANEL_BOOKINGS, Recount(), 540
+    typed = b"".join(sheet + b"\n" for sheet in PANEL) + b":minute %d\n" % minute
+    typed += b"".join(sheet + b"\n:panel\n" for sheet in PANEL_BOOKINGS)
+    due = tillrun(b"".join(sheet + b"\n" for sheet in sheets))
+    status, lines = script(typed)
+    check(answers(lines) == due and all(answer.startswith("ok,") for answer in due), "panel: the answers")
+    shown_panels = [line for line in lines if line.startswith("panel ")]
+    for sheet, answer in zip(sheets, due):
+        count.note(sheet, answer)
+        if sheet.startswith(b"book"):
+            ask = sorted(count.sessions())
+            panel = [panel_line(s, minute, count.figures(s, minute), count.withdrawn[s], count.issued[s]) for s in ask]
+            got, shown_panels = shown_panels[:len(panel)], shown_panels[len(panel):]
+            check(sorted(got) == sorted(panel), f"panel after {answer}: {got[:1]} for {panel[:1]}")
+    check(not shown_panels and status == 0, f"panel: {len(shown_panels)} lines more, status {status}")
 
 
 def changed(name, data):

@@ -1,6 +1,6 @@
 //! The till's formulas by number, with size, plainness, weights and balance, each worked out once.
 
-use super::content::{Atoms, Content, NO_ATOMS};
+use super::content::Content;
 use super::logic::{Formula, FormulaId};
 use super::refusal;
 
@@ -8,7 +8,7 @@ pub const MAX_FORMULAS: usize = 200;
 pub const MAX_SIZE: u32 = 64;
 
 /// A set of formulas: bit n % 64 of word n / 64 stands for formula n.
-type Set = [u64; SET_WORDS];
+pub type Set = [u64; SET_WORDS];
 const SET_WORDS: usize = MAX_FORMULAS.div_ceil(64);
 /// Sessions fall into so many groups, by their remainder.
 const GROUPS: usize = 64;
@@ -82,18 +82,9 @@ impl Formulas {
         self.facts[id as usize].loose
     }
 
-    /// Seats and places of a session, by formula number.
-    pub fn atoms(&self, session: u16) -> [Atoms; MAX_FORMULAS] {
-        let mut atoms = [NO_ATOMS; MAX_FORMULAS];
-        for (word, &bits) in self.groups[group(session)].iter().enumerate() {
-            let mut rest = bits;
-            while rest != 0 {
-                let id = 64 * word + rest.trailing_zeros() as usize;
-                atoms[id] = self.contents[id].atoms(session);
-                rest &= rest - 1;
-            }
-        }
-        atoms
+    /// The formulas in which a session of this one's group stands; all others have nothing of it.
+    pub fn near(&self, session: u16) -> &Set {
+        &self.groups[group(session)]
     }
 
     /// Adds a formula and gives its number, or the refusal: 10, 53, 12, 13, 14 in this order.

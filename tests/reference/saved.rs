@@ -86,7 +86,9 @@ impl Till {
             before = credential.serial;
             // 10, 53, 20, 21
             rules_kept &= self.check_kind(credential.linear, credential.formula).is_ok();
-            self.credentials.put(credential);
+            if rules_kept {
+                self.credentials.put(credential);
+            }
         }
         self.credentials.set_next(next);
         // serials rise, so the last one speaks for all

@@ -100,9 +100,35 @@ impl Till {
         self.credentials.remove(serial).ok_or(refusal::NOT_LIVE)
     }
 
+    /// Open, shut and placed, summed over the formulas that have something of the session.
     fn tally(&self, session: u16, minute: u32) -> Answer {
-        let (open, shut, placed) = self.credentials.tally(minute, &self.formulas.atoms(session));
-        Answer::Counted(open, shut, placed)
+        let mut sums = (0, 0, 0);
+        for (word, &bits) in self.formulas.near(session).iter().enumerate() {
+            let mut rest = bits;
+            while rest != 0 {
+                let formula = 64 * word as FormulaId + rest.trailing_zeros();
+                if self.credentials.has_singles(formula) {
+                    self.add_up(formula, session, minute, &mut sums);
+                }
+                rest &= rest - 1;
+            }
+        }
+        Answer::Counted(sums.0, sums.1, sums.2)
+    }
+
+    /// Adds to open, shut and placed: the number of a formula's live linear credentials with and
+    /// without the minute, times what one such gives. Open are the house's seats where the interval
+    /// has the minute, shut all others.
+    fn add_up(&self, formula: FormulaId, session: u16, minute: u32, sums: &mut (u32, u32, u32)) {
+        let found = self.formulas.content(formula).atoms(session);
+        if found.seats == 0 && found.places == 0 {
+            return;
+        }
+        let (with, without) = self.credentials.singles(formula, minute);
+        let (seats, house) = (u32::from(found.seats), u32::from(found.house));
+        sums.0 += with * house;
+        sums.1 += with * (seats - house) + without * seats;
+        sums.2 += (with + without) * u32::from(found.places);
     }
 
     fn book(&mut self, booking: Booking) -> Result<u32, Stop> {

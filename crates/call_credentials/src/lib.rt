@@ -9,27 +9,8 @@ use store_lookup::Place;
 ghost use Rattle.request.specs.Request.{issue as issueRequest, withdraw as withdrawRequest, tally as tallyRequest};
 ghost use Rattle.store.specs.Store.{Good};
 ghost use Rattle.call_contracts.specs.Called.{Handled};
-ghost use Rattle.call_credentials.specs.Issue.{Issuable};
 
-// Issue of a formula that has passed the checks before 22: 22, 23.
-fn issue_checked(store: &mut Store, kind: Kind, formula: u32, interval: Interval) -> Answer
-    requires { ⌜ Issuable (now store) kind formula interval ⌝ }
-    ensures { λ r. ⌜ Handled (now (store .entry)) (issueRequest kind formula interval) r (now (store .exit)) ⌝ }
-{
-    let room = call_checks::check_room(store, 0);
-    let Verdict::Passed = room else {
-        return Answer::Refused(22, 0);
-    };
-    let unused = call_checks::check_unused(store);
-    let Verdict::Passed = unused else {
-        return Answer::Refused(23, 0);
-    };
-    let serial = store::next_serial(store);
-    store_credentials::give(store, kind, formula, interval);
-    Answer::Accepted(serial)
-}
-
-// Issue: 3, 43, 10, 53, 20 or 21 by the kind, then as above.
+// Issue: 3, 43, 10, 53, 20 or 21 by the kind, 22, 23.
 pub fn issue(store: &mut Store, kind: Kind, formula: u32, interval: Interval) -> Answer
     requires { ⌜ Good (now store) ⌝ }
     ensures { λ r. ⌜ Handled (now (store .entry)) (issueRequest kind formula interval) r (now (store .exit)) ⌝ }
@@ -54,7 +35,17 @@ pub fn issue(store: &mut Store, kind: Kind, formula: u32, interval: Interval) ->
     let Verdict::Passed = issuable else {
         return Answer::Refused(call_checks::unissuable_number(kind), 0);
     };
-    issue_checked(store, kind, formula, interval)
+    let room = call_checks::check_room(store, 0);
+    let Verdict::Passed = room else {
+        return Answer::Refused(22, 0);
+    };
+    let unused = call_checks::check_unused(store);
+    let Verdict::Passed = unused else {
+        return Answer::Refused(23, 0);
+    };
+    let serial = store::next_serial(store);
+    store_credentials::give(store, kind, formula, interval);
+    Answer::Accepted(serial)
 }
 
 // Withdraw: 24. What leaves is not read.

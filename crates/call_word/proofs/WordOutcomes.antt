@@ -21,6 +21,8 @@ use Rattle.ledger.specs.Calls.{withLine, accept}
 use Rattle.ledger.specs.Statements.{from-start, _▸_}
 use Rattle.store.specs.Store.{lineOf, ledgerOf, Good, Canonical, StandsFor, Wordable}
 use Rattle.formula_facts.specs.Facts.{Formable, HoldersOf}
+use Rattle.formula_facts.specs.declared.Span.{Span}
+use Rattle.formula_facts.specs.Gives.{SpanOf}
 use Rattle.formula_facts.proofs.Named.{none-missing}
 use Rattle.call_checks.specs.declared.Verdict.{Verdict}
 use Rattle.call_checks.specs.declared.Verdict.the-variants.{Passed, Failed}
@@ -84,8 +86,9 @@ counted l e h = reworded h (ap (leb maxFormulas) e)
 
 module _ {l : List ℕ} {x : Row} {z : ℕ} (f : Fitting l x z) where
   pub word-added : {p b u w : Bool} → p ≡ plain (form (formula (ledgerOf l)) (lineOf x))
-      → b ≡ balanced (form (formula (ledgerOf l)) (lineOf x)) → HoldersOf l x u w → Wordable l x z p b u w
-  word-added q y h = record {
+      → b ≡ balanced (form (formula (ledgerOf l)) (lineOf x)) → HoldersOf l x u w → {y : Span}
+      → SpanOf (form (formula (ledgerOf l)) (lineOf x)) y → Wordable l x z p b u w (y .low) (y .high) (y .gives)
+  word-added q y h s = record {
     good = f .named .good;
     room = leb-false maxFormulas (length (ledgerOf l .lines)) (f .room);
     canonical = f .named .canonical;
@@ -96,6 +99,8 @@ module _ {l : List ℕ} {x : Row} {z : ℕ} (f : Fitting l x z) where
     unbound-kept = h .unbound;
     quantified-kept = h .quantified;
     small = ltb-false maxSize z (f .small);
+    spanned = s .between;
+    given = s .given;
   }
 
   pub word-done : {l′ : List ℕ} {n : ℕ} → n ≡ length (ledgerOf l .lines)

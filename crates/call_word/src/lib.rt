@@ -7,9 +7,34 @@ use store::Store;
 ghost use Rattle.request.specs.Request.{word as wordRequest};
 ghost use Rattle.store.specs.Store.{lineOf, Canonical, Good};
 ghost use Rattle.call_contracts.specs.Called.{Handled};
-ghost use Rattle.call_word.specs.Wording.{Named};
+ghost use Rattle.call_word.specs.Wording.{Named, Fitting};
 
-// 53, 12, 13, 14 of a line that names what is there; one that passes them is added.
+// A line that has passed all checks is added, with what is known of its formula.
+fn add(store: &mut Store, row: Row, size: u32) -> Answer
+    requires { ⌜ Fitting (now store) row size ⌝ }
+    ensures { λ r. ⌜ Handled (now (store .entry)) (wordRequest (lineOf row)) r (now (store .exit)) ⌝ }
+{
+    let plain = formula_facts::row_plain(store, row);
+    let balanced = formula_weights::row_balanced(store, row);
+    let holders = formula_facts::row_holders(store, row);
+    let span = formula_facts::row_span(store, row);
+    let number = store::formula_count(store);
+    store_formulas::add_row(
+        store,
+        row,
+        size,
+        plain,
+        balanced,
+        holders.unbound,
+        holders.quantified,
+        span.low,
+        span.high,
+        span.gives,
+    );
+    Answer::Accepted(number)
+}
+
+// 53, 12, 13, 14 of a line that names what is there.
 fn word_named(store: &mut Store, row: Row) -> Answer
     requires { ⌜ Named (now store) row ⌝ }
     ensures { λ r. ⌜ Handled (now (store .entry)) (wordRequest (lineOf row)) r (now (store .exit)) ⌝ }
@@ -32,19 +57,7 @@ fn word_named(store: &mut Store, row: Row) -> Answer
     let Verdict::Passed = free else {
         return Answer::Refused(14, 0);
     };
-    let plain = formula_facts::row_plain(store, row);
-    let balanced = formula_weights::row_balanced(store, row);
-    let holders = formula_facts::row_holders(store, row);
-    store_formulas::add_row(
-        store,
-        row,
-        size,
-        plain,
-        balanced,
-        holders.unbound,
-        holders.quantified,
-    );
-    Answer::Accepted(number)
+    add(store, row, size)
 }
 
 // Word: 3, 43, 10, then as above.

@@ -56,7 +56,7 @@ module _ (r : Row) (p q : Parts) (e : numbers p ≡ partsOf r) (g : p ≡ q) whe
   pub parts-are : numbers q ≡ partsOf r
   parts-are = ap numbers (sym g) ∙ e
 
-  parts-names : Canonical r → numbers q ≡ names (lineOf r)
+  pub parts-names : Canonical r → numbers q ≡ names (lineOf r)
   parts-names c = parts-are ∙ ap partsOf (sym c) ∙ parts-row (lineOf r)
 
   pub all-below : (l : List ℕ) (n : ℕ) → n ≡ length (ledgerOf l .lines) → Canonical r

@@ -1,4 +1,7 @@
-pub mod CountLimits
-pub mod Columns
-pub mod Counting
-pub mod Tallies
+pub mod SumLaws
+pub mod Giving
+pub mod Walking
+pub mod ByFormula
+pub mod SetSums
+pub mod Walks
+pub mod Tallied

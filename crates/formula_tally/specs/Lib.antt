@@ -1,2 +1,4 @@
-pub mod Column
+pub mod Gives
 pub mod Tally
+pub mod ByFormula
+pub mod Sets

@@ -7,9 +7,9 @@ use Rattle.snapshot.specs.Snapshot.{text}
 use Rattle.snapshot.specs.Cases.{reopened, playedOn, opening, coupons, bulk}
 use Rattle.snapshot.proofs.Compute.{rewritten}
 use Rattle.hall.specs.Halls.{counting, M10Plays, standingHall, standing, late, seatHall, seats, placeHall}
-use Rattle.hall.specs.Halls.{places, HallSheets, toldAndWritten, OpensAndCloses, supersets, longest}
-use Rattle.hall.specs.Halls.{fewHall, manyHall, mixedHall, namedHall, lastNamed, backCalls, backText, overHall}
-use Rattle.hall.specs.Halls.{HallTexts}
+use Rattle.hall.specs.Halls.{places, seatLines, panelHall, panel, HallSheets, toldAndWritten, OpensAndCloses}
+use Rattle.hall.specs.Halls.{supersets, longest, fewHall, manyHall, mixedHall, namedHall, lastNamed, backCalls}
+use Rattle.hall.specs.Halls.{backText, gapsHall, gapsCalls, gapsText, overHall, HallTexts}
 
 pub m10-plays : M10Plays
 unfolding played Plays times counting
@@ -31,12 +31,17 @@ places-answered : AnsweredFrom (reopened placeHall) places
 unfolding rewritten AnsweredFrom coupons
 places-answered = refl
 
+panel-answered : AnsweredFrom (reopened panelHall) panel
+unfolding rewritten AnsweredFrom coupons seatLines
+panel-answered = refl
+
 pub hall-sheets : HallSheets
 hall-sheets = record {
   standing = standing-answered;
   late = late-answered;
   seats = seats-answered;
   places = places-answered;
+  panel = panel-answered;
 }
 
 longest-text : OpensAndCloses longest 105384
@@ -67,6 +72,10 @@ back-text : text (playedOn (reopened manyHall) backCalls) ≡ backText
 unfolding rewritten coupons
 back-text = refl
 
+gaps-text : text (playedOn (reopened gapsHall) gapsCalls) ≡ gapsText
+unfolding rewritten
+gaps-text = refl
+
 over-text : opening overHall ≡ refused 50
 unfolding rewritten coupons
 over-text = refl
@@ -80,5 +89,6 @@ hall-texts = record {
   named = named-text;
   last = last-text;
   back = back-text;
+  gaps = gaps-text;
   over = over-text;
 }

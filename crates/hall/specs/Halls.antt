@@ -1,6 +1,7 @@
 -- The sessions of a big hall (document 02, ask 8): "A big hall has more seats than 512. Up to 2,048 live coupons are
 -- allowed; 22, opening and M10 go by that." They are long, so they stand apart from what they are sessions of. All but
--- M10 begin at a text that is opened: reading 2,048 coupons is far less to compute than issuing them.
+-- M10 begin at a text that is opened: reading 2,048 coupons is far less to compute than issuing them. So does the
+-- session of the panel (ask 9), which has 200 wordings.
 use mathlib.Core.Path.{_≡_}
 use mathlib.Core.List.{List, [], _∷_, _++_}
 use Prim.Native.Nat.{ℕ, zero, suc}
@@ -9,7 +10,7 @@ use Rattle.request.specs.Text.{bytes}
 use Rattle.request.specs.Write.{digits}
 use Rattle.ledger.specs.Ledger.{empty}
 use Rattle.ledger.specs.Calls.{Reply, Told, ok, told}
-use Rattle.ledger.specs.Sessions.{Session, Plays, each, oks, times, words}
+use Rattle.ledger.specs.Sessions.{Session, Plays, ofLines, each, oks, times, words}
 use Rattle.ledger.specs.Cases.{Turn, _⇒_, _⇛_, accepted, refused, AnsweredFrom}
 use Rattle.snapshot.specs.Snapshot.{text}
 use Rattle.snapshot.specs.Reopen.{reopen}
@@ -79,11 +80,47 @@ placeHall =
 abbrev pub places : List Turn
 places = ("tally,7,9\n" ⇒ ok (0 ∷ 0 ∷ 65536 ∷ [])) ∷ []
 
+-- n lines of wordings, each a seat, sessions from k on
+unfoldable pub seatLines : ℕ → ℕ → List ℕ
+seatLines zero k = []
+seatLines (suc n) k = bytes "a,1," ++ digits k ++ bytes "\n" ++ seatLines n (suc k)
+
+-- Ask 9, "Panel sums by wording": "Let the tally count, for each wording, its live singles with and without the minute,
+-- each count with its own contract, and then add, for each figure of ask 3, count × what one such single gives it." Of
+-- 200 wordings those to 192 are a seat of the session with their number. The last is (place ⊗ ⟨1⟩(seat ⊗ seat)) ⊗ seat,
+-- of sessions 65,535, 64, 255 and 255.
+abbrev pub panelHall : List ℕ
+panelHall =
+    bytes "till,1,10,200,9\n" ++ seatLines 193 0
+    ++ bytes "l,0,0\na,1,255\na,2,65535\nt,64,194\ns,1,196\nt,195,197\nt,198,194\n"
+    ++ bytes "1,r,193,0,9,0,0\n2,s,0,0,9,0,0\n3,s,64,0,9,0,0\n4,s,128,0,9,0,0\n5,s,192,0,9,0,0\n"
+    ++ coupons ",s,199,0,9,0,0\n" 2 6 ++ coupons ",s,199,5,9,0,0\n" 2 8
+
+-- At minute 4 two singles of the last wording have the minute and two have it not; at minute 5 all four have it. It
+-- gives nothing to sessions 128, 191 and 192, which lie between those that it names. Then one with the minute leaves
+-- and one without, and the standing coupon, which counted nothing.
+abbrev pub panel : List Turn
+panel =
+    ("tally,64,4\n" ⇒ ok (2 ∷ 3 ∷ 0 ∷ [])) ∷
+    ("tally,64,5\n" ⇒ ok (4 ∷ 1 ∷ 0 ∷ [])) ∷
+    ("tally,128,4\n" ⇒ ok (0 ∷ 1 ∷ 0 ∷ [])) ∷
+    ("tally,191,4\n" ⇒ ok (0 ∷ 0 ∷ 0 ∷ [])) ∷
+    ("tally,192,4\n" ⇒ ok (0 ∷ 1 ∷ 0 ∷ [])) ∷
+    ("tally,255,4\n" ⇒ ok (2 ∷ 6 ∷ 0 ∷ [])) ∷
+    ("tally,65535,4\n" ⇒ ok (0 ∷ 0 ∷ 4 ∷ [])) ∷
+    ("withdraw,8\n" ⇒ accepted 8) ∷
+    ("withdraw,7\n" ⇒ accepted 7) ∷
+    ("tally,255,4\n" ⇒ ok (1 ∷ 3 ∷ 0 ∷ [])) ∷
+    ("tally,65535,4\n" ⇒ ok (0 ∷ 0 ∷ 2 ∷ [])) ∷
+    ("withdraw,1\n" ⇒ accepted 1) ∷
+    ("tally,0,4\n" ⇒ ok (0 ∷ 1 ∷ 0 ∷ [])) ∷ []
+
 pub record HallSheets : Type 0 where
   pub standing : AnsweredFrom (reopened standingHall) standing
   pub late : AnsweredFrom (reopened (bulk "till,2,2049,1,2048" 2048)) late
   pub seats : AnsweredFrom (reopened seatHall) seats
   pub places : AnsweredFrom (reopened placeHall) places
+  pub panel : AnsweredFrom (reopened panelHall) panel
 
 -- Texts of a hall
 
@@ -131,6 +168,21 @@ backCalls = each ("withdraw,1" ∷ [])
 abbrev pub backText : List ℕ
 backText = bytes "till,1,900,1,512\na,9,7\n" ++ singles 512 2
 
+-- Ask 5: "for each live coupon, serials rising", whichever left and came. The first of four coupons and one in the
+-- middle leave, and two come after them, past serial 65,535.
+abbrev pub gapsHall : List ℕ
+gapsHall =
+    ofLines ("till,1,65535,1,4" ∷ "a,9,7" ∷ "2,s,0,0,9,0,0" ∷ "3,r,0,0,9,0,0" ∷ "5,s,0,0,9,0,0" ∷
+    "65534,s,0,0,9,0,0" ∷ [])
+
+abbrev pub gapsCalls : List (List String)
+gapsCalls = each ("withdraw,5" ∷ "withdraw,2" ∷ "issue,s,0,0,9,0,0" ∷ "issue,r,0,0,9,0,0" ∷ [])
+
+abbrev pub gapsText : List ℕ
+gapsText =
+    ofLines ("till,1,65537,1,4" ∷ "a,9,7" ∷ "3,r,0,0,9,0,0" ∷ "65534,s,0,0,9,0,0" ∷ "65535,s,0,0,9,0,0" ∷
+    "65536,r,0,0,9,0,0" ∷ [])
+
 -- "its counts .. pass" 2,048: 50
 abbrev pub overHall : List ℕ
 overHall = bulk "till,2,2050,1,2049" 2049
@@ -143,4 +195,5 @@ pub record HallTexts : Type 0 where
   pub named : OpensAndCloses namedHall 8131
   pub last : OpensAndCloses lastNamed 13157
   pub back : text (playedOn (reopened manyHall) backCalls) ≡ backText
+  pub gaps : text (playedOn (reopened gapsHall) gapsCalls) ≡ gapsText
   pub over : opening overHall ≡ refused 50

@@ -9,12 +9,12 @@ pub fn m10_plays()
     ensures { λ _. ⌜ M10Plays ⌝ }
 {}
 
-// Sheets in a full hall: what is refused there, credentials past the 512th, tallies past 65,535.
+// Sheets in a full hall: what is refused there, credentials past the 512th, tallies past 65,535, those of a panel.
 pub fn hall_sheets_play()
     ensures { λ _. ⌜ HallSheets ⌝ }
 {}
 
-// Texts of a hall: the longest one, and which edition is written.
+// Texts of a hall: the longest one, which edition is written, and the order of the credentials.
 pub fn hall_texts_play()
     ensures { λ _. ⌜ HallTexts ⌝ }
 {}

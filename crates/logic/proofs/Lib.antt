@@ -1,11 +1,13 @@
 pub mod Tests
 pub mod Intervals
 pub mod Multisets
+pub mod Spans
 pub mod Stores
 pub mod Weights
 pub mod Balance
 pub mod Holders
 pub mod Conservation
 pub mod Houses
+pub mod Packed
 pub mod Subsumption
 pub mod Examples

@@ -1,6 +1,8 @@
 pub mod Choice
 pub mod Interval
 pub mod Formula
+pub mod Span
+pub mod Packed
 pub mod Weight
 pub mod Multiset
 pub mod Derives

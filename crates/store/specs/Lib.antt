@@ -1,2 +1,4 @@
 pub mod Tab
+pub mod Chain
+pub mod Groups
 pub mod Store

@@ -5,18 +5,23 @@ use ledger::Credential;
 use steps::Row;
 use steps::letters;
 use store_cells::credentials;
+use store_cells::groups;
 use store_cells::head;
 use store_cells::lines;
 ghost use mathlib.Core.Path.{_≡_};
-ghost use Prim.Native.Nat.{_<_};
+ghost use Prim.Native.Nat.{_-_, _≤_, _<_};
 ghost use lib.ListN.{length};
 ghost use Rattle.logic.specs.Formula.{size, plain, unbound, quantified};
 ghost use Rattle.logic.specs.Counts.{balanced};
+ghost use Rattle.logic.specs.Packed.{counts};
 ghost use Rattle.request.specs.declared.Kind.the-variants.{Linear};
 ghost use Rattle.request.specs.Request.{Line};
 ghost use Rattle.ledger.specs.Table.{rowOf};
 ghost use Rattle.ledger.specs.Ledger.{empty, formula, isKind};
-ghost use Rattle.store_cells.specs.Layout.{rowCount, rowAt, credentialAt};
+ghost use Rattle.ledger.specs.Checks.{maxFormulas};
+ghost use Rattle.store_cells.specs.Layout.{rowCount, rowAt, credentialAt, ofAt, lowAt, highAt};
+ghost use Rattle.store_cells.specs.Layout.{groups, setWidth, groupAt, filledAt};
+ghost use Rattle.store.specs.Chain.{lastOf};
 ghost use Rattle.store.specs.Store.{ledgerOf, Good, StandsFor};
 
 pub type Store = store_cells::Store;
@@ -122,6 +127,45 @@ pub fn quantified_at(store: &Store, n: u32) -> bool
     lines::quantified(store, n) == 1
 }
 
+// The two numbers kept with a formula of the ledger between which the sessions of its atoms are.
+pub fn low_at(store: &Store, n: u32) -> u32
+    requires { ⌜ Good (now store) × (n < length (ledgerOf (now store) .lines)) ⌝ }
+    ensures { λ r. ⌜ r ≡ lowAt (now (store .entry)) n ⌝ }
+{
+    lines::low(store, n)
+}
+
+pub fn high_at(store: &Store, n: u32) -> u32
+    requires { ⌜ Good (now store) × (n < length (ledgerOf (now store) .lines)) ⌝ }
+    ensures { λ r. ⌜ r ≡ highAt (now (store .entry)) n ⌝ }
+{
+    lines::high(store, n)
+}
+
+// What a formula of the ledger gives of the lower of these sessions, as kept with its row: four counts, a byte each.
+pub fn gives_at(store: &Store, n: u32) -> u32
+    requires { ⌜ Good (now store) × (n < length (ledgerOf (now store) .lines)) ⌝ }
+    ensures { λ r. ⌜ r ≡ counts (lowAt (now (store .entry)) n) (formula (ledgerOf (now (store .entry))) n) ⌝ }
+{
+    lines::gives(store, n)
+}
+
+// A number of the set of lines that have something of a group's sessions: bit j of number w stands for line 32 w + j.
+pub fn near(store: &Store, group: u32, w: u32) -> u32
+    requires { ⌜ (group < groups) × (w < setWidth) ⌝ }
+    ensures { λ r. ⌜ r ≡ groupAt (now (store .entry)) group w ⌝ }
+{
+    groups::set(store, group, w)
+}
+
+// Bit w of this number is set where number w of the group's set is not 0.
+pub fn filled(store: &Store, group: u32) -> u32
+    requires { ⌜ group < groups ⌝ }
+    ensures { λ r. ⌜ r ≡ filledAt (now (store .entry)) group ⌝ }
+{
+    groups::set(store, group, store_cells::SET_WIDTH)
+}
+
 // How many credential rows are in use, gaps too.
 pub fn row_count(store: &Store) -> u32
     ensures { λ r. ⌜ r ≡ rowCount (now (store .entry)) ⌝ }
@@ -135,6 +179,22 @@ pub fn credential_at(store: &Store, i: u32) -> Credential
     ensures { λ r. ⌜ r ≡ credentialAt (now (store .entry)) i ⌝ }
 {
     credentials::credential(store, i)
+}
+
+// The rows of a formula, gaps too, from the last to the first: the last one of a formula, and the one before row p that
+// is of the same formula; each row by its number and one, 0 where there is none.
+pub fn last_row(store: &Store, formula: u32) -> u32
+    requires { ⌜ Good (now store) × (formula < maxFormulas) ⌝ }
+    ensures { λ r. ⌜ r ≡ lastOf (ofAt (now (store .entry))) formula (rowCount (now (store .entry))) ⌝ }
+{
+    credentials::formula_link(store, formula)
+}
+
+pub fn row_before(store: &Store, p: u32) -> u32
+    requires { ⌜ Good (now store) × (0 < p) × (p ≤ rowCount (now store)) ⌝ }
+    ensures { λ r. ⌜ r ≡ lastOf (ofAt (now (store .entry))) (ofAt (now (store .entry)) (p - 1)) (p - 1) ⌝ }
+{
+    credentials::link(store, p)
 }
 
 // Whether the credential of a row is linear (document 01: single-use), by its kind alone.

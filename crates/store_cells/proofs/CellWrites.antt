@@ -17,12 +17,14 @@ use Rattle.ledger.specs.declared.Credential.{Credential}
 use Rattle.ledger.specs.Table.{rowOf}
 use Rattle.ledger.specs.Checks.{maxFormulas}
 use Rattle.store_cells.specs.Layout.{lineBase, sizeCell, plainCell, balancedCell, lineWidth, credentialBase}
-use Rattle.store_cells.specs.Layout.{credentialWidth, gapKind}
+use Rattle.store_cells.specs.Layout.{credentialNumbers, gapKind}
 use Rattle.store_cells.specs.Layout.{unboundCell, quantifiedCell, unboundAt, quantifiedAt}
 use Rattle.store_cells.specs.Layout.{credentialCell, credentialPlace}
 use Rattle.store_cells.specs.Layout.{cells, maxRows, cell, lineCount, liveCount, nextSerial, rowCount, rowFrom}
 use Rattle.store_cells.specs.Layout.{lineCell, rowAt, sizeAt, plainAt, balancedAt, lineCells, putLine, kindFrom}
-use Rattle.store_cells.specs.Layout.{credentialFrom, credentialAt, gapAt, entryAt}
+use Rattle.store_cells.specs.Layout.{credentialFrom, credentialAt, gapAt, entryAt, linkBase, linkAt}
+use Rattle.store_cells.specs.Layout.{lowCell, highCell, givesCell, lowAt, highAt, givesAt}
+use Rattle.store_cells.specs.Layout.{groupBase, groups, groupWidth, groupAt}
 use Rattle.store_cells.proofs.Cells.{length-putRow, row-same, row-other, put-below, put-above}
 
 -- a row is known by its cells
@@ -46,7 +48,8 @@ row-ext g h e j = record {
   };
 }
 
-pub credential-ext : (g h : ℕ → ℕ) → ((f : ℕ) → f < credentialWidth → g f ≡ h f) → credentialFrom g ≡ credentialFrom h
+pub credential-ext : (g h : ℕ → ℕ) → ((f : ℕ) → f < credentialNumbers → g f ≡ h f)
+    → credentialFrom g ≡ credentialFrom h
 credential-ext g h e j = record {
   serial = e 0 (omega arith) j;
   kind = kindFrom (e 1 (omega arith) j);
@@ -119,9 +122,25 @@ module _ (l m : List ℕ) (s : SameLines l m) where
   unfolding quantifiedAt
   same-quantified n h = same-cell n quantifiedCell h (omega arith)
 
+  pub same-low : (n : ℕ) → n < maxFormulas → lowAt m n ≡ lowAt l n
+  unfolding lowAt
+  same-low n h = same-cell n lowCell h (omega arith)
+
+  pub same-high : (n : ℕ) → n < maxFormulas → highAt m n ≡ highAt l n
+  unfolding highAt
+  same-high n h = same-cell n highCell h (omega arith)
+
+  pub same-gives : (n : ℕ) → n < maxFormulas → givesAt m n ≡ givesAt l n
+  unfolding givesAt
+  same-gives n h = same-cell n givesCell h (omega arith)
+
+  pub same-group : (g w : ℕ) → g < groups → w < groupWidth → groupAt m g w ≡ groupAt l g w
+  unfolding groupAt cell
+  same-group g w h q = s .rows (groupBase + g * groupWidth + w) (omega arith) (omega arith)
+
 -- row i of the credentials stands in m as in l
 abbrev pub Stays : List ℕ → List ℕ → ℕ → Type 0
-Stays l m i = (f : ℕ) → f < credentialWidth → credentialCell m i f ≡ credentialCell l i f
+Stays l m i = (f : ℕ) → f < credentialNumbers → credentialCell m i f ≡ credentialCell l i f
 
 module _ (l m : List ℕ) (i : ℕ) (s : Stays l m i) where
   pub stays-credential : credentialAt m i ≡ credentialAt l i
@@ -146,6 +165,17 @@ pub record SameLive (l m : List ℕ) : Type 0 where
   pub next : nextSerial m ≡ nextSerial l
   pub used : rowCount m ≡ rowCount l
   pub rows : (i : ℕ) → i < maxRows → Stays l m i
+  pub links : (k : ℕ) → linkAt m k ≡ linkAt l k
+
+pub live-again : {l m k : List ℕ} → SameLive l m → SameLive m k → SameLive l k
+live-again s t = record {
+  long = t .long;
+  count = t .count ∙ s .count;
+  next = t .next ∙ s .next;
+  used = t .used ∙ s .used;
+  rows = λ i q f p. t .rows i q f p ∙ s .rows i q f p;
+  links = λ k. t .links k ∙ s .links k;
+}
 
 -- One of the numbers before the tables is put.
 module _ (l m : List ℕ) (h v : ℕ) where
@@ -170,6 +200,14 @@ pub head-line : (m : List ℕ) (h v i f : ℕ) → h < lineBase → lineCell (se
 unfolding lineCell cell
 head-line m h v i f q = getD-set-other m h (lineBase + i * lineWidth + f) v 0 (omega arith)
 
+pub head-group : (m : List ℕ) (h v g w : ℕ) → h < lineBase → groupAt (set m h v) g w ≡ groupAt m g w
+unfolding groupAt cell
+head-group m h v g w q = getD-set-other m h (groupBase + g * groupWidth + w) v 0 (omega arith)
+
+pub head-links : (m : List ℕ) (h v k : ℕ) → h < lineBase → linkAt (set m h v) k ≡ linkAt m k
+unfolding linkAt
+head-links m h v k q = getD-set-other m h (linkBase + k) v 0 (omega arith)
+
 pub count-live : (l m : List ℕ) (v : ℕ) → SameLive l m → SameLive l (set m 0 v)
 count-live l m v s = record {
   long = length-set m 0 v ∙ s .long;
@@ -177,29 +215,57 @@ count-live l m v s = record {
   next = head-other m 0 v 2 (omega arith) ∙ s .next;
   used = head-other m 0 v 3 (omega arith) ∙ s .used;
   rows = λ i q f p. head-stays m 0 v i (omega arith) f p ∙ s .rows i q f p;
+  links = λ k. head-links m 0 v k (omega arith) ∙ s .links k;
 }
 
 -- A formula row is put.
-module _ (m : List ℕ) (i : ℕ) (r : Row) (s : ℕ) (p b u q : Bool) where
+module _ (m : List ℕ) (i : ℕ) (r : Row) (s : ℕ) (p b u q : Bool) (low high gives : ℕ) where
   pub line-same : length m ≡ cells → i < maxFormulas → (f : ℕ) → f < lineWidth
-      → lineCell (putLine m i r s p b u q) i f ≡ getD (lineCells r s p b u q) f 0
+      → lineCell (putLine m i r s p b u q low high gives) i f ≡ getD (lineCells r s p b u q low high gives) f 0
   unfolding lineCell putLine
-  line-same n h f x = row-same m lineBase lineWidth i (lineCells r s p b u q) f (omega arith) (omega arith)
+  line-same n h f x =
+      row-same m lineBase lineWidth i (lineCells r s p b u q low high gives) f (omega arith) (omega arith)
 
-  pub line-other : (k f : ℕ) → (k ≡ i → ⊥) → f < lineWidth → lineCell (putLine m i r s p b u q) k f ≡ lineCell m k f
+  pub line-other : (k f : ℕ) → (k ≡ i → ⊥) → f < lineWidth
+      → lineCell (putLine m i r s p b u q low high gives) k f ≡ lineCell m k f
   unfolding lineCell putLine
-  line-other k f h x = row-other m lineBase lineWidth i (lineCells r s p b u q) refl k f h x
+  line-other k f h x = row-other m lineBase lineWidth i (lineCells r s p b u q low high gives) (omega arith) k f h x
 
-  line-before : (k : ℕ) → k < lineBase → getD (putLine m i r s p b u q) k 0 ≡ getD m k 0
+  pub line-group : i < maxFormulas → (g w : ℕ) → groupAt (putLine m i r s p b u q low high gives) g w ≡ groupAt m g w
+  unfolding groupAt cell putLine
+  line-group h g w =
+      put-above m lineBase lineWidth i (lineCells r s p b u q low high gives) (groupBase + g * groupWidth + w)
+      (omega arith)
+
+  line-before : (k : ℕ) → k < lineBase → getD (putLine m i r s p b u q low high gives) k 0 ≡ getD m k 0
   unfolding putLine
-  line-before k h = put-below m lineBase lineWidth i (lineCells r s p b u q) k h
+  line-before k h = put-below m lineBase lineWidth i (lineCells r s p b u q low high gives) k h
 
-  pub line-live : length m ≡ cells → i < maxFormulas → SameLive m (putLine m i r s p b u q)
-  unfolding putLine cell
+  pub line-live : length m ≡ cells → i < maxFormulas → SameLive m (putLine m i r s p b u q low high gives)
+  unfolding putLine cell linkAt
   line-live n h = record {
-    long = length-putRow m lineBase lineWidth i (lineCells r s p b u q) ∙ n;
+    long = length-putRow m lineBase lineWidth i (lineCells r s p b u q low high gives) ∙ n;
     count = line-before 1 (omega arith);
     next = line-before 2 (omega arith);
     used = line-before 3 (omega arith);
-    rows = λ k x f y. put-above m lineBase lineWidth i (lineCells r s p b u q) (credentialPlace k f) (omega arith);
+    rows = λ k x f y.
+        put-above m lineBase lineWidth i (lineCells r s p b u q low high gives) (credentialPlace k f) (omega arith);
+    links = λ k. put-above m lineBase lineWidth i (lineCells r s p b u q low high gives) (linkBase + k) (omega arith);
+  }
+
+-- All stays but the sets of lines.
+module _ (l m : List ℕ) (n : length m ≡ cells) (below : (k : ℕ) → k < groupBase → getD m k 0 ≡ getD l k 0) where
+  pub below-line : (i f : ℕ) → i < maxFormulas → f < lineWidth → lineCell m i f ≡ lineCell l i f
+  unfolding lineCell cell
+  below-line i f h q = below (lineBase + i * lineWidth + f) (omega arith)
+
+  pub outside-live : ((k : ℕ) → credentialBase ≤ k → getD m k 0 ≡ getD l k 0) → SameLive l m
+  unfolding cell linkAt
+  outside-live above = record {
+    long = n;
+    count = below 1 (omega arith);
+    next = below 2 (omega arith);
+    used = below 3 (omega arith);
+    rows = λ i q f p. above (credentialPlace i f) (omega arith);
+    links = λ k. above (linkBase + k) (omega arith);
   }

@@ -1,3 +1,4 @@
 pub mod Cells
 pub mod CellWrites
 pub mod CredentialRows
+pub mod GroupSets

@@ -6,29 +6,42 @@
 --   1                  the count of live credentials
 --   2                  the next serial
 --   3                  the count of credential rows in use
---   lineBase ..        200 rows of 17: a formula line's (document 01: a wording's) letter, a, b, holder, its first
+--   lineBase ..        200 rows of 20: a formula line's (document 01: a wording's) letter, a, b, holder, its first
 --                      interval and its second, each from, to, first, last; then its formula's size, whether it is
 --                      plain, balanced, has an unbound holder and has a `q` (1 or 0), kept so that no later request
---                      goes through the formula's parts again
---   credentialBase ..  4,096 rows of 7: a credential's (a coupon's) serial, kind (0 linear: single-use, 1
+--                      goes through the formula's parts again; two numbers between which all sessions of its atoms are,
+--                      so that a tally passes it by; and what the formula gives of the lower of these sessions, in one
+--                      number
+--   groupBase ..       64 rows of 8: for each group of sessions a set of lines, in seven numbers, 32 lines to a number,
+--                      bit j of number w for line 32 w + j; then a number whose bit w is set where number w is not 0.
+--                      Session s is of group s mod 64, and every line between whose two numbers a session is stands in
+--                      the set of that session's group: a tally looks at one set alone
+--   credentialBase ..  4,096 rows of 8: a credential's (a coupon's) serial, kind (0 linear: single-use, 1
 --                      unrestricted: standing, 2 for one that has left: a gap), formula number (wording), and its
---                      interval (window), from, to, first, last. Rows stand in the order of their serials, and a row
---                      that leaves is only marked, so that no other one moves; there are twice as many rows as may
---                      live, and when all are in use the live ones are moved together
+--                      interval (window), from, to, first, last; the eighth number is not used, and nothing is asked of
+--                      it: a row is as wide as a power of 2, so that its place is a shift. Rows stand in the order of
+--                      their serials, and a row that leaves is only marked, so that no other one moves; there are twice
+--                      as many rows as may live, and when all are in use the live ones are moved together
 --   hintBase ..        4,096 hints: at serial mod 4,096 the row where the credential of that serial may stand. A hint
 --                      is only a guess that the search tests first: nothing is asked of its value
+--   linkBase ..        4,297 links, by which the rows of one formula are chained, gaps too: number 0 is not used; then
+--                      one for each row, number i + 1 for row i; then one for each formula. A formula's link leads to
+--                      its last row, a row's link to the row before it of the same formula; a link is the row's number
+--                      and one, or 0 where there is none. So a link is itself the number of the link that comes next
 use mathlib.Core.List.{List, [], _∷_}
 use mathlib.Core.Bool.{Bool}
 use mathlib.Core.Option.{Option, none, some}
-use Prim.Native.Nat.{ℕ, _+_, _*_, _%_}
+use Prim.Native.Nat.{ℕ, _+_, _*_, _/_, _%_}
 use lib.Dec.{eqb, ltb}
 use lib.ListN.{getD, set}
 use lib.Seq.{sets}
+use Rattle.logic.specs.declared.Interval.{Interval}
 use Rattle.logic.specs.Interval.{span}
 use Rattle.logic.specs.Formula.{bit}
 use Rattle.request.specs.declared.Kind.{Kind}
 use Rattle.request.specs.declared.Kind.the-variants.{Linear, Unrestricted}
 use Rattle.request.specs.Request.{Line}
+use Rattle.labels.specs.Labels.{insert}
 use Rattle.steps.specs.declared.Row.{Row}
 use Rattle.ledger.specs.declared.Credential.{Credential}
 use Rattle.ledger.specs.Table.{rowOf}
@@ -56,14 +69,45 @@ unboundCell = balancedCell + 1
 abbrev pub quantifiedCell : ℕ
 quantifiedCell = unboundCell + 1
 
+abbrev pub lowCell : ℕ
+lowCell = quantifiedCell + 1
+
+abbrev pub highCell : ℕ
+highCell = lowCell + 1
+
+abbrev pub givesCell : ℕ
+givesCell = highCell + 1
+
 abbrev pub lineWidth : ℕ
-lineWidth = quantifiedCell + 1
+lineWidth = givesCell + 1
+
+abbrev pub groupBase : ℕ
+groupBase = lineBase + maxFormulas * lineWidth
+
+-- how many groups of sessions there are
+abbrev pub groups : ℕ
+groups = 64
+
+-- how many lines a number of a set has room for, and how many numbers a set has
+abbrev pub setLines : ℕ
+setLines = 32
+
+abbrev pub setWidth : ℕ
+setWidth = 7
+
+-- how wide a group's row is: after its set stands which of the set's numbers are not 0
+abbrev pub groupWidth : ℕ
+groupWidth = setWidth + 1
 
 abbrev pub credentialBase : ℕ
-credentialBase = lineBase + maxFormulas * lineWidth
+credentialBase = groupBase + groups * groupWidth
+
+-- how many numbers of a row are the credential's, and how wide the row is
+abbrev pub credentialNumbers : ℕ
+credentialNumbers = 7
 
 abbrev pub credentialWidth : ℕ
-credentialWidth = 7
+credentialWidth = credentialNumbers + 1
 
 -- how many credential rows there are: twice as many as may live
 abbrev pub maxRows : ℕ
@@ -72,9 +116,23 @@ maxRows = 2 * maxLive
 abbrev pub hintBase : ℕ
 hintBase = credentialBase + maxRows * credentialWidth
 
+abbrev pub linkBase : ℕ
+linkBase = hintBase + maxRows
+
+-- the number of the link of row i, and of formula n
+abbrev pub rowLink : ℕ → ℕ
+rowLink i = i + 1
+
+abbrev pub formulaLink : ℕ → ℕ
+formulaLink n = rowLink maxRows + n
+
+-- how many links there are
+abbrev pub links : ℕ
+links = formulaLink maxFormulas
+
 -- how many numbers there are
 abbrev pub cells : ℕ
-cells = hintBase + maxRows
+cells = linkBase + links
 
 -- the kind of a credential that has left
 abbrev pub gapKind : ℕ
@@ -86,6 +144,16 @@ cell l b w i f = getD l (b + i * w + f) 0
 
 unfoldable pub putRow : List ℕ → ℕ → ℕ → ℕ → List ℕ → List ℕ
 putRow l b w i vs = sets l (b + i * w) vs
+
+-- The four numbers of an interval, from a place on
+unfoldable pub intervalAt : List ℕ → ℕ → Interval
+intervalAt l b = span (getD l b 0) (getD l (b + 1) 0) (getD l (b + 2) 0) (getD l (b + 3) 0)
+
+abbrev pub intervalCells : Interval → List ℕ
+intervalCells v = v .from ∷ v .to ∷ v .first ∷ v .last ∷ []
+
+unfoldable pub putInterval : List ℕ → ℕ → Interval → List ℕ
+putInterval l b v = sets l b (intervalCells v)
 
 -- The counts and the next serial
 
@@ -148,16 +216,42 @@ unboundAt l n = lineCell l n unboundCell
 unfoldable pub quantifiedAt : List ℕ → ℕ → ℕ
 quantifiedAt l n = lineCell l n quantifiedCell
 
-abbrev pub lineCells : Row → ℕ → Bool → Bool → Bool → Bool → List ℕ
-lineCells r size plain balanced unbound quantified =
+unfoldable pub lowAt : List ℕ → ℕ → ℕ
+lowAt l n = lineCell l n lowCell
+
+unfoldable pub highAt : List ℕ → ℕ → ℕ
+highAt l n = lineCell l n highCell
+
+unfoldable pub givesAt : List ℕ → ℕ → ℕ
+givesAt l n = lineCell l n givesCell
+
+abbrev pub lineCells : Row → ℕ → Bool → Bool → Bool → Bool → ℕ → ℕ → ℕ → List ℕ
+lineCells r size plain balanced unbound quantified low high gives =
     let v = r .first in
     let w = r .second in
     r .letter ∷ r .a ∷ r .b ∷ r .holder ∷ v .from ∷ v .to ∷ v .first ∷ v .last ∷ w .from ∷ w .to ∷ w .first ∷ w .last ∷
-    size ∷ bit plain ∷ bit balanced ∷ bit unbound ∷ bit quantified ∷ []
+    size ∷ bit plain ∷ bit balanced ∷ bit unbound ∷ bit quantified ∷ low ∷ high ∷ gives ∷ []
 
-unfoldable pub putLine : List ℕ → ℕ → Row → ℕ → Bool → Bool → Bool → Bool → List ℕ
-putLine l i r size plain balanced unbound quantified =
-    putRow l lineBase lineWidth i (lineCells r size plain balanced unbound quantified)
+unfoldable pub putLine : List ℕ → ℕ → Row → ℕ → Bool → Bool → Bool → Bool → ℕ → ℕ → ℕ → List ℕ
+putLine l i r size plain balanced unbound quantified low high gives =
+    putRow l lineBase lineWidth i (lineCells r size plain balanced unbound quantified low high gives)
+
+-- Groups of sessions
+
+unfoldable pub groupAt : List ℕ → ℕ → ℕ → ℕ
+groupAt l g w = cell l groupBase groupWidth g w
+
+abbrev pub filledAt : List ℕ → ℕ → ℕ
+filledAt l g = groupAt l g setWidth
+
+abbrev pub groupPlace : ℕ → ℕ → ℕ
+groupPlace g w = groupBase + g * groupWidth + w
+
+-- line n joins the set of group g
+unfoldable pub putMark : List ℕ → ℕ → ℕ → List ℕ
+putMark l g n =
+    set (set l (groupPlace g (n / setLines)) (insert (groupAt l g (n / setLines)) (n % setLines)))
+    (groupPlace g setWidth) (insert (filledAt l g) (n / setLines))
 
 -- Credential rows
 
@@ -199,9 +293,6 @@ credentialCells c =
     let i = c .interval in
     c .serial ∷ kindNumber (c .kind) ∷ c .formula ∷ i .from ∷ i .to ∷ i .first ∷ i .last ∷ []
 
-unfoldable pub putCredential : List ℕ → ℕ → Credential → List ℕ
-putCredential l i c = putRow l credentialBase credentialWidth i (credentialCells c)
-
 -- the credential of row i leaves
 unfoldable pub putGap : List ℕ → ℕ → List ℕ
 putGap l i = set l (credentialPlace i 1) gapKind
@@ -214,3 +305,22 @@ hintAt l s = getD l (hintBase + s % maxRows) 0
 
 unfoldable pub putHint : List ℕ → ℕ → ℕ → List ℕ
 putHint l s i = set l (hintBase + s % maxRows) i
+
+-- Links
+
+unfoldable pub linkAt : List ℕ → ℕ → ℕ
+linkAt l k = getD l (linkBase + k) 0
+
+unfoldable pub putLink : List ℕ → ℕ → ℕ → List ℕ
+putLink l k v = set l (linkBase + k) v
+
+-- the formula of row i
+abbrev pub ofAt : List ℕ → ℕ → ℕ
+ofAt l i = credentialAt l i .formula
+
+-- a credential is put in row i, and the row before the chain of its formula
+unfoldable pub putCredential : List ℕ → ℕ → Credential → List ℕ
+putCredential l i c =
+    let k = formulaLink (c .formula) in
+    putRow (putLink (putLink l (rowLink i) (linkAt l k)) k (rowLink i)) credentialBase credentialWidth i
+    (credentialCells c)

@@ -1,19 +1,22 @@
-// The credentials (document 01: the coupons): their rows and the hints.
+// The credentials (document 01: the coupons): their rows, the hints and the links.
 use crate::CREDENTIAL_WIDTH;
 use crate::CREDENTIALS;
+use crate::FORMULA_LINKS;
 use crate::HINTS;
+use crate::LINKS;
 use crate::ROWS;
 use crate::Store;
+use crate::interval;
 use ledger::Credential;
-use logic::Interval;
 use request::Kind;
 ghost use mathlib.Core.Path.{_≡_};
-ghost use Prim.Native.Nat.{_<_};
+ghost use Prim.Native.Nat.{_≤_, _<_};
 ghost use Rattle.request.specs.declared.Kind.the-variants.{Linear};
 ghost use Rattle.ledger.specs.Ledger.{isKind};
+ghost use Rattle.ledger.specs.Checks.{maxFormulas};
 ghost use Rattle.store_cells.specs.Layout.{maxRows};
 ghost use Rattle.store_cells.specs.Layout.{kindFrom, kindNumber, credentialAt, gapAt, putCredential, putGap};
-ghost use Rattle.store_cells.specs.Layout.{hintAt, putHint};
+ghost use Rattle.store_cells.specs.Layout.{hintAt, putHint, formulaLink, linkAt, putLink};
 
 // how a kind is kept: linear, unrestricted, that of a credential that has left
 const LINEAR: u32 = 0;
@@ -58,12 +61,7 @@ pub fn credential(store: &Store, i: u32) -> Credential
         serial: store[at],
         kind,
         formula: store[at + 2],
-        interval: Interval {
-            from: store[at + 3],
-            to: store[at + 4],
-            first: store[at + 5],
-            last: store[at + 6],
-        },
+        interval: interval::read(store, at + 3),
     }
 }
 
@@ -89,21 +87,21 @@ pub fn put_gap(store: &mut Store, i: u32)
     store[CREDENTIALS + (i as usize) * CREDENTIAL_WIDTH + 1] = GAP;
 }
 
+// A credential is put in a row, and the row before the chain of its formula.
 pub fn put_credential(store: &mut Store, i: u32, c: Credential)
-    requires { ⌜ i < maxRows ⌝ }
+    requires { ⌜ (i < maxRows) × (c .formula < maxFormulas) ⌝ }
     ensures { λ _. ⌜ now (store .exit) ≡ putCredential (now (store .entry)) i c ⌝ }
 {
+    let last = formula_link(store, c.formula);
+    put_link(store, i + 1, last);
+    put_formula_link(store, c.formula, i + 1);
     let kind = c.kind;
     let k = kind_number(kind);
-    let w = c.interval;
     let at = CREDENTIALS + (i as usize) * CREDENTIAL_WIDTH;
     store[at] = c.serial;
     store[at + 1] = k;
     store[at + 2] = c.formula;
-    store[at + 3] = w.from;
-    store[at + 4] = w.to;
-    store[at + 5] = w.first;
-    store[at + 6] = w.last;
+    interval::put(store, at + 3, c.interval);
 }
 
 // The row where the credential of a serial may stand: any number may be answered.
@@ -117,4 +115,34 @@ pub fn put_hint(store: &mut Store, serial: u32, i: u32)
     ensures { λ _. ⌜ now (store .exit) ≡ putHint (now (store .entry)) serial i ⌝ }
 {
     store[HINTS + (serial % ROWS) as usize] = i;
+}
+
+// The link of the row whose number and one is p.
+pub fn link(store: &Store, p: u32) -> u32
+    requires { ⌜ p ≤ maxRows ⌝ }
+    ensures { λ r. ⌜ r ≡ linkAt (now (store .entry)) p ⌝ }
+{
+    store[LINKS + p as usize]
+}
+
+fn put_link(store: &mut Store, p: u32, v: u32)
+    requires { ⌜ p ≤ maxRows ⌝ }
+    ensures { λ _. ⌜ now (store .exit) ≡ putLink (now (store .entry)) p v ⌝ }
+{
+    store[LINKS + p as usize] = v;
+}
+
+// The link of a formula.
+pub fn formula_link(store: &Store, n: u32) -> u32
+    requires { ⌜ n < maxFormulas ⌝ }
+    ensures { λ r. ⌜ r ≡ linkAt (now (store .entry)) (formulaLink n) ⌝ }
+{
+    store[FORMULA_LINKS + n as usize]
+}
+
+pub fn put_formula_link(store: &mut Store, n: u32, v: u32)
+    requires { ⌜ n < maxFormulas ⌝ }
+    ensures { λ _. ⌜ now (store .exit) ≡ putLink (now (store .entry)) (formulaLink n) v ⌝ }
+{
+    store[FORMULA_LINKS + n as usize] = v;
 }

@@ -5,7 +5,7 @@ use mathlib.Core.List.{List, [], _∷_, _++_, append-nil}
 use mathlib.Core.Option.{none, some}
 use mathlib.Core.Bool.{Bool, true, false}
 use native.Mathlib.Omega.{arith}
-use native.Mathlib.Decide.{decLt}
+use native.Mathlib.Decide.{decLt, ℕ-discrete}
 use lib.ListN.{length}
 use Rattle.logic.specs.Choice.{pick}
 use Rattle.logic.specs.Multiset.{Every}
@@ -15,16 +15,21 @@ use Rattle.ledger.proofs.Answers.{some-none, some-inj}
 use Rattle.ledger.specs.Bounds.{Rises, Below}
 use Rattle.store.specs.Tab.{tab, present}
 use Rattle.store_cells.specs.Layout.{maxRows, lineCount, liveCount, nextSerial, rowCount, credentialAt, gapAt, entryAt}
-use Rattle.store_cells.specs.Layout.{putCredential, putRowCount, putHint}
+use Rattle.store_cells.specs.Layout.{putCredential, putRowCount, putHint, cell, credentialPlace, linkAt, putLink}
+use Rattle.store_cells.specs.Layout.{ofAt, formulaLink}
 use Rattle.store.specs.Store.{ledgerOf, RowsOrdered, Good, Compacted}
 use Rattle.store.proofs.Tabs.{length-tab, tab-ext, tab-append, every-tab, every-present, present-next, present-all}
 use Rattle.store_credentials.proofs.RowSerials.{rises-between}
-use Rattle.store_cells.proofs.CellWrites.{SameLines, lines-self, Stays, stays-credential, stays-gap, head-lines}
-use Rattle.store_cells.proofs.CellWrites.{head-same}
-use Rattle.store_cells.proofs.CellWrites.{head-other, head-stays}
+use Rattle.store_cells.proofs.CellWrites.{SameLines, lines-self, Stays, stays-credential, stays-gap, stays-entry}
+use Rattle.store_cells.proofs.CellWrites.{head-lines, head-same, head-other, head-stays, head-links}
 use Rattle.store_cells.proofs.CredentialRows.{entry-gap, entry-there, credential-same, credential-there}
 use Rattle.store_cells.proofs.CredentialRows.{credential-stays}
 use Rattle.store_cells.proofs.CredentialRows.{credential-before, credential-lines, hint-before, hint-lines, hint-stays}
+use Rattle.store_cells.proofs.CredentialRows.{hint-links, link-same, link-other, link-before, link-lines}
+use Rattle.ledger.specs.Checks.{maxFormulas}
+use Rattle.store.specs.Chain.{Chained}
+use Rattle.store.proofs.Chains.{last-none, chain-none, chain-stays, chain-put}
+use Rattle.store_credentials.specs.Unlinked.{UnlinkedTo, Unlinked}
 use Rattle.store_credentials.proofs.Stands.{stands-live, ledger-live}
 
 -- Every live credential is of a formula of the ledger.
@@ -46,20 +51,90 @@ pub record Gathering (l m : List ℕ) (i k : ℕ) : Type 0 where
   pub moved : tab k (credentialAt m) ≡ present (tab i (entryAt l))
   pub full : (j : ℕ) → j < k → gapAt m j ≡ false
   pub rest : (j : ℕ) → i ≤ j → j < maxRows → Stays l m j
+  pub chained : Chained m k
 
-module _ (l : List ℕ) where
-  pub gather-start : Good l → Gathering l l 0 0
+-- Chains are left, one by one.
+pub unlink-next : (l m : List ℕ) (i : ℕ) → UnlinkedTo l m i → i < maxFormulas
+    → UnlinkedTo l (putLink m (formulaLink i) 0) (i + 1)
+unlink-next l m i u h = record {
+  long = link-lines m (formulaLink i) 0 m (lines-self m (u .long)) .long;
+  rest = λ k q. link-before m (formulaLink i) 0 k q ∙ u .rest k q;
+  none = λ n q. go n q (ℕ-discrete n i);
+  others = λ n q. link-other m (formulaLink i) 0 (formulaLink n) (omega arith) ∙ u .others n (omega arith);
+}
+  where
+    go : (n : ℕ) → n < i + 1 → Dec (n ≡ i) → linkAt (putLink m (formulaLink i) 0) (formulaLink n) ≡ 0
+    go n q (yes e) =
+        ap (λ (x : ℕ). linkAt (putLink m (formulaLink i) 0) (formulaLink x)) e
+        ∙ link-same m (formulaLink i) 0 (u .long) (omega arith)
+    go n q (no e) = link-other m (formulaLink i) 0 (formulaLink n) (omega arith) ∙ u .none n (omega arith)
+
+-- One that leads nowhere is passed.
+pub unlink-pass : (l m : List ℕ) (i : ℕ) → UnlinkedTo l m i → linkAt m (formulaLink i) ≡ 0
+    → UnlinkedTo l m (i + 1)
+unlink-pass l m i u e = record {
+  long = u .long;
+  rest = u .rest;
+  none = λ n q. go n q (ℕ-discrete n i);
+  others = λ n q. u .others n (omega arith);
+}
+  where
+    go : (n : ℕ) → n < i + 1 → Dec (n ≡ i) → linkAt m (formulaLink n) ≡ 0
+    go n q (yes d) = ap (λ (x : ℕ). linkAt m (formulaLink x)) d ∙ e
+    go n q (no d) = u .none n (omega arith)
+
+-- A number that no line has yet has no chain.
+pub unlink-done : {l m : List ℕ} {i : ℕ} → Good l → i ≡ lineCount l → UnlinkedTo l m i → Unlinked l m
+unlink-done {l} {m} {i} g e u = record {
+  long = u .long;
+  rest = u .rest;
+  none = λ n q. go n q (decLt n i);
+  others = λ n q. u .others n (omega (arith, g .lines));
+}
+  where
+    go : (n : ℕ) → n < maxFormulas → Dec (n < i) → linkAt m (formulaLink n) ≡ 0
+    go n q (yes z) = u .none n z
+    go n q (no z) =
+        u .others n (omega arith) ∙ g .ordered .chained .last n q
+        ∙ last-none (ofAt l) n (rowCount l) (λ j p x. omega (arith, g .ordered .named j p))
+
+-- u is l without chains
+module _ {l u : List ℕ} (w : Unlinked l u) where
+  pub gather-start : Gathering u u 0 0
   unfolding tab present
-  gather-start g = record {
-    lines = lines-self l (g .long);
+  gather-start = record {
+    lines = lines-self u (w .long);
     count = refl;
     next = refl;
     low = omega arith;
     moved = refl;
     full = λ j q. absurd (omega arith);
     rest = λ j q h f p. refl;
+    chained = chain-none u (w .none);
   }
 
+  unlinked-stays : (j : ℕ) → j < maxRows → Stays l u j
+  unfolding cell
+  unlinked-stays j h f p = w .rest (credentialPlace j f) (omega arith)
+
+  pub gather-from : {m : List ℕ} {i k : ℕ} → i ≤ maxRows → Gathering u m i k → Gathering l m i k
+  gather-from {m} {i} {k} h v = record {
+    lines = record {
+      long = v .lines .long;
+      count = v .lines .count ∙ w .rest 0 (omega arith);
+      rows = λ j a b. v .lines .rows j a b ∙ w .rest j (omega arith);
+    };
+    count = v .count ∙ w .rest 1 (omega arith);
+    next = v .next ∙ w .rest 2 (omega arith);
+    low = v .low;
+    moved = v .moved ∙ ap present (tab-ext i (entryAt u) (entryAt l) (λ j q.
+        stays-entry l u j (unlinked-stays j (omega arith))));
+    full = v .full;
+    rest = λ j q z f p. v .rest j q z f p ∙ unlinked-stays j z f p;
+    chained = v .chained;
+  }
+
+module _ (l : List ℕ) where
   module _ (m : List ℕ) (i k : ℕ) (v : Gathering l m i k) where
     -- a gap is passed
     pub gather-gap : i < maxRows → gapAt m i ≡ true → Gathering l m (i + 1) k
@@ -72,18 +147,33 @@ module _ (l : List ℕ) where
           ∙ rw (entry-gap l i (sym (stays-gap l m i (v .rest i (omega arith) h)) ∙ e)) (append-nil _));
       full = v .full;
       rest = λ j q. v .rest j (omega arith);
+      chained = v .chained;
     }
 
+    -- a row's formula is one of the ledger's
+    pub gather-named : Good l → i < rowCount l → (c : Credential) → c ≡ credentialAt m i → c .formula < maxFormulas
+    gather-named g q c e =
+        let z = v .rest i (omega arith) (omega (arith, g .ordered .few)) in
+        let d = ap (λ (x : Credential). x .formula) (e ∙ stays-credential l m i z) in
+        omega (arith, d, g .ordered .named i q, g .lines)
+
     -- a credential moves to row k
-    module _ (c : Credential) (h : i < maxRows) (e : gapAt m i ≡ false) (d : c ≡ credentialAt m i) where
+    module _ (c : Credential) (h : i < maxRows) (e : gapAt m i ≡ false) (d : c ≡ credentialAt m i)
+        (b : c .formula < maxFormulas) where
       abbrev m′ : List ℕ
       m′ = putCredential m k c
 
+      few : k < maxRows
+      few = omega (arith, v .low)
+
+      moved-stays : (j : ℕ) → j < maxRows → (j ≡ k → ⊥) → Stays m m′ j
+      moved-stays j q x = credential-stays m k c j q x
+
       full-next : (j : ℕ) → j < k + 1 → Dec (j < k) → gapAt m′ j ≡ false
-      full-next j q (yes z) = stays-gap m m′ j (credential-stays m k c j (omega arith)) ∙ v .full j z
+      full-next j q (yes z) = stays-gap m m′ j (moved-stays j (omega (arith, few)) (omega arith)) ∙ v .full j z
       full-next j q (no z) =
           let x : j ≡ k = omega arith in
-          rw x (credential-there m k c (v .lines .long) (omega (arith, v .low)))
+          rw x (credential-there m k c (v .lines .long) few)
 
       entry-moved : entryAt l i ≡ some c
       entry-moved =
@@ -93,8 +183,8 @@ module _ (l : List ℕ) where
       moved-next : tab (k + 1) (credentialAt m′) ≡ present (tab (i + 1) (entryAt l))
       moved-next =
           tab-append k (credentialAt m) (credentialAt m′) c
-          (λ j q. stays-credential m m′ j (credential-stays m k c j (omega arith)))
-          (credential-same m k c (v .lines .long) (omega (arith, v .low)))
+          (λ j q. stays-credential m m′ j (moved-stays j (omega (arith, few)) (omega arith)))
+          (credential-same m k c (v .lines .long) few)
           ∙ ap (λ (cs : List Credential). cs ++ (c ∷ [])) (v .moved)
           ∙ sym (rw (present-next i (entryAt l), entry-moved))
 
@@ -106,7 +196,8 @@ module _ (l : List ℕ) where
         low = omega (arith, v .low);
         moved = moved-next;
         full = λ j q. full-next j q (decLt j k);
-        rest = λ j q z f p. credential-stays m k c j (omega (arith, v .low)) f p ∙ v .rest j (omega arith) z f p;
+        rest = λ j q z f p. moved-stays j z (omega (arith, v .low)) f p ∙ v .rest j (omega arith) z f p;
+        chained = chain-put m k c (v .lines .long) few b (v .chained);
       }
 
     -- a hint changes nothing
@@ -122,6 +213,7 @@ module _ (l : List ℕ) where
           moved = tab-ext k (credentialAt x) (credentialAt m) (λ j q. stays-credential m x j (z j q)) ∙ v .moved;
           full = λ j q. stays-gap m x j (z j q) ∙ v .full j q;
           rest = λ j q y f p. hint-stays m s r j y f p ∙ v .rest j q y f p;
+          chained = chain-stays m x k (v .chained) z (hint-links m s r);
         }
 
   -- when all rows are passed
@@ -179,6 +271,8 @@ module _ (l : List ℕ) where
         every-tab _ k (credentialAt done) (subst (Every _) (sym done-rows) (live-named l (g .ordered))) i
             (omega (arith, done-used)),
       );
+      chained = rw done-used (chain-stays m done k (v .chained) (λ j q. done-stays j)
+          (λ j. head-links m 3 k j (omega arith)));
     }
 
     done-compact : Compacted l done

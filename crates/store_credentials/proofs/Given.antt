@@ -17,11 +17,14 @@ use Rattle.store.specs.Tab.{tab, present}
 use Rattle.store_cells.specs.Layout.{maxRows, lineCount, liveCount, nextSerial, rowCount, credentialAt, entryAt}
 use Rattle.store_cells.specs.Layout.{putRowCount}
 use Rattle.store_cells.specs.Layout.{putLiveCount, putNext, putCredential, putHint}
+use Rattle.ledger.specs.Checks.{maxFormulas}
+use Rattle.store.specs.Chain.{Chained}
+use Rattle.store.proofs.Chains.{chain-stays, chain-put}
 use Rattle.store.specs.Store.{ledgerOf, RowsOrdered, StandsFor, Givable}
 use Rattle.store.proofs.Tabs.{tab-ext, present-next}
 use Rattle.store_cells.proofs.CellWrites.{SameLines, lines-self, head-lines, head-same, Stays, stays-credential}
 use Rattle.store_cells.proofs.CellWrites.{stays-entry}
-use Rattle.store_cells.proofs.CellWrites.{stays-serial, head-other, head-stays}
+use Rattle.store_cells.proofs.CellWrites.{stays-serial, head-other, head-stays, head-links}
 use Rattle.store_cells.proofs.CredentialRows.{entry-there, credential-same, credential-there, credential-stays}
 use Rattle.store_cells.proofs.CredentialRows.{credential-lines}
 use Rattle.store.proofs.Views.{lines-length}
@@ -87,7 +90,8 @@ module _ (l : List ℕ) (k : Kind) (n : ℕ) (w : Interval) (r : Givable l n) (f
       ∙ head-stays rowed 3 _ i (omega arith) f q
 
   old-stays : (i : ℕ) → i < rowCount l → Stays l m i
-  old-stays i h f q = given-stays i f q ∙ credential-stays l (rowCount l) fresh i (omega arith) f q
+  old-stays i h f q =
+      given-stays i f q ∙ credential-stays l (rowCount l) fresh i (omega arith) (omega arith) f q
 
   new-credential : credentialAt m (rowCount l) ≡ fresh
   new-credential =
@@ -141,6 +145,18 @@ module _ (l : List ℕ) (k : Kind) (n : ℕ) (w : Interval) (r : Givable l n) (f
       let d = ap (λ (c : Credential). c .formula) new-credential in
       rw e (omega (arith, d, r .there, lines-length l, given-lines .count))
 
+  small : n < maxFormulas
+  small = omega (arith, r .there, lines-length l, r .good .lines)
+
+  rowed-chained : Chained rowed (rowCount l + 1)
+  rowed-chained = chain-put l (rowCount l) fresh (r .good .long) free small (r .good .ordered .chained)
+
+  given-chained : Chained m (rowCount l + 1)
+  given-chained =
+      chain-stays rowed m (rowCount l + 1) rowed-chained (λ i q. given-stays i)
+      (λ k. head-links counted 2 _ k (omega arith) ∙ head-links used 1 _ k (omega arith)
+      ∙ head-links rowed 3 _ k (omega arith))
+
   given-length : length (ledgerOf m .live) ≡ length (ledgerOf l .live) + 1
   unfolding ledgerOf
   given-length =
@@ -153,6 +169,7 @@ module _ (l : List ℕ) (k : Kind) (n : ℕ) (w : Interval) (r : Givable l n) (f
     between = λ i j p q. given-between i j p q (decLt j (rowCount l));
     below = λ i q. given-below i q (decLt i (rowCount l));
     named = λ i q. given-named i q (decLt i (rowCount l));
+    chained = rw given-used given-chained;
   }
 
   give-stands : StandsFor m (withCredential (ledgerOf l) k n w)

@@ -13,7 +13,8 @@ use Rattle.store_cells.specs.Layout.{nextSerial, rowCount, credentialAt, entryA
 use Rattle.store.specs.Store.{ledgerOf, RowsOrdered, StandsFor}
 use Rattle.store.proofs.Tabs.{tab-ext}
 use Rattle.store_cells.proofs.CellWrites.{SameLines, lines-self, head-lines, head-same, Stays, stays-entry}
-use Rattle.store_cells.proofs.CellWrites.{stays-serial, stays-credential, head-other, head-stays}
+use Rattle.store_cells.proofs.CellWrites.{stays-serial, stays-credential, head-other, head-stays, head-links}
+use Rattle.store.proofs.Chains.{chain-stays}
 use Rattle.store_credentials.specs.NextSerial.{withNext, Raisable}
 use Rattle.store_credentials.proofs.Stands.{stands-live, ledger-live}
 
@@ -65,6 +66,8 @@ module _ (l : List ℕ) (n : ℕ) (r : Raisable l n) where
         named = λ i q.
             let e = ap (λ (c : Credential). c .formula) (stays-credential l m i (raised-stays i)) in
             omega (arith, e, raised-lines .count, o .named i (omega (arith, raised-used)));
+        chained = rw raised-used (chain-stays l m (rowCount l) (o .chained) (λ i q. raised-stays i)
+            (λ k. head-links l 2 n k (omega arith)));
       }
 
   raised-bounded : Bounded (withNext (ledgerOf l) n)

@@ -18,9 +18,10 @@ use Rattle.store_cells.specs.Layout.{putGap}
 use Rattle.store.specs.Store.{ledgerOf, RowsOrdered, Good, StandsFor, Occupied}
 use Rattle.store_credentials.proofs.RowSerials.{without-row}
 use Rattle.store_cells.proofs.CellWrites.{SameLines, lines-self, head-lines, head-same, Stays, stays-entry}
-use Rattle.store_cells.proofs.CellWrites.{stays-serial}
-use Rattle.store_cells.proofs.CellWrites.{stays-credential, head-other, head-stays}
+use Rattle.store_cells.proofs.CellWrites.{stays-serial, stays-credential, head-other, head-stays, head-links}
 use Rattle.store_cells.proofs.CredentialRows.{entry-gap, gap-here, gap-stays, gap-serial, gap-of, gap-before, gap-lines}
+use Rattle.store_cells.proofs.CredentialRows.{gap-links}
+use Rattle.store.proofs.Chains.{chain-same}
 use Rattle.store.proofs.Search.{find-row}
 use Rattle.store.proofs.Views.{only-here}
 use Rattle.store_credentials.proofs.Stands.{stands-live, ledger-live}
@@ -105,6 +106,8 @@ module _ (l : List ℕ) (at : ℕ) (g : Good l) (o : Occupied l at) where
     );
     below = λ i q. omega (arith, left-serial i, left-next, g .ordered .below i (omega (arith, left-used)));
     named = λ i q. omega (arith, left-of i, left-lines .count, g .ordered .named i (omega (arith, left-used)));
+    chained = rw left-used (chain-same l left (rowCount l) (g .ordered .chained) (λ i q. left-of i)
+        (λ k. head-links marked 1 _ k (omega arith) ∙ gap-links l at (omega (arith, o .0, g .ordered .few)) k));
   }
 
   left-stands : StandsFor left (withLive (ledgerOf l) (withoutSerial (ledgerOf l .live) s))

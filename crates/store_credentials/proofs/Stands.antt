@@ -1,10 +1,11 @@
 -- What work on credentials leaves: the formula lines, with what is kept beside them.
-use mathlib.Core.Path.{_≡_, sym, ap, subst, _∙_}
+use mathlib.Core.Path.{_≡_, sym, ap, ap₂, subst, _∙_}
 use mathlib.Core.List.{List}
-use Prim.Native.Nat.{ℕ, _<_}
+use Prim.Native.Nat.{ℕ, _/_, _%_, _<_}
 use native.Mathlib.Omega.{arith}
 use Rattle.logic.specs.Formula.{size, plain, bit, unbound, quantified}
 use Rattle.logic.specs.Counts.{balanced}
+use Rattle.logic.specs.Packed.{counts}
 use Rattle.request.specs.Request.{Line}
 use Rattle.ledger.specs.declared.Credential.{Credential}
 use Rattle.ledger.specs.Table.{nth, formulas}
@@ -12,11 +13,12 @@ use Rattle.ledger.specs.Ledger.{Ledger, formula}
 use Rattle.ledger.specs.Checks.{maxFormulas}
 use Rattle.ledger.specs.Bounds.{Bounded}
 use Rattle.store.specs.Tab.{tab, present}
-use Rattle.store_cells.specs.Layout.{lineCount, nextSerial, rowCount, entryAt, putHint}
+use Rattle.store_cells.specs.Layout.{lineCount, nextSerial, rowCount, entryAt, putHint, groups, setLines, setWidth}
 use Rattle.store.specs.Store.{lineOf, ledgerOf, Canonical, RowsOrdered, Good, StandsFor}
 use Rattle.store.proofs.Tabs.{tab-ext}
 use Rattle.store_cells.proofs.CellWrites.{SameLines, lines-self, same-row, same-size, same-plain, same-balanced}
-use Rattle.store_cells.proofs.CellWrites.{same-unbound, same-quantified}
+use Rattle.store_cells.proofs.CellWrites.{same-unbound, same-quantified, same-low, same-high, same-gives, same-group}
+use Rattle.logic.proofs.Spans.{spans-same}
 use Rattle.store_cells.proofs.CredentialRows.{hint-lines, hint-live}
 use Rattle.store.proofs.Live.{same-live, same-ordered}
 
@@ -48,6 +50,24 @@ module _ (l m : List ℕ) (g : Good l) (s : SameLines l m) where
             ∙ ap (λ a. bit (unbound a)) (sym (same-formula i));
         quantifieds = λ i h. same-quantified l m s i (small i (below i h)) ∙ g .quantifieds i (below i h)
             ∙ ap (λ a. bit (quantified a)) (sym (same-formula i));
+        spans = λ i h. spans-same (same-formula i) (same-low l m s i (small i (below i h)))
+            (same-high l m s i (small i (below i h))) (g .spans i (below i h));
+        givens = λ i h. same-gives l m s i (small i (below i h)) ∙ g .givens i (below i h)
+            ∙ ap₂ counts (sym (same-low l m s i (small i (below i h)))) (sym (same-formula i));
+        grouped = record {
+          within = λ f w j p q r e. rw (s .count)
+              (g .grouped .within f w j p q r (rw (same-group l m s f w p (omega arith)) at e));
+          near = λ n t h a c.
+              rw (same-group l m s (t % groups) (n / setLines) (omega arith) (omega (arith, small n (below n h))))
+              (g .grouped .near n t (below n h) (rw (same-low l m s n (small n (below n h))) at a)
+              (rw (same-high l m s n (small n (below n h))) at c));
+          filled = record {
+            numbers = λ f w p e.
+                g .grouped .filled .numbers f w p (rw (same-group l m s f setWidth p (omega arith)) at e);
+            others = λ f w p q e. same-group l m s f w p (omega arith)
+                ∙ g .grouped .filled .others f w p q (rw (same-group l m s f setWidth p (omega arith)) at e);
+          };
+        };
         bounded = b;
       }
 

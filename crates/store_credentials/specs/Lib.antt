@@ -1,1 +1,2 @@
 pub mod NextSerial
+pub mod Unlinked

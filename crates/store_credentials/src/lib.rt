@@ -13,6 +13,7 @@ ghost use Rattle.ledger.specs.Calls.{withLive, withCredential};
 ghost use Rattle.store_cells.specs.Layout.{maxRows, rowCount, credentialAt};
 ghost use Rattle.store.specs.Store.{ledgerOf, Good, StandsFor, Givable, Occupied, Compacted};
 ghost use Rattle.store_credentials.specs.NextSerial.{withNext, Raisable};
+ghost use Rattle.store_credentials.specs.Unlinked.{Unlinked};
 
 // Gaps that may stand among the rows in use however few are live: moving a handful of rows together is not worth it.
 const SPARE_ROWS: u32 = 16;
@@ -28,11 +29,28 @@ pub fn remove(store: &mut Store, at: u32)
     head::put_live_count(store, n - 1);
 }
 
-// The live credentials move together, in order, so that no gap is left.
+// No row is in the chain of its formula. A number that no line has yet has no chain.
+fn unlink(store: &mut Store)
+    requires { ⌜ Good (now store) ⌝ }
+    ensures { λ _. ⌜ Unlinked (now (store .entry)) (now (store .exit)) ⌝ }
+{
+    let lines = head::line_count(store);
+    let mut n = 0;
+    while n < lines {
+        let k = n;
+        n += 1;
+        if credentials::formula_link(store, k) != 0 {
+            credentials::put_formula_link(store, k, 0);
+        }
+    }
+}
+
+// The live credentials move together, in order, so that no gap is left; each joins its chain anew.
 fn compact(store: &mut Store)
     requires { ⌜ Good (now store) ⌝ }
     ensures { λ _. ⌜ Compacted (now (store .entry)) (now (store .exit)) ⌝ }
 {
+    unlink(store);
     let used = head::row_count(store);
     let mut i = 0;
     let mut k = 0;
@@ -49,9 +67,10 @@ fn compact(store: &mut Store)
     head::put_row_count(store, k);
 }
 
-// A row is free, and going through the rows costs what lives: where all are in use, or most of them are gaps, the live
-// credentials move together. At least every second row in use is then a gap made since rows last moved, so that each
-// removal pays for two rows gone through and one moved.
+// A row is free, and going through a formula's rows costs what lives: where all are in use, or most of them are gaps,
+// the live credentials move together. At least every second row in use is then a gap made since rows last moved, so
+// that each removal pays for two rows gone through and one moved; of few live ones two of three are gaps, and it pays
+// for less.
 fn make_room(store: &mut Store)
     requires { ⌜ Good (now store) × (length (ledgerOf (now store) .live) < maxRows) ⌝ }
     ensures { λ _. ⌜ StandsFor (now (store .exit)) (ledgerOf (now (store .entry)))
@@ -59,7 +78,7 @@ fn make_room(store: &mut Store)
 {
     let used = head::row_count(store);
     let live = head::live_count(store);
-    if (used == store_cells::ROWS) | (used > 2 * live + SPARE_ROWS) {
+    if (used == store_cells::ROWS) | (used > 3 * live + SPARE_ROWS) {
         compact(store);
     }
 }

@@ -1,2 +1,3 @@
 pub mod Found
+mod Marks
 mod Added

@@ -7,8 +7,9 @@ use Rattle.ledger.specs.Checks.{Check}
 use Rattle.ledger.specs.Statements.{_▸_}
 use Rattle.call_checks.proofs.Verdicts.{by-verdict, shown}
 use Rattle.call_contracts.proofs.Laws.{refused}
-use Rattle.call_credentials.specs.Issue.{Past}
+use Rattle.call_credentials.specs.Issue.{Past, Issuable}
 use Rattle.call_credentials.proofs.CallOutcomes.{issue-reversed, issue-broken, past-3, past-43, issue-unissuable}
+use Rattle.call_credentials.proofs.CallOutcomes.{Given, issue-gives, issue-done}
 use Rattle.call_credentials.proofs.issue.Statement.{statement}
 use Rattle.call_credentials.proofs.issue.Tie as tie
 
@@ -97,17 +98,47 @@ returns-5 c =
     issue-unissuable (c .unissuable-number .ensures) (refused (present (bound closed) .pre) (past-53 closed .1)
     (shown (unissuable .before .before .check-issuable .ensures) (unissuable .enum-told10 .given .1)))
 
-issue-checked-requires : tie.Need-issue-checked-requires
-issue-checked-requires c κs =
-    let issuable = c .before in
-    let closed = issuable .before .before .before .before in
+-- and 20 or 21
+issuable : (c : tie.After-enum-told9) →
+    let a = present (bound (c .before .before .before .before)) .args in
+    Issuable (now (a .store)) (a .kind) (a .formula) (a .interval)
+issuable c =
+    let closed = c .before .before .before .before in
     let there = bound closed in
     record {
       good = present there .pre;
       there = by-verdict (there .before .before .check-present .ensures) (there .enum-told5 .given .1);
-      so-far = past-53 closed .1
-          ▸ shown (issuable .before .before .check-issuable .ensures) (issuable .enum-told9 .given .1);
+      so-far = past-53 closed .1 ▸ shown (c .before .before .check-issuable .ensures) (c .enum-told9 .given .1);
     }
+
+returns-6 : tie.Need-returns-6
+returns-6 c =
+    let p = issuable (c .before .before .before .before) in
+    refused (p .good) (p .so-far) (shown (c .before .before .check-room .ensures) (c .enum-told12 .given .1))
+
+returns-7 : tie.Need-returns-7
+returns-7 c =
+    let room = c .before .before .before .before in
+    let p = issuable (room .before .before .before .before) in
+    refused (p .good) (p .so-far ▸ shown (room .before .before .check-room .ensures) (room .enum-told11 .given .1))
+    (shown (c .before .before .check-unused .ensures) (c .enum-told14 .given .1))
+
+-- and 22 and 23
+given : (c : tie.After-enum-told13) →
+    let issued = c .before .before .before .before .before .before .before .before in
+    let a = present (bound (issued .before .before .before .before)) .args in
+    Given (now (a .store)) (a .kind) (a .formula) (a .interval)
+given c =
+    let room = c .before .before .before .before in
+    record {
+      before = issuable (room .before .before .before .before);
+      room = by-verdict (room .before .before .check-room .ensures) (room .enum-told11 .given .1);
+      unused = by-verdict (c .before .before .check-unused .ensures) (c .enum-told13 .given .1);
+    }
+
+returns-8 : tie.Need-returns-8
+returns-8 c =
+    issue-done (given (c .before .before .before .before)) (c .before .before .next-serial .ensures) (c .give .ensures)
 
 pub issue-spec : {M : Type 1} → statement M
 issue-spec =
@@ -134,5 +165,14 @@ issue-spec =
     (λ c. search needs)
     (λ c κs. search needs)
     returns-5
-    issue-checked-requires
-    (λ c. c .issue-checked .ensures))
+    (λ c κs. issuable (c .before) .good)
+    (λ c. search needs)
+    (λ c. search needs)
+    returns-6
+    (λ c κs. issuable (c .before .before .before .before .before) .good)
+    (λ c. search needs)
+    (λ c. search needs)
+    returns-7
+    (λ c κs. search needs)
+    (λ c κs. issue-gives (given (c .before .before .before)))
+    returns-8)

@@ -7,7 +7,7 @@ use Rattle.ledger.specs.Statements.{_▸_}
 use Rattle.call_checks.proofs.Verdicts.{by-verdict, shown, reworded}
 use Rattle.call_contracts.proofs.Laws.{refused}
 use Rattle.call_word.specs.Wording.{Past, Fitting}
-use Rattle.call_word.proofs.WordOutcomes.{named-formable, sized, known, counted, word-added, word-done}
+use Rattle.call_word.proofs.WordOutcomes.{named-formable, sized, known, counted}
 use Rattle.call_word.proofs.word_named.Statement.{statement}
 use Rattle.call_word.proofs.word_named.Tie as tie
 
@@ -103,18 +103,8 @@ fits c =
       so-far = past-13 there .1 ▸ shown room (c .enum-told7 .given .1);
     }
 
-add-row-requires : tie.Need-add-row-requires
-add-row-requires c κs =
-    let holders = c .before in
-    let balanced = holders .before .before in
-    let plain = balanced .before .before in
-    word-added (fits (plain .before .before)) (plain .row-plain .ensures) (balanced .row-balanced .ensures)
-    (holders .row-holders .ensures)
-
 returns-5 : tie.Need-returns-5
-returns-5 c =
-    let passed = c .before .before .before .before .before .before .before .before in
-    word-done (fits passed) (passed .before .before .before .formula-count .ensures) (c .add-row .ensures)
+returns-5 c = c .add .ensures
 
 pub word-named-spec : {M : Type 1} → statement M
 word-named-spec =
@@ -140,8 +130,5 @@ word-named-spec =
     (λ c. search needs)
     (λ c. search needs)
     returns-4
-    (λ c κs. named-formable (free (c .before) .pre))
-    (λ c κs. named-formable (free (c .before .before .before) .pre))
-    (λ c κs. named-formable (free (c .before .before .before .before .before) .pre))
-    add-row-requires
+    (λ c κs. fits (c .before))
     returns-5)

@@ -12,6 +12,14 @@ add-put-next c =
     let at = c .before .before .before .before .before .before .before in
     omega (arith, at .next .ensures, at .before .before .before .before .before .before .pre .0 .unused)
 
+put-credential-requires : tie.Need-put-credential-requires
+put-credential-requires c κs =
+    let s = c .before .before .before .before .before .before .before in
+    let p = s .pre .0 in (
+      omega (arith, c .before .before .before .before .before .row-count .ensures, s .pre .1),
+      omega (arith, p .there, p .good .bounded .lines),
+    )
+
 returns : tie.Need-returns
 returns c =
     let next = c .before .before in
@@ -30,7 +38,7 @@ append-spec =
     (λ c κs. search needs)
     (λ c κs. search needs)
     (λ c κs. search needs)
-    (λ c κs. search needs)
+    put-credential-requires
     (λ c. search needs)
     (λ c κs. search needs)
     (λ c. search needs)
