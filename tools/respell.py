@@ -18,6 +18,7 @@ import sys
 TOKEN = re.compile(r"[^\s(){}\[\],;.`\"«»‵⟦⟧<>&|!?#$*/+]+")
 WORD = re.compile(r"^[a-z_][\w'₀-₉]*(?:-[\w'₀-₉]+)*$")
 DECLARED = re.compile(r"^\s*(?:pub |abbrev |unfoldable |[|] )*((?:[^\s(){}:;=]+\s+)+):\s")
+ALIAS = re.compile(r"(?<=\bas )[a-z][A-Za-z0-9]*[A-Z-][A-Za-z0-9-]*")
 FIELD = re.compile(r"[({;]\s*((?:[^\s(){}:;=,]+\s+)+):\s")
 USE = re.compile(r"use\s+([^\s{}]+)\.\{([^}]*)\}")
 GENERATED = re.compile(r"^(?:returns|entry|exit)$|-(?:init|preserved|requires|ensures|result|measure)$|^(?:loop|invariant|measure|overflow|expect)[-_]")
@@ -116,7 +117,8 @@ def main():
     for path in sources((".antt", ".rt")):
         with open(path, encoding="utf-8") as f:
             text = f.read()
-        new = respelled(text, turned, imports(text, own), path.endswith(".rt"))
+        aliases = {a: snake(a) for a in ALIAS.findall(text)}
+        new = respelled(text, turned | aliases, imports(text, own), path.endswith(".rt"))
         if new != text and not dry:
             with open(path, "w", encoding="utf-8") as f:
                 f.write(new)

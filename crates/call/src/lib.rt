@@ -1,4 +1,6 @@
 // The one call: any bytes, of any length. The first line is read, and the request that it begins goes to its call.
+#![tactic(auto)]
+
 ghost use Rattle.store.specs.Store.{Good};
 ghost use Rattle.call_contracts.specs.Called.{Called};
 

@@ -1,4 +1,6 @@
 // Booking (document 01: book): its checks in the paper's order, up to 31, from where crate `call_book_steps` goes on.
+#![tactic(auto)]
+
 ghost use Rattle.call_contracts.specs.Called.{Handled, Called};
 ghost use Rattle.call_book_laws.specs.BookingFound.{booking_at, ReadLines, Bookable, Opened};
 

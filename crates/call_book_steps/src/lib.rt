@@ -1,5 +1,7 @@
 // The end of a booking (document 01: book), once its holds are found: its steps are judged, 22 and 23 are tried, and an
 // accepted one takes effect.
+#![tactic(auto)]
+
 ghost use Rattle.std.specs.Prelude.{◌≡◌};
 ghost use Rattle.step_premises.specs.Begin.{sequent};
 ghost use Rattle.step_checker.specs.Cycle.{refusal_of, refused_by};

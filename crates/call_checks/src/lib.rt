@@ -1,4 +1,6 @@
 // The tests of the checks, each answered by an enum.
+#![tactic(auto)]
+
 ghost use Rattle.std.specs.Prelude.{◌≡◌, not, ◌||◌, ℕ, ◌<◌, length};
 ghost use Rattle.logic.specs.Interval.{has, reversed, broken};
 ghost use Rattle.logic.specs.Formula.{plain, unbound};
@@ -15,7 +17,7 @@ use request::{Kind, ranges};
 use steps::Row;
 use store::Store;
 
-#[derive(Drop)]
+#[derive(Clone, Copy)]
 pub enum Verdict {
     Passed,
     Failed,

@@ -1,6 +1,8 @@
 // Issue, withdraw and tally, of requests that have been read: each tries its checks in the paper's order and does what
 // the request says.
-ghost use Rattle.request.specs.Request.{issue as issueRequest, withdraw as withdrawRequest, tally as tallyRequest};
+#![tactic(auto)]
+
+ghost use Rattle.request.specs.Request.{issue as issue_request, withdraw as withdraw_request, tally as tally_request};
 ghost use Rattle.store.specs.Store.{Good};
 ghost use Rattle.call_contracts.specs.Called.{Handled};
 
@@ -14,7 +16,7 @@ use store_lookup::Place;
 // Issue: 3, 43, 10, 53, 20 or 21 by the kind, 22, 23.
 pub fn issue(store: &mut Store, kind: Kind, formula: u32, interval: Interval) -> Answer
     requires { Good store.old }
-    ensures { Handled store.old (issueRequest kind formula interval) result store.new }
+    ensures { Handled store.old (issue_request kind formula interval) result store.new }
 {
     let ordered = call_checks::check_ordered(interval);
     let Verdict::Passed = ordered else {
@@ -52,7 +54,7 @@ pub fn issue(store: &mut Store, kind: Kind, formula: u32, interval: Interval) ->
 // Withdraw: 24. What leaves is not read.
 pub fn withdraw(store: &mut Store, serial: u32) -> Answer
     requires { Good store.old }
-    ensures { Handled store.old (withdrawRequest serial) result store.new }
+    ensures { Handled store.old (withdraw_request serial) result store.new }
 {
     let found = store_lookup::locate(store, serial);
     let Place::At(at) = found else {
@@ -65,7 +67,7 @@ pub fn withdraw(store: &mut Store, serial: u32) -> Answer
 // Tally: no check after 43 fails, and a tally has no interval.
 pub fn tally(store: &Store, session: u32, minute: u32) -> Answer
     requires { Good store.now }
-    ensures { Handled store.now (tallyRequest session minute) result store.now }
+    ensures { Handled store.now (tally_request session minute) result store.now }
 {
     let f = formula_tally::tally(store, session, minute);
     Answer::Counted(f.open, f.shut, f.placed)

@@ -1,8 +1,10 @@
 // The holds of a booking: the credentials (document 01: the coupons) that its hold lines name by serial.
+#![tactic(auto)]
+
 ghost use Rattle.std.specs.Prelude.{◌≡◌, ◌≤◌, ◌<◌, eqb, take, drop};
 ghost use Rattle.request.specs.Range.{label_count};
-ghost use Rattle.ledger.specs.Ledger.{by_kind, held, spend as spendOf};
-ghost use Rattle.ledger.specs.Checks.{any_of, twice as twice_of, hypothesis as hypothesisOf};
+ghost use Rattle.ledger.specs.Ledger.{by_kind, held, spend as spend_of};
+ghost use Rattle.ledger.specs.Checks.{any_of, twice as twice_of, hypothesis as hypothesis_of};
 ghost use Rattle.ledger.specs.Calls.{with_live};
 ghost use Rattle.store.specs.Store.{ledger_of, Good, StandsFor};
 ghost use Rattle.call_holds.specs.Holds.{joined, spent, Serials, Spendable, HeldIs};
@@ -18,7 +20,7 @@ use store_lookup::Place;
 
 // What the holds come to: the labels of the unrestricted ones (document 01: standing), those of the linear ones
 // (single-use), and how many are linear.
-#[derive(Drop)]
+#[derive(Clone, Copy)]
 pub struct Sides {
     pub unrestricted: u64,
     pub linear: u64,
@@ -26,7 +28,7 @@ pub struct Sides {
 }
 
 // A serial is not live, or all are.
-#[derive(Drop)]
+#[derive(Clone, Copy)]
 pub enum Held {
     Dead,
     Live(Sides),
@@ -65,7 +67,7 @@ fn one_linear(kind: Kind) -> u32
 
 // What a hold's label stands for.
 fn hypothesis(c: Credential) -> Hypothesis
-    ensures { result ≡ hypothesisOf c }
+    ensures { result ≡ hypothesis_of c }
 {
     let interval = c.interval;
     Hypothesis {
@@ -153,7 +155,7 @@ fn spend_one(store: &mut Store, serial: u32)
 pub fn spend(store: &mut Store, serials: &Serials, count: u32)
     requires { Spendable store.old serials.now count }
     ensures { StandsFor store.new (with_live (ledger_of store.old)
-        (spendOf (ledger_of store.old).live
+        (spend_of (ledger_of store.old).live
         (held (ledger_of store.old).live (take count serials.now)))) }
 {
     let mut k: u32 = 0;

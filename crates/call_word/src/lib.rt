@@ -1,6 +1,8 @@
 // Word (document 01: a wording comes): its checks in the paper's order; then the line is added, with what is known of
 // its formula.
-ghost use Rattle.request.specs.Request.{word as wordRequest};
+#![tactic(auto)]
+
+ghost use Rattle.request.specs.Request.{word as word_request};
 ghost use Rattle.store.specs.Store.{line_of, Canonical, Good};
 ghost use Rattle.call_contracts.specs.Called.{Handled};
 ghost use Rattle.call_word.specs.Wording.{Named, Fitting};
@@ -13,7 +15,7 @@ use store::Store;
 // A line that has passed all checks is added, with what is known of its formula.
 fn add(store: &mut Store, row: Row, size: u32) -> Answer
     requires { Fitting store.old row size }
-    ensures { Handled store.old (wordRequest (line_of row)) result store.new }
+    ensures { Handled store.old (word_request (line_of row)) result store.new }
 {
     let plain = formula_facts::row_plain(store, row);
     let balanced = formula_weights::row_balanced(store, row);
@@ -38,7 +40,7 @@ fn add(store: &mut Store, row: Row, size: u32) -> Answer
 // 53, 12, 13, 14 of a line that names what is there.
 fn word_named(store: &mut Store, row: Row) -> Answer
     requires { Named store.old row }
-    ensures { Handled store.old (wordRequest (line_of row)) result store.new }
+    ensures { Handled store.old (word_request (line_of row)) result store.new }
 {
     let apart = call_checks::tested(formula_facts::row_nested(store, row));
     let Verdict::Passed = apart else {
@@ -64,7 +66,7 @@ fn word_named(store: &mut Store, row: Row) -> Answer
 // Word: 3, 43, 10, then as above.
 pub fn word(store: &mut Store, row: Row) -> Answer
     requires { Good store.old × Canonical row }
-    ensures { Handled store.old (wordRequest (line_of row)) result store.new }
+    ensures { Handled store.old (word_request (line_of row)) result store.new }
 {
     let ordered = call_checks::check_line_ordered(row);
     let Verdict::Passed = ordered else {

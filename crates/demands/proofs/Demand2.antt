@@ -15,7 +15,7 @@ use Rattle.logic.proofs.Multisets.{every_left, every_right, every_map}
 use Rattle.logic.specs.Derives.{Derives, holds, letters, taken}
 use Rattle.request.specs.declared.Kind.TheVariants.{Linear, Unrestricted}
 use Rattle.request.specs.Request.{Step, Booking, book, step_intervals, steps_intervals, intervals}
-use Rattle.request.specs.Range.{holds as heldRange}
+use Rattle.request.specs.Range.{holds as held_range}
 use Rattle.request.specs.InRange.{StepInRange, BookingInRange}
 use Rattle.steps.specs.declared.Goal.TheVariants.{Holds}
 use Rattle.steps.specs.Check.{max_labels, Outcome, done, stopped, puts, finished, check_of}
@@ -130,7 +130,7 @@ module _ (t : Ledger) (cs : List Credential) (y : Ready t cs) (few : length cs �
 
 -- What an accepted booking's bytes give: few holds, and steps in range with well-formed intervals.
 
-pub few_held : (t : Ledger) (ns : List ℕ) → length ns ≤ heldRange.last → length (held t.live ns) ≤ max_labels
+pub few_held : (t : Ledger) (ns : List ℕ) → length ns ≤ held_range.last → length (held t.live ns) ≤ max_labels
 unfolding max_labels
 few_held t ns le = omega (arith, held_length t.live ns)
 

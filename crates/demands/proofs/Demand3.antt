@@ -19,7 +19,7 @@ use Rattle.logic.proofs.Balance.{plain_decides, plain_counts}
 use Rattle.logic.proofs.Conservation.{conserved, EvenHyp, BalancedHyp}
 use Rattle.request.specs.declared.Kind.{Kind}
 use Rattle.request.specs.declared.Kind.TheVariants.{Linear, Unrestricted}
-use Rattle.request.specs.Range.{max_bytes, session, minute, holds as heldRange}
+use Rattle.request.specs.Range.{max_bytes, session, minute, holds as held_range}
 use Rattle.request.specs.Request.{Booking, word, issue, withdraw, book, tally, intervals}
 use Rattle.request.specs.Read.{request_of}
 use Rattle.request.specs.Write.{write}
@@ -100,7 +100,7 @@ booked s {a = a} d w p =
     omega (arith, conserved s d w.balanced w.even c.evens, c.ups, c.downs, w.taken, w.added)
 
 book_keeps : (t : Ledger) (h : History) (b : Booking) → Agrees t h → PassedBook t b
-    → length b.holds ≤ heldRange.last → Every Writable b.steps
+    → length b.holds ≤ held_range.last → Every Writable b.steps
     → Agrees
     (with_credential (with_live t (spend t.live (held t.live b.holds))) Linear b.formula b.interval)
     (event (book b) t.next upon h)

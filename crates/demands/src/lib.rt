@@ -1,6 +1,7 @@
 // What the floor staff asked for: the three demands, and what document 02 asks to be shown. Each function here does
 // nothing: its `ensures` is the statement, and that it is proved is the point. The statements are in
 // specs/Demands.antt, specs/Effects.antt and specs/Later.antt, the proofs in proofs/.
+#![tactic(auto)]
 
 ghost use Rattle.std.specs.Prelude.{ℕ, List};
 ghost use Rattle.ledger.specs.Ledger.{Ledger};

@@ -1,6 +1,8 @@
 // The entry for C (include/oysterbrim.h): the till is a block of 45,677 numbers that the caller keeps, a sheet is bytes
 // with a length, and the caller lends 2,048 numbers to work on and four for the answer. Closing and opening are in
 // crate entry_text.
+#![tactic(auto)]
+
 ghost use Rattle.std.specs.Prelude.{◌≡◌};
 ghost use Rattle.request.specs.Range.{max_bytes};
 ghost use Rattle.ledger.specs.Ledger.{empty};

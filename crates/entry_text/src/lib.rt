@@ -1,5 +1,7 @@
 // Closing and opening from C (document 02, ask 5). They are compiled apart from till_call, with which they share code,
 // so that a sheet costs what it did.
+#![tactic(auto)]
+
 ghost use Rattle.std.specs.Prelude.{◌≡◌};
 ghost use Rattle.snapshot.specs.Snapshot.{longest_text};
 ghost use Rattle.store.specs.Store.{Good};

@@ -1,5 +1,7 @@
 // What is known of a formula from its row and the store: whether its parts are there, size, plain, holders, sessions
 // and what it has of the lowest of them (gives.rt).
+#![tactic(auto)]
+
 pub mod gives;
 
 ghost use Rattle.std.specs.Prelude.{◌≡◌, not, ◌≤◌, ◌<◌, length};
@@ -56,7 +58,7 @@ pub fn row_plain(store: &Store, row: Row) -> bool
 }
 
 // Holders (document 02, ask 7): whether there is an unbound one, holder 0 outside `q`, and whether a `q` stands there.
-#[derive(Drop)]
+#[derive(Clone, Copy)]
 pub struct Holders {
     pub unbound: bool,
     pub quantified: bool,
@@ -110,7 +112,7 @@ pub fn row_nested(store: &Store, row: Row) -> bool
 
 // Two numbers between which the sessions of a formula's atoms are, so that a tally of another session passes it by, and
 // what the formula has of session low, so that a tally of that session does not look into it.
-#[derive(Drop)]
+#[derive(Clone, Copy)]
 pub struct Span {
     pub low: u32,
     pub high: u32,

@@ -1,5 +1,7 @@
 // What a row tells of its formula line: the numbers that it names, whether an interval is reversed or broken, whether
 // its letter is that of a plain formula.
+#![tactic(auto)]
+
 ghost use Rattle.std.specs.Prelude.{◌≡◌};
 ghost use Rattle.logic.specs.Interval.{reversed, broken};
 ghost use Rattle.request.specs.Request.{Line, line_intervals};
@@ -28,7 +30,7 @@ pub const HOUSE_UNIT: u32 = BYTE * PLACE_UNIT;
 pub const UNDER_UNIT: u32 = BYTE * HOUSE_UNIT;
 
 // The formulas that a row names: the parts of its own.
-#[derive(Drop)]
+#[derive(Clone, Copy)]
 pub enum Parts {
     Nothing,
     One(u32),

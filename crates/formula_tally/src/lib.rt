@@ -1,5 +1,7 @@
 // The tally, by formulas (document 02, ask 9: "Panel sums by wording"): of each, how many live linear credentials have
 // the minute and how many have not, times what one of them gives.
+#![tactic(auto)]
+
 mod walk;
 
 ghost use Rattle.std.specs.Prelude.{◌≡◌, ◌+◌, ◌<◌, ◌≤◌, length};
@@ -20,7 +22,7 @@ use store::Store;
 
 // The sums of a tally over the live linear credentials: "Open now counts only seats whose nearest ⟨K⟩ above them is
 // principal 1, in a window that has the minute. All other seats, bare ones too, go to shut"; placed are the places.
-#[derive(Drop)]
+#[derive(Clone, Copy)]
 pub struct Figures {
     pub open: u32,
     pub shut: u32,
@@ -28,7 +30,7 @@ pub struct Figures {
 }
 
 // The same, with all seats.
-#[derive(Drop)]
+#[derive(Clone, Copy)]
 struct Sums {
     open: u32,
     seats: u32,
@@ -36,7 +38,7 @@ struct Sums {
 }
 
 // How many live linear credentials of a formula have the minute in their interval, and how many have not.
-#[derive(Drop)]
+#[derive(Clone, Copy)]
 struct Singles {
     inside: u32,
     outside: u32,

@@ -2,7 +2,7 @@
 ghost use Rattle.std.specs.Prelude.{◌≡◌, ◌<◌, length};
 ghost use Rattle.ledger.specs.Ledger.{formula as formula_of};
 ghost use Rattle.store.specs.Store.{ledger_of, Good};
-ghost use Rattle.formula_tally.specs.Gives.{gives_under, atom_gives, nearest as nearestOf};
+ghost use Rattle.formula_tally.specs.Gives.{gives_under, atom_gives, nearest as nearest_of};
 
 use formula_parts::Parts;
 use steps::{Row, letters};
@@ -30,7 +30,7 @@ fn atom(row: Row, under: bool, session: u32) -> u32
 
 // The same as `under`, for the row's parts.
 fn nearest(row: Row, under: bool) -> bool
-    ensures { result ≡ nearestOf under row }
+    ensures { result ≡ nearest_of under row }
 {
     if row.letter == letters::SAYS {
         return row.a == formula_parts::HOUSE;

@@ -1,5 +1,7 @@
 // Whether a formula is balanced: its weight, from its parts', for each session that stands in it. Asked once, when its
 // line comes; the row keeps the answer.
+#![tactic(auto)]
+
 ghost use Rattle.std.specs.Prelude.{◌≡◌, [], ◌∷◌};
 ghost use Rattle.logic.specs.Weight.{counted};
 ghost use Rattle.logic.specs.Counts.{sessions_of, balanced};
@@ -15,7 +17,7 @@ use steps::{Row, letters};
 use store::Store;
 
 // A formula's weight for a session: what it adds (up) and what it takes away (down); and whether it is well weighed.
-#[derive(Drop)]
+#[derive(Clone, Copy)]
 struct Weight {
     up: u32,
     down: u32,
@@ -132,7 +134,7 @@ fn neutral(store: &Store, row: Row, session: u32) -> bool
 
 // What was found of sessions: whether the formula is neutral for all that were asked, and, where it is `sure`, one for
 // which it is. Most formulas are of one session, which is weighed once.
-#[derive(Drop)]
+#[derive(Clone, Copy)]
 struct Tried {
     all: bool,
     sure: bool,

@@ -1,6 +1,7 @@
 // The sessions of a big hall (document 02, ask 8), with hundreds and thousands of live credentials. They take long to
 // compute, so they are apart from the crates that they are sessions of, whose edits are then tried without them. The
 // functions here do nothing: each ensures a statement of specs/Halls.antt, and that it is proved is the point.
+#![tactic(auto)]
 
 ghost use Rattle.hall.specs.Halls.{M10Plays, HallSheets, HallTexts};
 

@@ -1,13 +1,15 @@
 // The tests of an interval (document 01: a window). Code above asks these, and does not take an interval apart.
+#![tactic(auto)]
+
 ghost use Rattle.std.specs.Prelude.{◌≡◌, min, max};
-ghost use Rattle.logic.specs.Interval.{contains as containsOf, covers as coversOf, has as has_of, same_interval};
-ghost use Rattle.logic.specs.Interval.{reversed as reversedOf, broken as brokenOf, no_interval};
+ghost use Rattle.logic.specs.Interval.{contains as contains_of, covers as covers_of, has as has_of, same_interval};
+ghost use Rattle.logic.specs.Interval.{reversed as reversed_of, broken as broken_of, no_interval};
 
 use logic::Interval;
 
 // I ⊇ J: I covers what J has before its break and what it has after it.
 pub fn contains(i: Interval, j: Interval) -> bool
-    ensures { result ≡ containsOf i j }
+    ensures { result ≡ contains_of i j }
 {
     let from = j.from as u64;
     let end = j.to as u64 + 1;
@@ -19,7 +21,7 @@ pub fn contains(i: Interval, j: Interval) -> bool
 
 // The interval has all minutes from p to before q. As a u64, to + 1 cannot overflow.
 fn covers(i: Interval, p: u64, q: u64) -> bool
-    ensures { result ≡ coversOf i p q }
+    ensures { result ≡ covers_of i p q }
 {
     (q <= p)
         | ((i.from as u64 <= p)
@@ -50,14 +52,14 @@ pub fn has(i: Interval, minute: u32) -> bool
 
 // The interval is reversed (refusal 3).
 pub fn reversed(i: Interval) -> bool
-    ensures { result ≡ reversedOf i }
+    ensures { result ≡ reversed_of i }
 {
     i.to < i.from
 }
 
 // Its break is neither 0,0 nor strictly inside (refusal 43).
 pub fn broken(i: Interval) -> bool
-    ensures { result ≡ brokenOf i }
+    ensures { result ≡ broken_of i }
 {
     !(((i.first == 0) & (i.last == 0))
         | ((i.from < i.first) & ((i.first <= i.last) & (i.last < i.to))))

@@ -1,8 +1,10 @@
 // Sets of labels: a u64 whose bit k stands for label k. specs/ has the definitions.
+#![tactic(auto)]
+
 ghost use Rattle.std.specs.Prelude.{◌≡◌, ◌^◌, ◌<◌};
 ghost use Rattle.request.specs.Range.{label_count};
-ghost use Rattle.labels.specs.Labels.{member as memberOf, subset as subsetOf, is_empty, is_just};
-ghost use Rattle.labels.specs.Labels.{insert as insertOf, without as without_of, remove as removeOf};
+ghost use Rattle.labels.specs.Labels.{member as member_of, subset as subset_of, is_empty, is_just};
+ghost use Rattle.labels.specs.Labels.{insert as insert_of, without as without_of, remove as remove_of};
 
 // Just label k.
 pub fn only(k: u32) -> u64
@@ -14,13 +16,13 @@ pub fn only(k: u32) -> u64
 
 pub fn member(d: u64, k: u32) -> bool
     requires { k < label_count }
-    ensures { result ≡ memberOf d k }
+    ensures { result ≡ member_of d k }
 {
     (d >> k) % 2 == 1
 }
 
 pub fn subset(s: u64, d: u64) -> bool
-    ensures { result ≡ subsetOf s d }
+    ensures { result ≡ subset_of s d }
 {
     s & d == s
 }
@@ -41,7 +43,7 @@ pub fn is_just(d: u64, k: u32) -> bool
 
 pub fn insert(d: u64, k: u32) -> u64
     requires { k < label_count }
-    ensures { result ≡ insertOf d k }
+    ensures { result ≡ insert_of d k }
 {
     d | only(k)
 }
@@ -55,7 +57,7 @@ pub fn without(d: u64, s: u64) -> u64
 
 pub fn remove(d: u64, k: u32) -> u64
     requires { k < label_count }
-    ensures { result ≡ removeOf d k }
+    ensures { result ≡ remove_of d k }
 {
     without(d, only(k))
 }

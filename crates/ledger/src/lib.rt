@@ -1,6 +1,7 @@
 // The ledger (document 01: the till): formulas and live credentials, and the answer to each request. This file has the
 // types that definitions and code share; specs/ has the definitions and what is proved of them, proofs/ the proofs. The
 // functions here do nothing: each ensures a statement of specs/, and that it is proved is the point.
+#![tactic(auto)]
 
 ghost use Rattle.ledger.specs.Bounds.{AlwaysBounded};
 ghost use Rattle.ledger.specs.Statements.{Refusals, SameLine};
@@ -21,7 +22,7 @@ pub const MAX_FORMULAS: u32 = 200;
 pub const MAX_LIVE: u32 = 2048;
 
 // A credential (document 01: a coupon): its serial, its kind, its formula's number (wording) and its interval (window).
-#[derive(Drop)]
+#[derive(Clone, Copy)]
 pub struct Credential {
     pub serial: u32,
     pub kind: request::Kind,
@@ -30,7 +31,7 @@ pub struct Credential {
 }
 
 // The answer to a request; `told` in specs/Calls.antt gives document 01's values for each case.
-#[derive(Drop)]
+#[derive(Clone, Copy)]
 pub enum Answer {
     // word: the formula's number; issue, withdraw, book: the serial
     Accepted(u32),

@@ -1,9 +1,10 @@
 // The logic: the ground part of η-logic that document 01 names. This file has the type that definitions and code share;
 // specs/ has the definitions and what is proved of them, proofs/ the proofs.
+#![tactic(auto)]
 
 // The minutes from `from` to `to`, both included (document 01: a window), without those from `first` to `last`
 // (document 02, ask 2: the break); 0, 0 is no break.
-#[derive(Drop)]
+#[derive(Clone, Copy)]
 pub struct Interval {
     pub from: u32,
     pub to: u32,

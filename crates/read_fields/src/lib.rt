@@ -1,4 +1,6 @@
 // Fields of bytes, read by positions: decimal numbers, sets of labels, and texts that are looked for.
+#![tactic(auto)]
+
 ghost use Rattle.std.specs.Prelude.{◌≡◌, ◌≤◌, ◌<◌, length, drop};
 ghost use Rattle.request.specs.Range.{◌‥◌};
 ghost use Rattle.request.specs.Text.{number_in, label_set_in};
@@ -13,28 +15,28 @@ const HEX_LAST: u8 = b'f';
 const HEX_SHIFT: u8 = HEX_FIRST - 10;
 
 // A number of a range and the position after the byte that ends it.
-#[derive(Drop)]
+#[derive(Clone, Copy)]
 pub enum Decimal {
     Number(u32, u32),
     Broken,
 }
 
 // A set of labels (document 01: a share) and the position after the byte that ends it.
-#[derive(Drop)]
+#[derive(Clone, Copy)]
 pub enum Labels {
     Set(u64, u32),
     Broken,
 }
 
 // The value of the digits read so far.
-#[derive(Drop)]
+#[derive(Clone, Copy)]
 enum Digits {
     Value(u64),
     Broken,
 }
 
 // The position after a text that stands at a position.
-#[derive(Drop)]
+#[derive(Clone, Copy)]
 pub enum Prefix {
     Past(u32),
     Absent,

@@ -1,7 +1,7 @@
 // Intervals and formula lines (document 01: windows and wording lines).
 ghost use Rattle.std.specs.Prelude.{◌≡◌, ◌≤◌, length, drop};
 ghost use Rattle.request.specs.Read.{formula_line};
-ghost use Rattle.ledger.specs.Table.{lettered as letteredOf};
+ghost use Rattle.ledger.specs.Table.{lettered as lettered_of};
 ghost use Rattle.read_fields.specs.Field.{max_reach, Stop};
 ghost use Rattle.read_formulas.specs.Line.{read_line, interval_to, one_field, two_fields, at_fields, superset_fields};
 ghost use Rattle.read_formulas.specs.Line.{named_fields, rowed};
@@ -47,7 +47,7 @@ pub fn interval(s: &[u8], at: u32, stop: u8) -> Span
 
 // A letter and two numbers, without holder and intervals.
 fn lettered(letter: u32, a: u32, b: u32) -> Row
-    ensures { result ≡ letteredOf letter a b }
+    ensures { result ≡ lettered_of letter a b }
 {
     let i = intervals::none();
     Row {

@@ -1,5 +1,7 @@
 // The first line of a request (document 01: a sheet), read by positions: a whole request, or the head of a booking.
 // This file has the types of the answers; requests.rt reads the line.
+#![tactic(auto)]
+
 pub mod requests;
 
 use logic::Interval;
@@ -7,7 +9,7 @@ use request::Kind;
 use steps::Row;
 
 // The head of a booking, `book,now,wording,from,to,first,last,holds,steps`, and the position of the line after it.
-#[derive(Drop)]
+#[derive(Clone, Copy)]
 pub struct Head {
     pub now: u32,
     pub formula: u32,
@@ -18,7 +20,7 @@ pub struct Head {
 }
 
 // What a request's bytes say: a whole request of one line, or the head of a booking.
-#[derive(Drop)]
+#[derive(Clone, Copy)]
 pub enum First {
     Word(Row),
     Issue(Kind, u32, Interval),
@@ -28,7 +30,7 @@ pub enum First {
 }
 
 // The first line was read, or its form is broken (refusal 2).
-#[derive(Drop)]
+#[derive(Clone, Copy)]
 pub enum FirstRead {
     Read(First),
     Broken,

@@ -1,4 +1,6 @@
 // The lines after a booking's head: hold lines, and step lines in rows.
+#![tactic(auto)]
+
 ghost use Rattle.std.specs.Prelude.{◌≡◌, ◌≤◌, length, drop};
 ghost use Rattle.request.specs.Read.{hold_line, step_line};
 ghost use Rattle.logic.specs.Choice.{pick};
@@ -14,7 +16,7 @@ use step_rows::lines::put_step;
 use step_rows::{Serials, StepRow, StepRows, ops};
 
 // The hold lines of a booking were read, and the position after them.
-#[derive(Drop)]
+#[derive(Clone, Copy)]
 pub enum HoldsRead {
     Read(u32),
     Broken,
@@ -22,7 +24,7 @@ pub enum HoldsRead {
 
 // The step lines of a booking were read; whether an interval among them is reversed (refusal 3), and whether one is
 // broken (43).
-#[derive(Drop)]
+#[derive(Clone, Copy)]
 pub enum StepsRead {
     Read(bool, bool),
     Broken,

@@ -1,10 +1,12 @@
 // Requests (document 01: sheets): the form of the bytes, and what they say. This file has the type that definitions
 // and code share, src/ranges.rt the ends of the ranges; specs/ has the definitions.
+#![tactic(auto)]
+
 pub mod ranges;
 
 // What a credential is (document 01: a coupon's kind): linear, used just once (s, single-use), or unrestricted, used as
 // often as wanted (r, standing).
-#[derive(Drop)]
+#[derive(Clone, Copy)]
 pub enum Kind {
     Linear,
     Unrestricted,

@@ -1,6 +1,7 @@
 // The ledger as text (document 02: closing and opening the till): its writer, its reader, and what a text must obey.
 // specs/ has the definitions and what is proved of them, proofs/ the proofs. The functions here do nothing: each
 // ensures a statement of specs/, and that it is proved is the point.
+#![tactic(auto)]
 
 ghost use Rattle.std.specs.Prelude.{ℕ, List};
 ghost use Rattle.ledger.specs.Ledger.{Ledger};
@@ -9,7 +10,7 @@ ghost use Rattle.snapshot.specs.Statements.{NumbersApart, OpenAnswers, CloseAnsw
 ghost use Rattle.snapshot.specs.Cases.{M1Texts, TextsOpen, EditionsOpen, Closings};
 
 // The edition of a text, by its first line's second field: `till,1` or `till,2` (document 02, ask 8).
-#[derive(Drop)]
+#[derive(Clone, Copy)]
 pub enum Edition {
     First,
     Second,

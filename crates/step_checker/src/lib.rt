@@ -1,5 +1,7 @@
 // The step checker: the premise checker calls the step checker, which calls it for each premise; the step lines left
 // fall.
+#![tactic(auto)]
+
 ghost use Rattle.std.specs.Prelude.{◌≤◌};
 ghost use Rattle.steps.specs.Instance.{instance_row};
 ghost use Rattle.steps.specs.Check.{check_of};
@@ -14,14 +16,14 @@ use steps::{Plan, Sequent};
 use store::Store;
 
 // Done: the sequent closes; step lines left, next label. Stopped: the refusal's number and its step.
-#[derive(Drop)]
+#[derive(Clone, Copy)]
 enum Outcome {
     Done(u32, u32),
     Stopped(u32, u32),
 }
 
 // What the steps of a booking come to: they close the sequent, or they are stopped.
-#[derive(Drop)]
+#[derive(Clone, Copy)]
 pub enum Checked {
     Closed,
     Stopped(u32, u32),

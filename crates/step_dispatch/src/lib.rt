@@ -1,5 +1,7 @@
 // One match over the step's number: what a step does at a sequent, as a plan. Nothing here calls itself. Each arm reads
 // the rows of its own: read before the match, numbers that few steps ask for would be fetched at every step.
+#![tactic(auto)]
+
 ghost use Rattle.std.specs.Prelude.{◌≡◌, ◌≤◌, ◌<◌};
 ghost use Rattle.steps.specs.Instance.{instance_row};
 ghost use Rattle.steps.specs.Plans.{plan_of};

@@ -1,15 +1,17 @@
 // What a premise takes as it begins: its new labels.
+#![tactic(auto)]
+
 ghost use Rattle.std.specs.Prelude.{◌≡◌};
-ghost use Rattle.steps.specs.Check.{begin as beginOf};
+ghost use Rattle.steps.specs.Check.{begin as begin_of};
 ghost use Rattle.step_rows.specs.LabelRows.{put_label};
-ghost use Rattle.step_premises.specs.Begin.{told_begun, sequent as sequentOf};
+ghost use Rattle.step_premises.specs.Begin.{told_begun, sequent as sequent_of};
 
 use request::ranges;
 use step_rows::{LabelRows, label_rows};
 use steps::{Fresh, Goal, Premise, Sequent};
 
 // No label is left, or the premise's sequent and the next label.
-#[derive(Drop)]
+#[derive(Clone, Copy)]
 pub enum Begun {
     Full,
     Begins(Sequent, u32),
@@ -18,7 +20,7 @@ pub enum Begun {
 // The goal is made anew, case by case: copied whole, its bytes would be read back in other parts than they were
 // written.
 fn sequent(r: u64, d: u64, g: Goal) -> Sequent
-    ensures { result ≡ sequentOf r d g }
+    ensures { result ≡ sequent_of r d g }
 {
     match g {
         Goal::Holds(n, i) => Sequent {
@@ -36,7 +38,7 @@ fn sequent(r: u64, d: u64, g: Goal) -> Sequent
 
 // New labels go from `next` on; r are the unrestricted labels of the step's sequent.
 pub fn begin(table: &mut LabelRows, next: u32, r: u64, p: Premise) -> Begun
-    ensures { told_begun result table.new ≡ beginOf put_label table.old next r p }
+    ensures { told_begun result table.new ≡ begin_of put_label table.old next r p }
 {
     let fresh = p.fresh;
     let d = p.linear;

@@ -1,5 +1,7 @@
 // The rows of numbers that the step checker works on: labels, step lines, held serials. specs/ says how each is
 // read.
+#![tactic(auto)]
+
 pub mod label_rows;
 pub mod lines;
 pub mod ops;
@@ -27,7 +29,7 @@ pub type Serials = [u32; SERIALS];
 
 // A step line as a row: its number, label, the high and low 32 bits of its set of labels (document 01: share), its
 // interval; 0, and no interval, where a step has no such field. The holder of `al` stands as the low number.
-#[derive(Drop)]
+#[derive(Clone, Copy)]
 pub struct StepRow {
     pub op: u32,
     pub label: u32,

@@ -17,7 +17,7 @@ use Rattle.steps.specs.Check.{max_labels, linears, joins, puts, adds, Beginning,
 use Rattle.steps.specs.Labelling.{AnyTable, read_label, write_label, Shows as ShowsLabels}
 use Rattle.steps.specs.Rule.{Branch}
 use Rattle.steps.specs.Spells.{Labels, no_hyp, named, grown, adding, beginning, Room}
-use Rattle.steps.specs.Spells.{begun as labels-begun}
+use Rattle.steps.specs.Spells.{begun as labels_begun}
 use Rattle.steps.specs.Unroll.{Unrolls, hyp_of, goal_of, labelled_of}
 use Rattle.steps.proofs.Labelling.{length_snoc, ext_grown, length_grown}
 use Rattle.steps.proofs.Premises.{length_begun}
@@ -86,14 +86,14 @@ module _ {row : ℕ → Row} {formula : ℕ → Formula} (u : Unrolls row formul
 
   -- a premise begins, with labels in the table as they are taken on formulas; or there is no label left
   pub data Starts (ls : Labels) (r : ℕ) (p : Branch) : Beginning T → Type 0 where
-    over : max_labels < length (labels-begun ls p) → Starts ls r p full
+    over : max_labels < length (labels_begun ls p) → Starts ls r p full
     within : {t : T} {n : ℕ} {q : Sequent} → Room ls p → beginning ls r p ≡ labelled_of u q
-        → Shows t n (labels-begun ls p) → Starts ls r p (begun t n q)
+        → Shows t n (labels_begun ls p) → Starts ls r p (begun t n q)
 
   pub starts : (t : T) (n : ℕ) (ls : Labels) (r : ℕ) (p : Premise) → Shows t n ls
       → Starts ls r (branch_of u p) (begin put t n r p)
   unfolding begin
-  starts t n ls r p s = go (dec_le (length (labels-begun ls (branch_of u p))) max_labels)
+  starts t n ls r p s = go (dec_le (length (labels_begun ls (branch_of u p))) max_labels)
     where
       l : List Hypothesis
       l = linears p.fresh
@@ -101,7 +101,7 @@ module _ {row : ℕ → Row} {formula : ℕ → Formula} (u : Unrolls row formul
       j : List Hypothesis
       j = joins p.fresh
 
-      size : length (labels-begun ls (branch_of u p)) ≡ n + (length l + length j)
+      size : length (labels_begun ls (branch_of u p)) ≡ n + (length l + length j)
       size = omega (arith, s.next, length_begun ls (branch_of u p), length-map l (hyp_of u), length-map j (hyp_of u))
 
       size₁ : n + length l ≡ length (grown ls (map (hyp_of u) l))
@@ -119,7 +119,7 @@ module _ {row : ℕ → Row} {formula : ℕ → Formula} (u : Unrolls row formul
             unrestricted = sym (adds_is (grown ls (map (hyp_of u) l)) j (n + length l) r size₁) i;
             linear = sym (adds_is ls l n p.linear s.next) i;
             goal = goal_of u p.goal;
-          }) (subst (λ (m : ℕ). Shows t₂ m (labels-begun ls (branch_of u p))) e s₂))
+          }) (subst (λ (m : ℕ). Shows t₂ m (labels_begun ls (branch_of u p))) e s₂))
       go (no more) =
           rw (lt-leb (n + (length l + length j)) max_labels (omega (arith, size, more)), begin)
           (over (omega (arith, more)))

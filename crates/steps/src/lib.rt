@@ -1,10 +1,12 @@
 // Steps: what a step line asks of a sequent and what it leaves. This file has the types that definitions and code
 // share, src/letters.rt the letters of formula lines; specs/ has the definitions.
+#![tactic(auto)]
+
 pub mod letters;
 
 // A formula's line as a row: the letter's byte and its fields, two numbers, the holder of an atom that carries one
 // (document 02, ask 7) and intervals; 0, and 0 to 0, where it has none.
-#[derive(Drop)]
+#[derive(Clone, Copy)]
 pub struct Row {
     pub letter: u32,
     pub a: u32,
@@ -16,14 +18,14 @@ pub struct Row {
 
 // A formula, by its number, at an interval: what a label stands for. A holder that was put in stands in the number
 // (specs/Instance.antt); so it does in a goal's.
-#[derive(Drop)]
+#[derive(Clone, Copy)]
 pub struct Hypothesis {
     pub formula: u32,
     pub interval: logic::Window,
 }
 
 // "A at I", or "K affirms A at I"; K comes last, so that A and I stand in one place.
-#[derive(Drop)]
+#[derive(Clone, Copy)]
 pub enum Goal {
     Holds(u32, logic::Window),
     Affirms(u32, logic::Window, u32),
@@ -31,7 +33,7 @@ pub enum Goal {
 
 // A sequent (document 01: a judged line): the unrestricted labels (standing, R), the linear ones (single-use, D) and
 // the goal. Bit k of a set stands for label k.
-#[derive(Drop)]
+#[derive(Clone, Copy)]
 pub struct Sequent {
     pub unrestricted: u64,
     pub linear: u64,
@@ -39,7 +41,7 @@ pub struct Sequent {
 }
 
 // What takes new labels as a premise begins, and on which side.
-#[derive(Drop)]
+#[derive(Clone, Copy)]
 pub enum Fresh {
     Nothing,
     Linear(Hypothesis),
@@ -48,7 +50,7 @@ pub enum Fresh {
 }
 
 // A premise before it takes its labels; the unrestricted labels of the step's sequent pass to it.
-#[derive(Drop)]
+#[derive(Clone, Copy)]
 pub struct Premise {
     pub linear: u64,
     pub goal: Goal,
@@ -56,7 +58,7 @@ pub struct Premise {
 }
 
 // What a step does: it breaks its rule, closes the sequent, or leaves one premise or two.
-#[derive(Drop)]
+#[derive(Clone, Copy)]
 pub enum Plan {
     Refused,
     Closed,

@@ -1,6 +1,8 @@
 // The ledger's state (document 01: the till) in one array of numbers, which the caller keeps and lends to every call.
 // The crate `store_cells` knows where each number stands; specs/Store.antt says which ledger an array is, and what
 // holds of every store. Here the array is started and read; `store_formulas` and `store_credentials` change it.
+#![tactic(auto)]
+
 ghost use Rattle.std.specs.Prelude.{◌≡◌, ◌-◌, ◌≤◌, ◌<◌, length};
 ghost use Rattle.logic.specs.Formula.{size, plain, unbound, quantified};
 ghost use Rattle.logic.specs.Counts.{balanced};

@@ -2,6 +2,8 @@
 // (lines.rt), the sets of lines (groups.rt), the credential rows, the hints and the links (credentials.rt), the
 // intervals in rows of both kinds (interval.rt). No other functions know where a number stands in the array.
 // specs/Layout.antt has the layout and its reason.
+#![tactic(auto)]
+
 pub mod credentials;
 pub mod groups;
 pub mod head;

@@ -1,5 +1,7 @@
 // The live credentials of a store (document 01: the coupons): one leaves, one more is given; and the next serial is
 // set.
+#![tactic(auto)]
+
 ghost use Rattle.std.specs.Prelude.{◌<◌, length};
 ghost use Rattle.ledger.specs.Ledger.{without_serial};
 ghost use Rattle.ledger.specs.Calls.{with_live, with_credential};

@@ -1,4 +1,6 @@
 // The formula lines of a store (document 01: the wordings): whether a row stands there, and one more.
+#![tactic(auto)]
+
 ghost use Rattle.std.specs.Prelude.{◌≡◌, ◌<◌, length};
 ghost use Rattle.ledger.specs.Table.{row_of};
 ghost use Rattle.ledger.specs.Checks.{max_formulas, any_of, same_row};

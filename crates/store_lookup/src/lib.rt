@@ -1,4 +1,6 @@
 // Looking up a live credential by its serial: where it stands. Serials are compared and nothing is copied.
+#![tactic(auto)]
+
 ghost use Rattle.store.specs.Store.{Good};
 ghost use Rattle.store_lookup.specs.Lookup.{LooksUp};
 
@@ -6,7 +8,7 @@ use store::Store;
 use store_cells::{credentials, head};
 
 // Where the live credential (document 01: a coupon) of a serial stands, by its row.
-#[derive(Drop)]
+#[derive(Clone, Copy)]
 pub enum Place {
     At(u32),
     Nothing,

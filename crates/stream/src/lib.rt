@@ -1,5 +1,7 @@
 // A stream of bytes, taken piece by piece (document 01, "Kiosk"): each of its sheets is answered where it ends
 // (stream_sheets/specs/Sheets.antt).
+#![tactic(auto)]
+
 ghost use Rattle.std.specs.Prelude.{◌++◌, ◌<◌, length, take};
 ghost use Rattle.store.specs.Store.{Good};
 ghost use Rattle.stream_print.specs.Printed.{longest, Room};
@@ -10,7 +12,7 @@ use store::Store;
 use stream_sheets::End;
 
 // How many bytes of the sheet are held, whether a line begins, and how many bytes of text wait to be written.
-#[derive(Drop)]
+#[derive(Clone, Copy)]
 pub struct Place {
     pub filled: usize,
     pub fresh: bool,
@@ -18,7 +20,7 @@ pub struct Place {
 }
 
 // A place, and how many bytes of the piece are taken.
-#[derive(Drop)]
+#[derive(Clone, Copy)]
 struct Taken {
     place: Place,
     bytes: usize,

@@ -2,6 +2,8 @@
 // `receive` and `send`, a call of C's each, are to be read: that the piece which `receive` leaves is the one that was
 // read into, that `send` writes the text's first bytes, and that the call's answer is what is noted. The notes no other
 // crate can make or change, and of which bytes came in and went out it knows what these two contracts say.
+#![tactic(auto)]
+
 ghost use Rattle.std.specs.Prelude.{◌≡◌, ◌≤◌, [], length, take};
 ghost use Rattle.stream_console.specs.Console.{unread, unwritten, noted, handed, CameIn, WentOut};
 ghost use Rattle.stream_console.specs.Console.{Received, Sent, GoesOn};

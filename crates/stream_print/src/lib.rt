@@ -1,4 +1,6 @@
 // What is printed of an answer (specs/Printed.antt), put into the text that waits to be written.
+#![tactic(auto)]
+
 ghost use Rattle.std.specs.Prelude.{[], ◌∷◌, ◌+◌, ◌≤◌, length};
 ghost use Rattle.request.specs.Write.{digits};
 ghost use Rattle.ledger.specs.Calls.{told};

@@ -1,5 +1,7 @@
 // The bytes of a stream (specs/Sheets.antt): the search for the end of a sheet, and the bytes of a sheet that has
 // begun, kept up to one more than a sheet may have.
+#![tactic(auto)]
+
 ghost use Rattle.std.specs.Prelude.{◌≡◌, false, ◌+◌, ◌≤◌, ◌<◌, length};
 ghost use Rattle.stream_sheets.specs.Sheets.{empty_line, most};
 ghost use Rattle.stream_sheets.specs.Ends.{BothTen, Skipped, EndIs};
@@ -10,7 +12,7 @@ ghost use Rattle.stream_sheets.specs.Statements.{ReadBack, AllParts, InPieces, R
 pub const MOST: usize = request::ranges::MAX_BYTES + 1;
 
 // Where the first empty line stands; or that there is none, and whether a line begins after the bytes.
-#[derive(Drop)]
+#[derive(Clone, Copy)]
 pub enum End {
     At(usize),
     Open(bool),

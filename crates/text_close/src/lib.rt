@@ -1,5 +1,7 @@
 // Closing (document 02, ask 5): the ledger written as text into a lent buffer. Its length is worked out first, so that
 // a buffer that is too short stays as it was.
+#![tactic(auto)]
+
 ghost use Rattle.std.specs.Prelude.{◌<◌};
 ghost use Rattle.snapshot.specs.Snapshot.{text};
 ghost use Rattle.store_cells.specs.Layout.{row_count};

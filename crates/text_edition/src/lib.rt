@@ -1,4 +1,6 @@
 // The edition of a text (document 02, ask 8): `till,1` or `till,2`, as closing would write it.
+#![tactic(auto)]
+
 ghost use Rattle.std.specs.Prelude.{◌≡◌};
 ghost use Rattle.ledger.specs.Checks.{any_of};
 ghost use Rattle.snapshot.specs.Snapshot.{holder_letter, holder_line, edition_by, own_edition, same_edition};

@@ -1,6 +1,8 @@
 // Opening a text (document 02: the till read again): 50, then 51. The ledger is built in a spare block, by word's and
 // issue's own code, and only a good one takes the till's place; where it cannot be built, the form of the whole text
 // says which of the two it is.
+#![tactic(auto)]
+
 ghost use Rattle.std.specs.Prelude.{◌≡◌, drop};
 ghost use Rattle.std.proofs.Math.Option.{none};
 ghost use Rattle.store.specs.Store.{line_of, ledger_of, Good};

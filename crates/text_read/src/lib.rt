@@ -1,5 +1,7 @@
 // The ledger as text, read (document 02: opening the till): its lines by positions, and whether the whole has its form
 // (refusal 50).
+#![tactic(auto)]
+
 ghost use Rattle.std.specs.Prelude.{◌≡◌, ◌≤◌, length, drop};
 ghost use Rattle.request.specs.Read.{formula_line};
 ghost use Rattle.snapshot.specs.Snapshot.{counts, title_line, credential_line};
@@ -23,7 +25,7 @@ pub const LONGEST_TEXT: usize = 105_384;
 
 // What the first line says: the edition, the next serial, how many formula lines and how many live credentials
 // follow; and the position of the line after it.
-#[derive(Drop)]
+#[derive(Clone, Copy)]
 pub struct Heading {
     pub edition: Edition,
     pub next: u32,
@@ -33,14 +35,14 @@ pub struct Heading {
 }
 
 // A text's first line, or its whole form, was read; or it is broken (refusal 50).
-#[derive(Drop)]
+#[derive(Clone, Copy)]
 pub enum TextRead {
     Read(Heading),
     Broken,
 }
 
 // A credential (document 02: a coupon) and the position after its line end.
-#[derive(Drop)]
+#[derive(Clone, Copy)]
 pub enum CredentialLine {
     Read(Credential, u32),
     Broken,

@@ -1,6 +1,8 @@
 // The lines of a ledger's text (document 02, ask 5), written into a lent buffer. Each writer gets the unwritten rest of
 // the buffer, asks room for its own text alone, and answers how many bytes it wrote; beside each line's writer stands
 // the length of the line.
+#![tactic(auto)]
+
 ghost use Rattle.std.specs.Prelude.{◌≡◌, [], ◌∷◌, ◌++◌, ◌+◌, ◌≤◌, ◌<◌, length};
 ghost use Rattle.request.specs.Text.{bytes};
 ghost use Rattle.request.specs.Write.{digits, minutes, kind_field, line_fields};
@@ -17,7 +19,7 @@ use steps::{Row, letters};
 
 // What stands after the letter of a formula line: nothing, a number or two (with the letter), a number and an interval,
 // two intervals, three numbers.
-#[derive(Drop)]
+#[derive(Clone, Copy)]
 enum Shape {
     One,
     Single(u8, u32),

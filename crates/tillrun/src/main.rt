@@ -1,6 +1,8 @@
 // `tillrun` (document 01, "Kiosk"): reads sheets from standard input and prints their answers, starting with an empty
 // till. What is read in one piece is answered and written before more input is waited for. What could not be read or
 // written, and arguments, get a line on standard error.
+#![tactic(auto)]
+
 ghost use Rattle.std.specs.Prelude.{◌≡◌, ◌*◌, length};
 ghost use Rattle.request.specs.Range.{max_bytes};
 ghost use Rattle.ledger.specs.Ledger.{empty};

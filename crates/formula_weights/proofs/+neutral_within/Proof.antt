@@ -14,41 +14,41 @@ use Rattle.formula_parts.specs.Parts.{numbers}
 use Rattle.formula_weights.proofs.Weighing.{Parted, parted, part_asked, part_tries}
 use Rattle.formula_weights.proofs.Weighing.{tries_at, tries_atom, tries_other, tries_left, tries_right}
 use Rattle.formula_weights.proofs.neutral_within.Reads as within
-use Rattle.formula_weights.proofs.neutral_within.Kinds as within-kinds
-use Rattle.formula_weights.proofs.+neutral_within.Lts-neutral_within as within-lts
-use Rattle.formula_parts.proofs.parts_of.Reads as parts-of-reads
-use Rattle.store.proofs.line_at.Reads as line-at-reads
-use Rattle.formula_weights.proofs.neutral_for.Reads as for-reads
+use Rattle.formula_weights.proofs.neutral_within.Kinds as within_kinds
+use Rattle.formula_weights.proofs.+neutral_within.Lts-neutral_within as within_lts
+use Rattle.formula_parts.proofs.parts_of.Reads as parts_of_reads
+use Rattle.store.proofs.line_at.Reads as line_at_reads
+use Rattle.formula_weights.proofs.neutral_for.Reads as for_reads
 use Rattle.formula_weights.proofs.+neutral_within.{statement}
 use Rattle.formula_weights.proofs.+neutral_within.Tie.{close}
 
-abbrev μ-within : Measures 1 within-kinds.ps ℕ
+abbrev μ-within : Measures 1 within_kinds.ps ℕ
 μ-within κs a = size (form (formula (ledger_of a.0.now)) (line_of a.1.1.0))
 
-abbrev within_at : ℕ → In 1 within-kinds.ps
-within_at t = and 1 within-kinds.ps (is 1 within-kinds.ps μ-within t) within.Pre
+abbrev within_at : ℕ → In 1 within_kinds.ps
+within_at t = and 1 within_kinds.ps (is 1 within_kinds.ps μ-within t) within.Pre
 
-abbrev within_below : ℕ → In 1 within-kinds.ps
-within_below t = and 1 within-kinds.ps (falls 1 within-kinds.ps ◌<◌ μ-within t) within.Pre
+abbrev within_below : ℕ → In 1 within_kinds.ps
+within_below t = and 1 within_kinds.ps (falls 1 within_kinds.ps ◌<◌ μ-within t) within.Pre
 
-abbrev within_with : ℕ → within-lts.Claims
+abbrev within_with : ℕ → within_lts.Claims
 within_with t = (
-  parts-of-reads.Asked,
-  parts-of-reads.Learnt,
-  for-reads.Asked,
-  for-reads.Learnt,
-  line-at-reads.Asked,
-  line-at-reads.Learnt,
+  parts_of_reads.Asked,
+  parts_of_reads.Learnt,
+  for_reads.Asked,
+  for_reads.Learnt,
+  line_at_reads.Asked,
+  line_at_reads.Learnt,
   within_below t,
   within.Post,
 )
 
 -- what is known of the parts in each arm
-parts : (t : ℕ) (c : within-lts.After-parts-of (within_with t) (within_at t) within.Post) {q : Parts}
+parts : (t : ℕ) (c : within_lts.After-parts-of (within_with t) (within_at t) within.Post) {q : Parts}
     → c.parts-of.result ≡ q → Parted c.before.args.store.now c.before.args.part t (numbers q)
 parts t c = parted _ _ c.parts-of.ensures _ c.before.requires.1.1 c.before.requires.0
 
-within_returns_2 : (t : ℕ) → within-lts.Need-returns-2 (within_with t) (within_at t) within.Post
+within_returns_2 : (t : ℕ) → within_lts.Need-returns-2 (within_with t) (within_at t) within.Post
 within_returns_2 t c =
     let x = c.before.before in
     let i = x.before.before.before in
@@ -57,7 +57,7 @@ within_returns_2 t c =
     (tries_left _ _ _ (part_tries p.each.0 x.before.line-at2.ensures _ x.neutral-within2.ensures)
     (not-true _ c.if2.true))
 
-within_returns_5 : (t : ℕ) → within-lts.Need-returns-5 (within_with t) (within_at t) within.Post
+within_returns_5 : (t : ℕ) → within_lts.Need-returns-5 (within_with t) (within_at t) within.Post
 within_returns_5 t c =
     let x = c.before.before.before.before in
     let i = x.before.before.before in
@@ -70,7 +70,7 @@ within_returns_5 t c =
 pub +neutral-within-spec : {M : Type 1} → statement M
 +neutral-within-spec =
     close μ-within
-    (λ t. within-lts.spec (within_with t) (within_at t) within.Post
+    (λ t. within_lts.spec (within_with t) (within_at t) within.Post
     (λ c κs. search rules) (λ c. search rules)
     (λ c κs. let s = c.before.before.before.before.before.before.requires.1 in (s.0, s.2))
     (λ c. let e = c.before.before.before.before in

@@ -13,47 +13,47 @@ use borrow.Fn.PlainCycle.{Measures, is, falls, and}
 use Rattle.formula_weights.specs.RowWeights.{under_weight, joined_weight}
 use Rattle.formula_weights.proofs.Weighing.{Parted, parted, part_asked, part_weight, part_light}
 use Rattle.formula_weights.proofs.weigh.Reads as weigh
-use Rattle.formula_weights.proofs.weigh.Kinds as weigh-kinds
-use Rattle.formula_weights.proofs.+weigh.Lts-weigh as weigh-lts
-use Rattle.formula_parts.proofs.parts_of.Reads as parts-of-reads
-use Rattle.store.proofs.line_at.Reads as line-at-reads
-use Rattle.formula_weights.proofs.alone.Reads as alone-reads
-use Rattle.formula_weights.proofs.joined.Reads as joined-reads
-use Rattle.formula_weights.proofs.under.Reads as under-reads
+use Rattle.formula_weights.proofs.weigh.Kinds as weigh_kinds
+use Rattle.formula_weights.proofs.+weigh.Lts-weigh as weigh_lts
+use Rattle.formula_parts.proofs.parts_of.Reads as parts_of_reads
+use Rattle.store.proofs.line_at.Reads as line_at_reads
+use Rattle.formula_weights.proofs.alone.Reads as alone_reads
+use Rattle.formula_weights.proofs.joined.Reads as joined_reads
+use Rattle.formula_weights.proofs.under.Reads as under_reads
 use Rattle.formula_weights.proofs.+weigh.{statement}
 use Rattle.formula_weights.proofs.+weigh.Tie.{close}
 
-abbrev μ-weigh : Measures 1 weigh-kinds.ps ℕ
+abbrev μ-weigh : Measures 1 weigh_kinds.ps ℕ
 μ-weigh κs a = size (form (formula (ledger_of a.0.now)) (line_of a.1.0))
 
-abbrev weigh_at : ℕ → In 1 weigh-kinds.ps
-weigh_at t = and 1 weigh-kinds.ps (is 1 weigh-kinds.ps μ-weigh t) weigh.Pre
+abbrev weigh_at : ℕ → In 1 weigh_kinds.ps
+weigh_at t = and 1 weigh_kinds.ps (is 1 weigh_kinds.ps μ-weigh t) weigh.Pre
 
-abbrev weigh_below : ℕ → In 1 weigh-kinds.ps
-weigh_below t = and 1 weigh-kinds.ps (falls 1 weigh-kinds.ps ◌<◌ μ-weigh t) weigh.Pre
+abbrev weigh_below : ℕ → In 1 weigh_kinds.ps
+weigh_below t = and 1 weigh_kinds.ps (falls 1 weigh_kinds.ps ◌<◌ μ-weigh t) weigh.Pre
 
-abbrev weigh_with : ℕ → weigh-lts.Claims
+abbrev weigh_with : ℕ → weigh_lts.Claims
 weigh_with t = (
-  parts-of-reads.Asked,
-  parts-of-reads.Learnt,
-  alone-reads.Asked,
-  alone-reads.Learnt,
-  line-at-reads.Asked,
-  line-at-reads.Learnt,
+  parts_of_reads.Asked,
+  parts_of_reads.Learnt,
+  alone_reads.Asked,
+  alone_reads.Learnt,
+  line_at_reads.Asked,
+  line_at_reads.Learnt,
   weigh_below t,
   weigh.Post,
-  under-reads.Asked,
-  under-reads.Learnt,
-  joined-reads.Asked,
-  joined-reads.Learnt,
+  under_reads.Asked,
+  under_reads.Learnt,
+  joined_reads.Asked,
+  joined_reads.Learnt,
 )
 
 -- what is known of the parts in each arm
-parts : (t : ℕ) (c : weigh-lts.After-parts-of (weigh_with t) (weigh_at t) weigh.Post) {q : Parts}
+parts : (t : ℕ) (c : weigh_lts.After-parts-of (weigh_with t) (weigh_at t) weigh.Post) {q : Parts}
     → c.parts-of.result ≡ q → Parted c.before.args.store.now c.before.args.row t (numbers q)
 parts t c = parted _ _ c.parts-of.ensures _ c.before.requires.1 c.before.requires.0
 
-weigh_returns_3 : (t : ℕ) → weigh-lts.Need-returns-3 (weigh_with t) (weigh_at t) weigh.Post
+weigh_returns_3 : (t : ℕ) → weigh_lts.Need-returns-3 (weigh_with t) (weigh_at t) weigh.Post
 weigh_returns_3 t c =
     let x = c.before.before.before in
     let i = x.before.before.before in
@@ -66,7 +66,7 @@ weigh_returns_3 t c =
 pub +weigh-spec : {M : Type 1} → statement M
 +weigh-spec =
     close μ-weigh
-    (λ t. weigh-lts.spec (weigh_with t) (weigh_at t) weigh.Post
+    (λ t. weigh_lts.spec (weigh_with t) (weigh_at t) weigh.Post
     (λ c κs. search rules) (λ c. search rules) (λ c κs. search rules) (λ c. search rules)
     (λ c κs. (parts t c.before.before.before c.before.i.given.1).each.0.there)
     (λ c κs. let i = c.before.before in

@@ -8,28 +8,28 @@ use borrow.Fn.Kinds.{In}
 use borrow.Fn.PlainCycle.{Measures, is, falls, and}
 use Rattle.request.proofs.Digits.{digits_one, digits_high, digits_room}
 use Rattle.stream_print.proofs.Writing.{wrote_then, wrote_as}
-use Rattle.stream_print.proofs.put_digits.Reads as put-digits
-use Rattle.stream_print.proofs.put_digits.Kinds as put-digits-kinds
-use Rattle.stream_print.proofs.+put_digits.Lts-put_digits as put-digits-lts
-use Rattle.stream_print.proofs.put_byte.Reads as put-byte-reads
+use Rattle.stream_print.proofs.put_digits.Reads as put_digits
+use Rattle.stream_print.proofs.put_digits.Kinds as put_digits_kinds
+use Rattle.stream_print.proofs.+put_digits.Lts-put_digits as put_digits_lts
+use Rattle.stream_print.proofs.put_byte.Reads as put_byte_reads
 use Rattle.stream_print.proofs.+put_digits.{statement}
 use Rattle.stream_print.proofs.+put_digits.Tie.{close}
 
-abbrev μ-put-digits : Measures 1 put-digits-kinds.ps ℕ
+abbrev μ-put-digits : Measures 1 put_digits_kinds.ps ℕ
 μ-put-digits κs a = a.1.1.0
 
-abbrev put_digits_at : ℕ → In 1 put-digits-kinds.ps
-put_digits_at t = and 1 put-digits-kinds.ps (is 1 put-digits-kinds.ps μ-put-digits t) put-digits.Pre
+abbrev put_digits_at : ℕ → In 1 put_digits_kinds.ps
+put_digits_at t = and 1 put_digits_kinds.ps (is 1 put_digits_kinds.ps μ-put-digits t) put_digits.Pre
 
-abbrev put_digits_below : ℕ → In 1 put-digits-kinds.ps
-put_digits_below t = and 1 put-digits-kinds.ps (falls 1 put-digits-kinds.ps ◌<◌ μ-put-digits t) put-digits.Pre
+abbrev put_digits_below : ℕ → In 1 put_digits_kinds.ps
+put_digits_below t = and 1 put_digits_kinds.ps (falls 1 put_digits_kinds.ps ◌<◌ μ-put-digits t) put_digits.Pre
 
 pub +put_digits_spec : {M : Type 1} → statement M
 +put_digits_spec =
     close μ-put-digits (λ t.
-    put-digits-lts.spec (put-byte-reads.Asked, put-byte-reads.Learnt, put_digits_below t, put-digits.Post)
+    put_digits_lts.spec (put_byte_reads.Asked, put_byte_reads.Learnt, put_digits_below t, put_digits.Post)
     (put_digits_at t)
-    put-digits.Post
+    put_digits.Post
     (λ c. search rules)
     (λ c. search rules)
     (λ c κs.
@@ -50,10 +50,10 @@ pub +put_digits_spec : {M : Type 1} → statement M
     let put = c.before.before.before in
     let start = put.before.before.before.before in
     let h = digits_room start.args.n put.before.before.if1.false in
-    omega (arith, h, start.requires.1, put.put-digits.ensures.long, put.put-digits.ensures.end))
+    omega (arith, h, start.requires.1, put.put_digits.ensures.long, put.put_digits.ensures.end))
     (λ c. search rules)
     (λ c.
     let last = c.before.before in
     let put = last.before.before.before.before in
     wrote_as (sym (digits_high _ put.before.before.if1.false))
-    (wrote_then put.put-digits.ensures last.put-byte2.ensures)))
+    (wrote_then put.put_digits.ensures last.put-byte2.ensures)))

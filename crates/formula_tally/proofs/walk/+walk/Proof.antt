@@ -13,40 +13,40 @@ use Rattle.formula_parts.specs.Parts.{numbers}
 use Rattle.formula_tally.specs.Gives.{atom_gives}
 use Rattle.formula_tally.proofs.Walking.{Parted, parted}
 use Rattle.formula_tally.proofs.walk.walk.Reads as walk
-use Rattle.formula_tally.proofs.walk.walk.Kinds as walk-kinds
-use Rattle.formula_tally.proofs.walk.+walk.Lts-walk as walk-lts
-use Rattle.formula_parts.proofs.parts_of.Reads as parts-of-reads
-use Rattle.formula_tally.proofs.walk.atom.Reads as atom-reads
-use Rattle.formula_tally.proofs.walk.nearest.Reads as nearest-reads
-use Rattle.store.proofs.line_at.Reads as line-at-reads
+use Rattle.formula_tally.proofs.walk.walk.Kinds as walk_kinds
+use Rattle.formula_tally.proofs.walk.+walk.Lts-walk as walk_lts
+use Rattle.formula_parts.proofs.parts_of.Reads as parts_of_reads
+use Rattle.formula_tally.proofs.walk.atom.Reads as atom_reads
+use Rattle.formula_tally.proofs.walk.nearest.Reads as nearest_reads
+use Rattle.store.proofs.line_at.Reads as line_at_reads
 use Rattle.formula_tally.proofs.walk.+walk.{statement}
 use Rattle.formula_tally.proofs.walk.+walk.Tie.{close}
 
-abbrev μ-walk : Measures 1 walk-kinds.ps ℕ
+abbrev μ-walk : Measures 1 walk_kinds.ps ℕ
 μ-walk κs a = size (formula (ledger_of a.0.now) a.1.0)
 
-abbrev walk_at : ℕ → In 1 walk-kinds.ps
-walk_at t = and 1 walk-kinds.ps (is 1 walk-kinds.ps μ-walk t) walk.Pre
+abbrev walk_at : ℕ → In 1 walk_kinds.ps
+walk_at t = and 1 walk_kinds.ps (is 1 walk_kinds.ps μ-walk t) walk.Pre
 
-abbrev walk_below : ℕ → In 1 walk-kinds.ps
-walk_below t = and 1 walk-kinds.ps (falls 1 walk-kinds.ps ◌<◌ μ-walk t) walk.Pre
+abbrev walk_below : ℕ → In 1 walk_kinds.ps
+walk_below t = and 1 walk_kinds.ps (falls 1 walk_kinds.ps ◌<◌ μ-walk t) walk.Pre
 
-abbrev walk_with : ℕ → walk-lts.Claims
+abbrev walk_with : ℕ → walk_lts.Claims
 walk_with t = (
-  line-at-reads.Asked,
-  line-at-reads.Learnt,
-  nearest-reads.Asked,
-  nearest-reads.Learnt,
-  parts-of-reads.Asked,
-  parts-of-reads.Learnt,
-  atom-reads.Asked,
-  atom-reads.Learnt,
+  line_at_reads.Asked,
+  line_at_reads.Learnt,
+  nearest_reads.Asked,
+  nearest_reads.Learnt,
+  parts_of_reads.Asked,
+  parts_of_reads.Learnt,
+  atom_reads.Asked,
+  atom_reads.Learnt,
   walk_below t,
   walk.Post,
 )
 
 -- what is known of the parts in each arm
-parts : (t : ℕ) (c : walk-lts.After-parts-of (walk_with t) (walk_at t) walk.Post) {q : Parts}
+parts : (t : ℕ) (c : walk_lts.After-parts-of (walk_with t) (walk_at t) walk.Post) {q : Parts}
     → c.parts-of.result ≡ q
     → (let s = c.before.before.before.args in
     Parted s.store.now t s.formula s.under s.session
@@ -59,7 +59,7 @@ parts t c =
 pub +walk-spec : {M : Type 1} → statement M
 +walk-spec =
     close μ-walk
-    (λ t. walk-lts.spec (walk_with t) (walk_at t) walk.Post
+    (λ t. walk_lts.spec (walk_with t) (walk_at t) walk.Post
     (λ c κs. c.requires.1) (λ c κs. search rules) (λ c κs. search rules) (λ c. search rules) (λ c κs. search rules)
     (λ c. search rules)
     (λ c κs. let i = c.before in (parts t i.before.before i.i.given.1).each.0)
