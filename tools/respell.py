@@ -103,7 +103,8 @@ def respelled(text, turned, kept, code=False):
         w = m.group(0)
         if w in kept or w not in turned:
             return w
-        in_path = text[m.end():m.end() + 1] == "." and text[m.end() + 1:m.end() + 2].strip() or text[m.start() - 1:m.start()] == "."
+        line = text[text.rfind("\n", 0, m.start()) + 1:m.start()]
+        in_path = line.lstrip().startswith(("use ", "pub use ")) and text[m.end():m.end() + 1] == "." or text[m.start() - 1:m.start()] == "."
         return w if not old_spelling(w) and (code or in_path) else turned[w]
     return TOKEN.sub(word, text)
 

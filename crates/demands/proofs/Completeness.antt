@@ -164,9 +164,9 @@ booking_formed b f w = (f, steps_formed b.steps w)
 writable_in_range : (ss : List Step) → Every Writable ss → Every StepInRange ss
 writable_in_range ss = every_map (λ s w. w.0) ss
 
-in_range : (t : Ledger) → Bounded t → (b : Booking) → May t b.now b.formula b.interval b.holds
+in_range_holds : (t : Ledger) → Bounded t → (b : Booking) → May t b.now b.formula b.interval b.holds
     → length b.steps in_range step_count → Every Writable b.steps → BookingInRange b
-in_range t bd b m count w = record {
+in_range_holds t bd b m count w = record {
   now = record {
     least = omega arith;
     most = omega (arith, ((has_decides b.interval b.now).0 m.inside).to, m.ranged);
@@ -189,7 +189,7 @@ completeness t reached now n i hs m x lim =
     let b = booking now n i hs s.lines in (
       s.lines,
       s.letters,
-      past t b (in_range t (reached_bounded t reached) b m s.count s.writable) (record {
+      past t b (in_range_holds t (reached_bounded t reached) b m s.count s.writable) (record {
         formed = booking_formed b m.formed s.writable;
         may = m;
         closes = s.pass now;

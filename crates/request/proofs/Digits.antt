@@ -192,9 +192,9 @@ by_digits P one more n = go n n (omega arith)
 reads_digits : (n : ℕ) → reads decimal_digit 10 0 (digits n) ≡ some n
 reads_digits = by_digits (λ n. reads decimal_digit 10 0 (digits n) ≡ some n)
     (λ d l. let e : 0 * 10 + d ≡ d = omega arith in
-    rw (digits_one d l) (reads_one decimal_digit 10 0 (48 + d) d (decimal_digit.back d l) ∙ ap some e))
+    rw (digits_one d l) (reads_one decimal_digit 10 0 (48 + d) d (decimal_digit_holds.back d l) ∙ ap some e))
     (λ v d h l ih. rw (digits_more v d h l)
-    (reads_more decimal_digit 10 (digits v) v (48 + d) d ih (decimal_digit.back d l)))
+    (reads_more decimal_digit 10 (digits v) v (48 + d) d ih (decimal_digit_holds.back d l)))
 
 abbrev First : List ℕ → Type 0
 First [] = ⊥
@@ -226,7 +226,7 @@ digits_after : (xs : List ℕ) (v : ℕ) → 1 ≤ v → Gives (λ n. digits n �
 unfolding reads
 digits_after [] v h = just (sym (append-nil (digits v)))
 digits_after (x ∷ xs) v h =
-    gives_then (decimal_digit.only x) (λ d p.
+    gives_then (decimal_digit_holds.only x) (λ d p.
     gives_so (digits_after xs (v * 10 + d) (omega arith))
     (λ n e. e ∙ moved (digits v) xs (digits_more v d h p.0) p.1))
 
@@ -238,9 +238,9 @@ digits_byte d x p =
 pub decimal_only : (t : List ℕ) → Gives (λ n. digits n ≡ t) (decimal t)
 unfolding decimal reads
 decimal_only [] = nothing
-decimal_only (x ∷ []) = gives_then (decimal_digit.only x) (λ d p. just (digits_byte d x p))
+decimal_only (x ∷ []) = gives_then (decimal_digit_holds.only x) (λ d p. just (digits_byte d x p))
 decimal_only (x ∷ y ∷ ys) =
-    gives_if (eqb x 48) (λ e. nothing) (λ f. gives_then (decimal_digit.only x) (λ d p.
+    gives_if (eqb x 48) (λ e. nothing) (λ f. gives_then (decimal_digit_holds.only x) (λ d p.
     gives_so (digits_after (y ∷ ys) (0 * 10 + d) (omega (arith, eqb-false x 48 f))) (λ n q.
     q ∙ ap (λ (t : List ℕ). t ++ (y ∷ ys)) (digits_byte d x p))))
 

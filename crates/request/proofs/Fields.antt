@@ -71,8 +71,8 @@ label_set_exact = next_exact set_back set_plain (λ s h. omega (arith, set_lengt
 abbrev AllMinutes : Interval → Type 0
 AllMinutes i = (i.from in_range minute) × (i.to in_range minute) × (i.first in_range minute) × (i.last in_range minute)
 
-in_range : (i : Interval) → IntervalInRange i ↔ AllMinutes i
-in_range i = (
+in_range_holds : (i : Interval) → IntervalInRange i ↔ AllMinutes i
+in_range_holds i = (
   λ h. (h.from, h.to, h.first, h.last),
   λ h. record { from = h.0; to = h.1; first = h.2; last = h.3 },
 )
@@ -89,7 +89,7 @@ four_exact exact = record {
 }
 
 pub interval_exact : Exact 48 interval IntervalInRange minutes 32
-interval_exact = exact_as in_range (four_exact minute_exact)
+interval_exact = exact_as in_range_holds (four_exact minute_exact)
 
 abbrev pub AnyKind : Kind → Type 0
 AnyKind k = Unit {0}
@@ -98,7 +98,7 @@ pub kind_exact : Exact 48 kind AnyKind (λ k. kind_field k ∷ []) 2
 unfolding kind kind_field bytes same_bytes choose named all_of
 kind_exact = record {
   reads = go;
-  only = choose_only (only_return Linear tt refl also only_return Unrestricted tt refl also done);
+  only = choose_only (◌also◌ {t = "s"} (only_return Linear tt refl) (◌also◌ {t = "r"} (only_return Unrestricted tt refl) done));
 }
   where
     go : (k : Kind) → AnyKind k → Reads 48 kind k (kind_field k ∷ []) 2

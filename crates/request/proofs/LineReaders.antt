@@ -153,5 +153,5 @@ pub hold_line_exact : Exact 48 hold_line (λ n. n in_range serial) hold_fields 1
 unfolding hold_line hold_fields bytes same_bytes choose named all_of
 hold_line_exact = record {
   reads = λ n h. word_reads "hold" refl (λ us. refl) (serial_exact.reads n h);
-  only = choose_only (only_after serial_exact.only also done);
+  only = choose_only (◌also◌ {t = "hold"} (only_after serial_exact.only) done);
 }

@@ -5,21 +5,21 @@ use Rattle.logic.specs.Interval.{contains}
 use Rattle.intervals.proofs.contains.Statement.{statement}
 use Rattle.intervals.proofs.contains.Tie as tie
 
-returns : tie.Need-returns
+returns : tie.Need-returns-then-j-eq0
 unfolding contains
-returns c = simp (eq-eqb _ _ c.before.if1.true) c.covers.ensures
+returns c = simp (eq-eqb _ _ c.before.if-j-eq0.true) c.covers.ensures
 
-returns_2 : tie.Need-returns-2
+returns_2 : tie.Need-returns
 unfolding contains
 returns_2 c =
     let u = c.before in
     let v = u.before.before in
     let w = v.before in
     simp (
-      ne_eqb _ _ w.before.before.if1.false,
-      c.covers3.ensures,
+      ne_eqb _ _ w.before.before.if-j-eq0.false,
+      c.covers-3.ensures,
       u.greater.ensures,
-      v.covers2.ensures,
+      v.covers-2.ensures,
       w.lesser.ensures,
     )
 
