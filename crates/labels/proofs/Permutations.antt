@@ -62,6 +62,7 @@ module _ {A : Type 0} where
   ins_new q (there i) = Memᴰ.tail (ins_new q i)
 
   pub perm_in : {xs ys : List A} → Perm xs ys → Within xs ys
+  perm_in none h m = elim m [ ]
   perm_in (more i m) h (Memᴰ.head e) = ins_new e i
   perm_in (more i m) h (Memᴰ.tail n) = ins_in i (perm_in m h n)
 
@@ -74,6 +75,7 @@ module _ {A : Type 0} where
 
   -- a member stands in front of some order of the list
   pub in_front : {h : A} (zs : List A) → Memᴰ h zs → (ys : List A) × Perm (h ∷ ys) zs
+  in_front [] m = elim m [ ]
   in_front (z ∷ zs) (Memᴰ.head e) = (zs, more (here e) (perm_refl zs))
   in_front (z ∷ zs) (Memᴰ.tail m) =
       let w = in_front zs m in

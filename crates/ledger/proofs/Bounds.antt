@@ -48,7 +48,7 @@ rises_without lo n (c ∷ cs) r = go (eqb c.serial n) (rises_without c.serial n 
 rises_spend : (lo : ℕ) (cs hs : List Credential) → Rises lo cs → Rises lo (spend cs hs)
 unfolding spend
 rises_spend lo cs [] r = r
-rises_spend lo cs (h ∷ hs) r = rises_spend lo _ hs (go h.kind)
+rises_spend lo cs (h ∷ hs) r = rises_spend lo (by_kind h.kind (without_serial cs h.serial) cs) hs (go h.kind)
   where
     go : (k : Kind) → Rises lo (by_kind k (without_serial cs h.serial) cs)
     go Linear = rises_without lo h.serial cs r

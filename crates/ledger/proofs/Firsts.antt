@@ -35,7 +35,7 @@ first_fails [] e = absurd (some_none (sym e))
 first_fails (none ∷ cs) e = later (first_fails cs e)
 first_fails (some g ∷ cs) {f} e = subst (λ (x : Refusal). FirstFails f (some x ∷ cs)) (sym (some_inj e)) here
 
-pub fails_first : {cs : List Check} {f : Refusal} → FirstFails f cs → first cs ≡ some f
+pub fails_first : {f : Refusal} {cs : List Check} → FirstFails f cs → first cs ≡ some f
 unfolding first
 fails_first here = refl
 fails_first (later h) = fails_first h

@@ -230,6 +230,7 @@ module _ {row : ℕ → Row} {formula : ℕ → Formula} (u : Unrolls row formul
   none_left ls q = record { end = halted 42 (total + 1); ends = Stops.ends; shown = stops; only = go }
     where
       go : (e : Result) → Ends total [] ls q e → Shown (stopped 42 (total + 1)) e
+      go (closed _ _) x = elim x [ ]
       go (halted c m) Stops.ends = stops
 
   pub exact : (f : ℕ) → Exact (premise_of row held put total f) f
