@@ -164,7 +164,7 @@ gave : (c : tie.After-give) →
 gave c = c.give.ensures
 
 serial_told : part (λ (x : tie.Need-returns-4) (y : (c : tie.After-give) →
-    answer (x c) ≡ Accepted c.before.before.before.before.next_serial_holds.result). y)
+    answer (x c) ≡ Accepted c.before.before.before.before.next_serial.result). y)
 serial_told c = refl
 
 give-requires : tie.Need-give-requires
@@ -175,7 +175,7 @@ returns_4 : tie.Need-returns-4
 returns_4 c =
     let spend = c.before.before in
     answered (serial_told c) (book_done (settled spend.before.before.before.before)
-    spend.before.before.next_serial_holds.ensures (spent spend) (gave c))
+    spend.before.before.next_serial.ensures (spent spend) (gave c))
 
 pub book_steps_spec : {M : Type 1} → statement M
 book_steps_spec =

@@ -137,7 +137,7 @@ given c =
 
 returns_8 : tie.Need-returns-8
 returns_8 c =
-    issue_done (given c.before.before.before.before) c.before.before.next_serial_holds.ensures c.give.ensures
+    issue_done (given c.before.before.before.before) c.before.before.next_serial.ensures c.give.ensures
 
 pub issue_spec : {M : Type 1} → statement M
 issue_spec =

@@ -21,7 +21,7 @@ returns c =
     let h : s.args.n < line_count l = omega (arith, lines_length l, s.requires.1) in
     record {
       between = spans_same refl low.low-at.ensures high.high-at.ensures (s.requires.0.spans s.args.n h);
-      given = c.Gives-at.ensures
+      given = c.gives-at.ensures
           ∙ ap (λ (k : ℕ). counts k (formula (ledger_of l) s.args.n)) (sym low.low-at.ensures);
     }
 

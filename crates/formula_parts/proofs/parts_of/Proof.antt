@@ -4,10 +4,10 @@ use Rattle.formula_parts.specs.Parts.{parts_of}
 use Rattle.formula_parts.proofs.parts_of.Statement.{statement}
 use Rattle.formula_parts.proofs.parts_of.Tie as tie
 
-rest : tie.Need-returns-10
+rest : tie.Need-returns-in_default
 unfolding parts_of
 rest c =
-    let m = c.match.rest in
+    let m = c.in_default.in_default-own.rest in
     let n = m.0.0.0.0 in
     simp (
       ne_eqb _ _ m.1,
@@ -26,13 +26,13 @@ unfolding parts_of
 parts_of_spec =
     tie.close
     (tie.spec
-    (λ c. rw c.match.keys1)
-    (λ c. rw c.match.keys2)
-    (λ c. rw c.match.keys3)
-    (λ c. rw c.match.keys4)
-    (λ c. rw c.match.keys5)
-    (λ c. rw c.match.keys6)
-    (λ c. rw c.match.keys7)
-    (λ c. rw c.match.keys8)
-    (λ c. rw c.match.keys9)
+    (λ c. rw c.in-116.is)
+    (λ c. rw c.in-119.is)
+    (λ c. rw c.in-112.is)
+    (λ c. rw c.in-108.is)
+    (λ c. rw c.in-117.is)
+    (λ c. rw c.in-98.is)
+    (λ c. rw c.in-104.is)
+    (λ c. rw c.in-115.is)
+    (λ c. rw c.in-113.is)
     rest)

@@ -9,7 +9,7 @@ use Rattle.formula_parts.proofs.reversed_row.Tie as tie
 
 returns : tie.Need-returns
 unfolding reversed
-returns c = row_tested reversed refl _ (ap₂ ◌||◌ c.before.reversed.ensures c.reversed2.ensures)
+returns c = row_tested reversed refl _ (ap₂ ◌||◌ c.before.reversed.ensures c.reversed-2.ensures)
 
 pub reversed_row_spec : {M : Type 1} → statement M
 reversed_row_spec = tie.close (tie.spec (λ c κs. search rules) (λ c κs. search rules) returns)

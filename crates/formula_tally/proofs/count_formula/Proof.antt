@@ -15,7 +15,7 @@ returns c =
     let s = low.before in
     let l = s.args.store.now in
     let e : s.args.session ≡ low_at l s.args.formula = c.before.if1.true ∙ low.low-at.ensures in
-    kept l s.args.session 0 s.requires.0 s.args.formula s.requires.1 e c.Gives-at.ensures
+    kept l s.args.session 0 s.requires.0 s.args.formula s.requires.1 e c.gives-at.ensures
 
 returns_2 : tie.Need-returns-2
 returns_2 c =

@@ -47,9 +47,9 @@ products c =
     let all = ap₂ ◌+◌ e.0 e.1.0 in
     let u = unpacked s.args.session (formula t k) (s.requires.0.bounded.sizes k) in
     record {
-      opens = ap₂ ◌*◌ e.0 (ap house_in one ∙ u.house_in_holds);
-      seats = ap₂ ◌*◌ all (ap seats_in one ∙ u.seats_in_holds);
-      places = ap₂ ◌*◌ all (ap places_in one ∙ u.places_in_holds);
+      opens = ap₂ ◌*◌ e.0 (ap house_in one ∙ u.house_in);
+      seats = ap₂ ◌*◌ all (ap seats_in one ∙ u.seats_in);
+      places = ap₂ ◌*◌ all (ap places_in one ∙ u.places_in);
     }
 
 limits : (c : tie.After-count-singles)

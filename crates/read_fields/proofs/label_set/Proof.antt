@@ -14,55 +14,54 @@ use Rattle.read_fields.proofs.LabelSets.{hex_below, hex_room}
 use Rattle.read_fields.proofs.label_set.Statement.{statement}
 use Rattle.read_fields.proofs.label_set.Tie as tie
 
-abbrev invariant-loop : tie.invariant-loop
+abbrev invariant-loop : tie.invariant-loop-k
 invariant-loop s at stop from v₀ k₀ v k =
     (k ≤ 16) × ((v < 16 ^ k) × (field_to stop label_set_in (drop at s) ≡ field_to stop (set_in k v) (drop (at + k) s)))
 
-abbrev decreases_loop : tie.decreases_loop
+abbrev decreases_loop : tie.decreases-loop-k
 decreases_loop s at stop from v₀ k₀ v k = 16 - k
 
 -- in a turn, what is left begins with the byte at `at + k`
 turn :
-    (c : tie.In-loop invariant-loop decreases_loop) →
-    let a = c.before.before.before.before.args in
+    (c : tie.In-loop-k invariant-loop decreases_loop) →
+    let a = c.args in
     let s = a.s.now in
-    let l = c.before.loop in
+    let l = c.loop-k in
     field_to a.stop label_set_in (drop a.at s)
     ≡ field_to a.stop (set_in l.k l.v) (get_or s (a.at + l.k) 0 ∷ drop (a.at + (l.k + 1)) s)
 turn c =
-    let a = c.before.before.before.before.args in
-    let l = c.before.loop in
-    l.invariant.1.1 ∙ rw (here_on a.s.now a.at l.k (omega (arith, c.before.before.if1.false)))
+    let a = c.args in
+    let l = c.loop-k in
+    l.invariant.1.1 ∙ rw (here_on a.s.now a.at l.k (omega (arith, c.if-s-from.false)))
 
 -- after 16 digits
 full :
-    (c : tie.After-loop invariant-loop decreases_loop) →
-    let a = c.before.before.before.before.args in
+    (c : tie.After-loop-k invariant-loop decreases_loop) →
+    let a = c.args in
     let s = a.s.now in
     field_to a.stop label_set_in (drop a.at s)
-    ≡ field_to a.stop (set_in 16 c.before.loop.v) (get_or s (a.at + 16) 0 ∷ drop (a.at + 17) s)
+    ≡ field_to a.stop (set_in 16 c.loop-k.v) (get_or s (a.at + 16) 0 ∷ drop (a.at + 17) s)
 full c =
-    let a = c.before.before.before.before.args in
-    let l = c.before.loop in
-    let q : l.k ≡ 16 = omega (arith, c.loop-test.false) in
-    l.invariant.1.1 ∙ rw (q, here_on a.s.now a.at 16 (omega (arith, c.before.before.if1.false)))
+    let a = c.args in
+    let l = c.loop-k in
+    let q : l.k ≡ 16 = omega (arith, c.loop-k-test.false) in
+    l.invariant.1.1 ∙ rw (q, here_on a.s.now a.at 16 (omega (arith, c.if-s-from.false)))
 
 -- the digit that was read
 digit :
-    (c : tie.After-known-told invariant-loop decreases_loop) →
-    let l = c.before.before.before.before.before.before.loop in
-    let a = c.before.before.before.before.before.before.before.before.before.args in
-    DigitRead l.v (get_or a.s.now (a.at + l.k) 0) c.before.read.given.0.0
-digit c = rw c.before.read.given.1 at c.before.before.before.with-digit.ensures
+    (c : tie.In-Value invariant-loop decreases_loop) →
+    let l = c.loop-k in
+    let a = c.args in
+    DigitRead l.v (get_or a.s.now (a.at + l.k) 0) c.in-Value.w
+digit c = rw c.in-Value.is at c.with_digit-read.ensures
 
-loop-again : tie.Need-loop-preserved invariant-loop decreases_loop
+loop-again : tie.Need-loop-k-preserved invariant-loop decreases_loop
 loop-again c =
-    let t = c.before.before.before.before.before in
     let d = digit c in (
       search rules,
       (
-        rw d.value (hex_below _ _ _ t.before.loop.invariant.1.0 d.below),
-        turn t ∙ rw d.value (hex_on _ _ _ _ _ _ d.is),
+        rw d.value (hex_below _ _ _ c.loop-k.invariant.1.0 d.below),
+        turn c.before.before.before ∙ rw d.value (hex_on _ _ _ _ _ _ d.is),
       ),
     )
 
@@ -73,22 +72,20 @@ label_set_spec =
     invariant-loop
     decreases_loop
     (λ c. search rules)
-    (λ c. sym (labels_short _ _ _ c.if1.true))
+    (λ c. sym (labels_short _ _ _ c.if-s-from.true))
     (λ c. (search rules, (search rules, rw add-zero (set_start _ _))))
     (λ c. search rules)
     (λ c. search rules)
-    (λ c κs. hex_room _ _ c.before.loop-test.true c.before.before.loop.invariant.1.0)
+    (λ c κs. hex_room _ _ c.loop-k-test.true c.loop-k.invariant.1.0)
     (λ c. search rules)
     (λ c. search rules)
-    (λ c. let t = c.before.before.before.before in
-    sym (turn t ∙ hex_no _ t.before.before.before.before.requires.1 _ _ t.loop-test.true _ _
-    (rw c.enum_told.given.1 at c.before.before.with-digit.ensures)))
+    (λ c. sym (turn c.before.before.before ∙ hex_no _ c.requires.1 _ _ c.loop-k-test.true _ _
+    (rw c.in_default.is at c.with_digit-read.ensures)))
     (λ c. search rules)
     (λ c. search rules)
     loop-again
     (λ c. search rules)
     (λ c. search rules)
-    (λ c. sym (full c.before.before ∙ set_other _ _ _ _ c.if2.true))
+    (λ c. sym (full c.before.before ∙ set_other _ _ _ _ c.if-s-from-2.true))
     (λ c. search rules)
-    (λ c. let e = c.before.before in
-    sym (full e ∙ set_stop _ e.before.before.before.before.requires.1 _ _ _ c.if2.false)))
+    (λ c. sym (full c.before.before ∙ set_stop _ c.requires.1 _ _ _ c.if-s-from-2.false)))

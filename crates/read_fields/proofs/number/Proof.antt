@@ -16,58 +16,55 @@ use Rattle.read_fields.proofs.number.Tie as tie
 
 -- where the first byte is a digit
 range :
-    (c : tie.Else2) →
-    let a = c.before.before.before.before.args in
+    (c : tie.Else-b) →
+    let a = c.args in
     let x = get_or a.s.now a.at 0 in
     (48 ≤ x) × (x ≤ 57)
-range c = digit_range _ c.if2.false
+range c = digit_range _ c.if-b.false
 
 first :
-    (c : tie.Else2) →
-    let a = c.before.before.before.before.args in
+    (c : tie.Else-b) →
+    let a = c.args in
     let r = a.first ‥ a.last in
     field_to a.stop (number_in r) (drop a.at a.s.now)
     ≡ field_to a.stop (more_in r (get_or a.s.now a.at 0 - 48)) (drop (a.at + 1) a.s.now)
 first c =
-    let a = c.before.before.before.before.args in
-    rw (here a.s.now a.at (omega (arith, c.before.before.if1.false)))
-    (start_on _ _ _ _ _ (digit_of _ c.if2.false))
+    let a = c.args in
+    rw (here a.s.now a.at (omega (arith, c.if-s-i.false)))
+    (start_on _ _ _ _ _ (digit_of _ c.if-b.false))
 
 -- and the byte after it
 second :
-    (c : tie.Else2) →
-    let a = c.before.before.before.before.args in
+    (c : tie.Else-b) →
+    let a = c.args in
     let s = a.s.now in
     let r = a.first ‥ a.last in
     field_to a.stop (number_in r) (drop a.at s)
     ≡ field_to a.stop (more_in r (get_or s a.at 0 - 48)) (get_or s (a.at + 1) 0 ∷ drop (a.at + 2) s)
 second c =
-    let a = c.before.before.before.before.args in
-    first c ∙ rw (here_on a.s.now a.at 1 (omega (arith, c.before.before.if1.false)))
+    let a = c.args in
+    first c ∙ rw (here_on a.s.now a.at 1 (omega (arith, c.if-s-i.false)))
 
 pub number_spec : {M : Type 1} → statement M
 number_spec =
     tie.close
     (tie.spec
     (λ c. search rules)
-    (λ c. sym (number_short _ _ _ _ c.if1.true))
+    (λ c. sym (number_short _ _ _ _ c.if-s-i.true))
     (λ c. search rules)
-    (λ c. let a = c.before.before.before.before.args in
-    sym (rw (here a.s.now a.at (omega (arith, c.before.before.if1.false)))
-    (start_no _ _ c.before.before.before.before.requires.stops _ _ (digit_none _ c.if2.true))))
+    (λ c. let a = c.args in
+    sym (rw (here a.s.now a.at (omega (arith, c.if-s-i.false)))
+    (start_no _ _ c.requires.stops _ _ (digit_none _ c.if-b.true))))
     (λ c. omega (arith, range c))
     (λ c. omega (arith, range c))
     (λ c. search rules)
     (λ c. search rules)
-    (λ c. let d = c.before.before.before in
-    sym (second d ∙ step_small _ _ _ d.before.before.before.before.requires.stops _ _ c.before.if3.true
-    c.if4.true))
+    (λ c. sym (second c.before.before.before ∙ step_small _ _ _ c.requires.stops _ _ c.if-s-i-2.true
+    c.if-d-first.true))
     (λ c. search rules)
-    (λ c. let d = c.before.before.before in
-    sym (second d ∙ step_stop _ _ _ d.before.before.before.before.requires.stops _ _ c.before.if3.true
-    c.if4.false (omega (arith, range d))))
-    (λ c. sym (second c.before.before.before ∙ step_zero _ _ _ _ _ c.before.if3.false c.if5.true))
+    (λ c. sym (second c.before.before.before ∙ step_stop _ _ _ c.requires.stops _ _ c.if-s-i-2.true
+    c.if-d-first.false (omega (arith, range c.before.before.before))))
+    (λ c. sym (second c.before.before.before ∙ step_zero _ _ _ _ _ c.if-s-i-2.false c.if-d-eq0.true))
     (λ c. search rules)
-    (λ c κs. let d = c.before.before.before in
-    (d.before.before.before.before.requires, omega (arith, c.if5.false), omega (arith, range d)))
+    (λ c κs. (c.requires, omega (arith, c.if-d-eq0.false), omega (arith, range c.before.before.before)))
     (λ c. c.more_digits.ensures ∙ sym (first c.before.before.before.before)))

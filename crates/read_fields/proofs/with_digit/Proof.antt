@@ -10,14 +10,14 @@ pub with_digit_spec : {M : Type 1} → statement M
 with_digit_spec =
     tie.close
     (tie.spec
-    (λ c. hex_none _ c.before.if1.true c.if2.true)
+    (λ c. hex_none _ c.if-b.true c.if-b-2.true)
     (λ c. search rules)
-    (λ c. omega (arith, letter_range c.before.before.args.b c.if2.false))
+    (λ c. omega (arith, letter_range c.args.b c.if-b-2.false))
     (λ c. search rules)
-    (λ c. omega (arith, letter_range c.before.before.args.b c.if2.false, c.before.before.requires))
-    (λ c. hex_letter _ _ c.if2.false)
+    (λ c. omega (arith, letter_range c.args.b c.if-b-2.false, c.requires))
+    (λ c. hex_letter _ _ c.if-b-2.false)
     (λ c. search rules)
-    (λ c. omega (arith, digit_range c.before.args.b c.if1.false))
+    (λ c. omega (arith, digit_range c.args.b c.if-b.false))
     (λ c. search rules)
-    (λ c. omega (arith, digit_range c.before.args.b c.if1.false, c.before.requires))
-    (λ c. hex_number _ _ c.if1.false))
+    (λ c. omega (arith, digit_range c.args.b c.if-b.false, c.requires))
+    (λ c. hex_number _ _ c.if-b.false))

@@ -31,7 +31,7 @@ loop-again c =
     let l = d.before.before.before in
     next_reading l.before.loop.invariant _ _ _ _ _ l.loop-test.true
     l.before.before.before.before.before.requires.few
-    (seen (step_line_of _) d.before.before.Read-step.ensures d.line.given.1) c.put_step.ensures
+    (seen (step_line_of _) d.before.before.read-step.ensures d.line.given.1) c.put_step.ensures
     e.before.reversed-count.ensures e.broken-count.ensures
     (search rules)
 
@@ -76,7 +76,7 @@ read_steps_spec =
     (λ c. search rules)
     (λ c. let l = c.before.before.before in
     none_told (no_step_holds l.before.loop.invariant l.loop-test.true
-    (seen (step_line_of _) c.before.before.Read-step.ensures c.enum_told.given.1)))
+    (seen (step_line_of _) c.before.before.read-step.ensures c.enum_told.given.1)))
     (λ c κs. search rules)
     (λ c. search rules)
     (λ c κs. search rules)

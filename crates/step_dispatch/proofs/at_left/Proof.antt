@@ -15,7 +15,7 @@ use Rattle.step_dispatch.proofs.at_left.Tie as tie
 returns : tie.Need-returns
 returns c =
     let s = c.before.before in
-    let e = s.step_at_holds.ensures in
+    let e = s.step_at.ensures in
     sym (rw (← e) (left_refused _ _ _ _ _ _ (fails c.before.has.ensures c.if1.true)
     (left_row (sym e) s.before.requires.1)))
 
@@ -34,14 +34,14 @@ abbrev read : tie.After-remove → tie.After-step-at
 read b = b.before.before.before.before.before
 
 -- its label is in D
-inside : (b : tie.After-remove) → member (read b).before.args.q.linear (read b).step_at_holds.result.label ≡ true
+inside : (b : tie.After-remove) → member (read b).before.args.q.linear (read b).step_at.result.label ≡ true
 inside b = holds b.before.before.before.before.has.ensures b.before.before.before.if1.false
 
 returns_7 : tie.Need-returns-7
 unfolding plan_of affirmed
 returns_7 c =
     let b = c.before.before.before.before in
-    rw (read_as (read b).step_at_holds.ensures c.before.before.match.keys6, c.enum_told.given.1)
+    rw (read_as (read b).step_at.ensures c.before.before.match.keys6, c.enum_told.given.1)
 
 returns_8 : tie.Need-returns-8
 unfolding plan_of affirmed
@@ -49,7 +49,7 @@ returns_8 c =
     let m = c.before.before.before.before.before in
     let b = m.before.before in
     rw (
-      read_as (read b).step_at_holds.ensures m.match.keys6,
+      read_as (read b).step_at.ensures m.match.keys6,
       c.before.before.before.g.given.1,
       left_worded,
       inside b,
@@ -67,10 +67,10 @@ unfolding plan_of
 returns_11 c =
     let m = c.before.before.before in
     let b = m.before.before in
-    rw (read_as (read b).step_at_holds.ensures m.match.keys9, left_worded, inside b)
+    rw (read_as (read b).step_at.ensures m.match.keys9, left_worded, inside b)
     (simp (
       c.al.ensures,
-      c.before.before.step-at2.ensures ∙ sym (read b).step_at_holds.ensures,
+      c.before.before.step-at2.ensures ∙ sym (read b).step_at.ensures,
       b.remove.ensures,
       c.before.row-at9.ensures,
       b.before.formula-of.ensures,
@@ -82,11 +82,11 @@ unfolding plan_of
 returns_12 c =
     let m = c.before.before.before.before in
     let b = m.before.before in
-    rw (read_as (read b).step_at_holds.ensures m.match.keys10, left_worded, inside b)
+    rw (read_as (read b).step_at.ensures m.match.keys10, left_worded, inside b)
     (simp (
       c.ll.ensures,
       c.before.share.ensures,
-      c.before.before.before.step-at3.ensures ∙ sym (read b).step_at_holds.ensures,
+      c.before.before.before.step-at3.ensures ∙ sym (read b).step_at.ensures,
       b.remove.ensures,
       c.before.before.row-at10.ensures,
       b.before.formula-of.ensures,
@@ -98,7 +98,7 @@ unfolding plan_of
 returns_13 c =
     let m = c.before.before.before in
     let b = m.before.before in
-    let e = (read b).step_at_holds.ensures in
+    let e = (read b).step_at.ensures in
     rw (read_last e (left_row (sym e) (read b).before.requires.1) m.match.rest, left_worded, inside b)
     (simp (
       c.ul.ensures,
@@ -124,7 +124,7 @@ at_left_spec =
     (λ c κs. search rules) (λ c κs. search rules) (λ c κs. search rules) (λ c κs. search rules)
     (λ c κs. search rules) (λ c κs. search rules)
     (λ c. let b = c.before.before.before.before in
-    rw (read_as (read b).step_at_holds.ensures c.before.before.match.keys1, left_worded, inside b)
+    rw (read_as (read b).step_at.ensures c.before.before.match.keys1, left_worded, inside b)
     (simp (
       c.ol.ensures,
       b.remove.ensures,
@@ -133,7 +133,7 @@ at_left_spec =
       b.before.before.label_at.ensures,
     )))
     (λ c. let b = c.before.before.before.before in
-    rw (read_as (read b).step_at_holds.ensures c.before.before.match.keys2, left_worded, inside b)
+    rw (read_as (read b).step_at.ensures c.before.before.match.keys2, left_worded, inside b)
     (simp (
       c.w1.ensures,
       b.remove.ensures,
@@ -142,7 +142,7 @@ at_left_spec =
       b.before.before.label_at.ensures,
     )))
     (λ c. let b = c.before.before.before.before in
-    rw (read_as (read b).step_at_holds.ensures c.before.before.match.keys3, left_worded, inside b)
+    rw (read_as (read b).step_at.ensures c.before.before.match.keys3, left_worded, inside b)
     (simp (
       c.w2.ensures,
       b.remove.ensures,
@@ -151,7 +151,7 @@ at_left_spec =
       b.before.before.label_at.ensures,
     )))
     (λ c. let b = c.before.before.before.before in
-    rw (read_as (read b).step_at_holds.ensures c.before.before.match.keys4, left_worded, inside b)
+    rw (read_as (read b).step_at.ensures c.before.before.match.keys4, left_worded, inside b)
     (simp (
       c.bl.ensures,
       b.remove.ensures,
@@ -160,7 +160,7 @@ at_left_spec =
       b.before.before.label_at.ensures,
     )))
     (λ c. let b = c.before.before.before.before in
-    rw (read_as (read b).step_at_holds.ensures c.before.before.match.keys5, left_worded, inside b)
+    rw (read_as (read b).step_at.ensures c.before.before.match.keys5, left_worded, inside b)
     (simp (
       c.hl.ensures,
       b.remove.ensures,
@@ -170,7 +170,7 @@ at_left_spec =
     )))
     returns_7 returns_8
     (λ c. let b = c.before.before.before.before in
-    rw (read_as (read b).step_at_holds.ensures c.before.before.match.keys7, left_worded, inside b)
+    rw (read_as (read b).step_at.ensures c.before.before.match.keys7, left_worded, inside b)
     (simp (
       c.tl.ensures,
       b.remove.ensures,
@@ -179,7 +179,7 @@ at_left_spec =
       b.before.before.label_at.ensures,
     )))
     (λ c. let b = c.before.before.before.before in
-    rw (read_as (read b).step_at_holds.ensures c.before.before.match.keys8, left_worded, inside b)
+    rw (read_as (read b).step_at.ensures c.before.before.match.keys8, left_worded, inside b)
     (simp (
       c.pl.ensures,
       b.remove.ensures,

@@ -13,9 +13,9 @@ label_past c =
     let a = c.before.before in
     let s = a.before in
     let w = s.before.before.requires.1 in
-    let v = right_row (sym s.step_at_holds.ensures) w.0 w.1 in
+    let v = right_row (sym s.step_at.ensures) w.0 w.1 in
     let e = last_right _ v.0 v.1 a.match.rest in
-    sym (rw (read_as s.step_at_holds.ensures e)
+    sym (rw (read_as s.step_at.ensures e)
     (ax_refused _ _ _ _ _ _ _ (omega (arith, s.before.before.well-formed.1.1.1.1.0)) c.if1.true))
 
 tr_returns : tie.Need-returns-10
@@ -23,11 +23,11 @@ unfolding plan_of
 tr_returns c =
     let a = c.before.before.before.before in
     let s = a.before in
-    rw (read_as s.step_at_holds.ensures a.match.keys9, right_worded)
+    rw (read_as s.step_at.ensures a.match.keys9, right_worded)
     (c.tr.ensures
     ∙ simp (
       c.before.share.ensures,
-      c.before.before.before.step-at2.ensures ∙ sym s.step_at_holds.ensures,
+      c.before.before.before.step-at2.ensures ∙ sym s.step_at.ensures,
       c.before.before.row-at9.ensures,
       s.before.formula-of.ensures,
     ))
@@ -38,9 +38,9 @@ ax_returns c =
     let a = c.before.before.before.before.before.before.before in
     let s = a.before in
     let w = s.before.before.requires.1 in
-    let v = right_row (sym s.step_at_holds.ensures) w.0 w.1 in
+    let v = right_row (sym s.step_at.ensures) w.0 w.1 in
     let e = last_right _ v.0 v.1 a.match.rest in
-    rw (read_as s.step_at_holds.ensures e, atomic_worded _ _ _ _ _ _ _ s.step_at_holds.result.label)
+    rw (read_as s.step_at.ensures e, atomic_worded _ _ _ _ _ _ _ s.step_at.result.label)
     (c.ax.ensures
     ∙ simp (
       c.before.row-at11.ensures,
@@ -64,27 +64,27 @@ at_right_spec =
     label_past (λ c κs. search rules)
     (λ c κs. search rules) (λ c κs. search rules) (λ c κs. search rules) (λ c κs. search rules)
     (λ c. let s = c.before.before.before in
-    rw (read_as s.step_at_holds.ensures c.before.before.match.keys1, right_worded)
+    rw (read_as s.step_at.ensures c.before.before.match.keys1, right_worded)
     (c.or.ensures ∙ simp (c.before.row_at.ensures, s.before.formula-of.ensures)))
     (λ c. let s = c.before.before.before in
-    rw (read_as s.step_at_holds.ensures c.before.before.match.keys2, right_worded)
+    rw (read_as s.step_at.ensures c.before.before.match.keys2, right_worded)
     (c.gr.ensures ∙ simp (c.before.row-at2.ensures, s.before.formula-of.ensures)))
     (λ c. let s = c.before.before.before in
-    rw (read_as s.step_at_holds.ensures c.before.before.match.keys3, right_worded)
+    rw (read_as s.step_at.ensures c.before.before.match.keys3, right_worded)
     (c.p1.ensures ∙ simp (c.before.row-at3.ensures, s.before.formula-of.ensures)))
     (λ c. let s = c.before.before.before in
-    rw (read_as s.step_at_holds.ensures c.before.before.match.keys4, right_worded)
+    rw (read_as s.step_at.ensures c.before.before.match.keys4, right_worded)
     (c.p2.ensures ∙ simp (c.before.row-at4.ensures, s.before.formula-of.ensures)))
     (λ c. let s = c.before.before.before in
-    rw (read_as s.step_at_holds.ensures c.before.before.match.keys5, right_worded)
+    rw (read_as s.step_at.ensures c.before.before.match.keys5, right_worded)
     (c.br.ensures ∙ simp (c.before.row-at5.ensures, s.before.formula-of.ensures)))
     (λ c. let s = c.before.before.before in
-    rw (read_as s.step_at_holds.ensures c.before.before.match.keys6, right_worded)
+    rw (read_as s.step_at.ensures c.before.before.match.keys6, right_worded)
     (c.hr.ensures ∙ simp (c.before.row-at6.ensures, s.before.formula-of.ensures)))
     (λ c. let s = c.before.before.before in
-    rw (read_as s.step_at_holds.ensures c.before.before.match.keys7, right_worded)
+    rw (read_as s.step_at.ensures c.before.before.match.keys7, right_worded)
     (c.sr.ensures ∙ simp (c.before.row-at7.ensures, s.before.formula-of.ensures)))
     (λ c. let s = c.before.before.before in
-    rw (read_as s.step_at_holds.ensures c.before.before.match.keys8, right_worded)
+    rw (read_as s.step_at.ensures c.before.before.match.keys8, right_worded)
     (c.wr.ensures ∙ simp (c.before.row-at8.ensures, s.before.formula-of.ensures)))
     tr_returns ax_returns)

@@ -5,7 +5,7 @@ use Rattle.step_plans.proofs.arms.Statement.{statement}
 use Rattle.step_plans.proofs.arms.Tie as tie
 
 returns : tie.Need-returns
-returns c = c.when.ensures ∙ simp (c.before.assuming2.ensures, c.before.before.assuming.ensures)
+returns c = c.when.ensures ∙ simp (c.before.assuming-2.ensures, c.before.before.assuming.ensures)
 
 pub arms_spec : {M : Type 1} → statement M
 arms_spec =

@@ -5,7 +5,7 @@ use Rattle.step_plans.proofs.both.Statement.{statement}
 use Rattle.step_plans.proofs.both.Tie as tie
 
 returns : tie.Need-returns
-returns c = c.one.ensures ∙ simp (c.before.over2.ensures, c.before.before.over.ensures)
+returns c = c.one.ensures ∙ simp (c.before.over-2.ensures, c.before.before.over.ensures)
 
 pub both_spec : {M : Type 1} → statement M
 both_spec =

@@ -5,7 +5,7 @@ use Rattle.step_plans.proofs.goals.Statement.{statement}
 use Rattle.step_plans.proofs.goals.Tie as tie
 
 returns : tie.Need-returns
-returns c = c.when.ensures ∙ simp (c.before.proving2.ensures, c.before.before.proving.ensures)
+returns c = c.when.ensures ∙ simp (c.before.proving-2.ensures, c.before.before.proving.ensures)
 
 pub goals_spec : {M : Type 1} → statement M
 goals_spec =

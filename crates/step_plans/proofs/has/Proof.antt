@@ -6,10 +6,10 @@ use borrow.Author.Rules.{rules}
 use Rattle.step_plans.proofs.has.Statement.{statement}
 use Rattle.step_plans.proofs.has.Tie as tie
 
-returns : tie.Need-returns
+returns : tie.Need-returns-then-k-ge-LABELS
 returns c = sym (no_member c.before.args.d c.before.args.k (omega arith) (omega arith))
 
-returns_2 : tie.Need-returns-2
+returns_2 : tie.Need-returns
 returns_2 c = search rules
 
 pub has_spec : {M : Type 1} → statement M

@@ -9,8 +9,8 @@ use Rattle.store.proofs.balanced_at.Tie as tie
 
 returns : tie.Need-returns
 returns c =
-    let l = c.before.args.store.now in
-    ap (λ k. eqb k 1) (c.balanced.ensures ∙ c.before.requires.0.balances _ (omega (arith, lines_length l))) ∙ bit_one _
+    let l = c.args.store.now in
+    ap (λ k. eqb k 1) (c.balanced.ensures ∙ c.requires.0.balances _ (omega (arith, lines_length l))) ∙ bit_one _
 
 pub balanced_at_spec : {M : Type 1} → statement M
 balanced_at_spec = tie.close (tie.spec (λ c κs. search rules) returns)

@@ -8,8 +8,8 @@ use Rattle.store.proofs.gives_at.Tie as tie
 
 returns : tie.Need-returns
 returns c =
-    let l = c.before.args.store.now in
-    c.gives.ensures ∙ c.before.requires.0.givens _ (omega (arith, lines_length l))
+    let l = c.args.store.now in
+    c.gives.ensures ∙ c.requires.0.givens _ (omega (arith, lines_length l))
 
 pub gives_at_spec : {M : Type 1} → statement M
 gives_at_spec = tie.close (tie.spec (λ c κs. search rules) returns)

@@ -6,17 +6,16 @@ use Rattle.store.proofs.Views.{lines_length}
 use Rattle.store.proofs.line_at.Statement.{statement}
 use Rattle.store.proofs.line_at.Tie as tie
 
-line-row-requires : tie.Need-line-row-requires
+line-row-requires : tie.Need-line_row-requires
 line-row-requires c κs =
     omega (arith, c.requires.1, lines_length c.args.store.now, c.requires.0.lines)
 
 returns : tie.Need-returns
 returns c =
-    let s = c.before in
-    let l = s.args.store.now in
-    c.Line-row.ensures
-    ∙ sym (row_below l _ (omega (arith, s.requires.1, lines_length l))
-    (omega (arith, s.requires.1, lines_length l, s.requires.0.lines)))
+    let l = c.args.store.now in
+    c.line_row.ensures
+    ∙ sym (row_below l _ (omega (arith, c.requires.1, lines_length l))
+    (omega (arith, c.requires.1, lines_length l, c.requires.0.lines)))
 
 pub line_at_spec : {M : Type 1} → statement M
 line_at_spec = tie.close (tie.spec line-row-requires returns)

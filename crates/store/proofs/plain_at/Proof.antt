@@ -9,8 +9,8 @@ use Rattle.store.proofs.plain_at.Tie as tie
 
 returns : tie.Need-returns
 returns c =
-    let l = c.before.args.store.now in
-    ap (λ k. eqb k 1) (c.plain.ensures ∙ c.before.requires.0.plains _ (omega (arith, lines_length l))) ∙ bit_one _
+    let l = c.args.store.now in
+    ap (λ k. eqb k 1) (c.plain.ensures ∙ c.requires.0.plains _ (omega (arith, lines_length l))) ∙ bit_one _
 
 pub plain_at_spec : {M : Type 1} → statement M
 plain_at_spec = tie.close (tie.spec (λ c κs. search rules) returns)

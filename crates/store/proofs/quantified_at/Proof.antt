@@ -9,8 +9,8 @@ use Rattle.store.proofs.quantified_at.Tie as tie
 
 returns : tie.Need-returns
 returns c =
-    let l = c.before.args.store.now in
-    ap (λ k. eqb k 1) (c.quantified.ensures ∙ c.before.requires.0.quantifieds _ (omega (arith, lines_length l)))
+    let l = c.args.store.now in
+    ap (λ k. eqb k 1) (c.quantified.ensures ∙ c.requires.0.quantifieds _ (omega (arith, lines_length l)))
     ∙ bit_one _
 
 pub quantified_at_spec : {M : Type 1} → statement M

@@ -8,22 +8,22 @@ use Rattle.store_cells.proofs.CellWrites.{row_below, row_past, row_wide}
 use Rattle.store.proofs.row_at.Statement.{statement}
 use Rattle.store.proofs.row_at.Tie as tie
 
-returns : tie.Need-returns
-returns c = c.one_row.ensures ∙ sym (row_wide _ _ c.before.if1.true)
+returns : tie.Need-returns-then-number-ge-MAX_FORMULAS
+returns c = c.one_row.ensures ∙ sym (row_wide _ _ c.if-number-ge-MAX_FORMULAS.true)
 
-returns_2 : tie.Need-returns-2
+returns_2 : tie.Need-returns-then-line_count-number
 returns_2 c =
-    let l = c.before.before.before.before.args.store.now in
-    let n = c.before.before.before.before.args.number in
-    let h : line_count l ≤ n = omega (arith, c.before.before.line-count.ensures) in
-    c.one-row2.ensures ∙ sym (row_past l n h)
+    let l = c.args.store.now in
+    let n = c.args.number in
+    let h : line_count l ≤ n = omega (arith, c.line_count.ensures) in
+    c.one_row-then-line_count-number.ensures ∙ sym (row_past l n h)
 
-returns_3 : tie.Need-returns-3
+returns_3 : tie.Need-returns
 returns_3 c =
-    let l = c.before.before.before.before.args.store.now in
-    let n = c.before.before.before.before.args.number in
-    let h : n < line_count l = omega (arith, c.before.before.line-count.ensures) in
-    c.Line-row.ensures ∙ sym (row_below l n h c.before.before.before.if1.false)
+    let l = c.args.store.now in
+    let n = c.args.number in
+    let h : n < line_count l = omega (arith, c.line_count.ensures) in
+    c.line_row.ensures ∙ sym (row_below l n h c.if-number-ge-MAX_FORMULAS.false)
 
 pub row_at_spec : {M : Type 1} → statement M
 row_at_spec = tie.close (tie.spec (λ c κs. search rules) returns (λ c κs. search rules) (λ c κs. search rules) returns_2

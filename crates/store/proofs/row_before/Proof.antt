@@ -10,7 +10,7 @@ link-requires c κs = omega (arith, c.requires.2, c.requires.0.ordered.few)
 
 returns : tie.Need-returns
 returns c =
-    let p = c.before.requires in
+    let p = c.requires in
     c.link.ensures ∙ chain_before _ _ _ p.0.ordered.chained p.1 p.2
 
 pub row_before_spec : {M : Type 1} → statement M

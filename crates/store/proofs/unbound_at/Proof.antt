@@ -9,8 +9,8 @@ use Rattle.store.proofs.unbound_at.Tie as tie
 
 returns : tie.Need-returns
 returns c =
-    let l = c.before.args.store.now in
-    ap (λ k. eqb k 1) (c.unbound.ensures ∙ c.before.requires.0.unbounds _ (omega (arith, lines_length l))) ∙ bit_one _
+    let l = c.args.store.now in
+    ap (λ k. eqb k 1) (c.unbound.ensures ∙ c.requires.0.unbounds _ (omega (arith, lines_length l))) ∙ bit_one _
 
 pub unbound_at_spec : {M : Type 1} → statement M
 unbound_at_spec = tie.close (tie.spec (λ c κs. search rules) returns)

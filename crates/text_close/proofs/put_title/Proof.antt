@@ -18,12 +18,12 @@ put_title_spec =
     let e = c.before in
     let live = e.before in
     room_as
-    (sym (title_as _ e.edition-of.ensures live.before.before.next_serial_holds.ensures
+    (sym (title_as _ e.edition-of.ensures live.before.before.next_serial.ensures
     live.before.formula-count.ensures live.live-count.ensures))
     live.before.before.before.before.requires.1)
     (λ c. search rules)
     (λ c.
     let e = c.before.before.before.before in
     let live = e.before in
-    wrote_as (title_as _ e.edition-of.ensures live.before.before.next_serial_holds.ensures
+    wrote_as (title_as _ e.edition-of.ensures live.before.before.next_serial.ensures
     live.before.formula-count.ensures live.live-count.ensures) c.before.before.put-title.ensures))

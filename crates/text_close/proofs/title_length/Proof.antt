@@ -18,5 +18,5 @@ title_length_spec =
     let e = c.before in
     let live = e.before in
     measured_as
-    (title_as _ e.edition-of.ensures live.before.before.next_serial_holds.ensures
+    (title_as _ e.edition-of.ensures live.before.before.next_serial.ensures
     live.before.formula-count.ensures live.live-count.ensures) c.title-length.ensures))

@@ -7,7 +7,7 @@ use Rattle.text_open.proofs.take_credential.Tie as tie
 
 returns : tie.Need-returns
 returns c = (
-  not_rising _ _ _ (omega (arith, c.if1.true, c.before.before.next_serial_holds.ensures)),
+  not_rising _ _ _ (omega (arith, c.if1.true, c.before.before.next_serial.ensures)),
   c.before.before.before.before.requires.raisable,
 )
 
@@ -19,7 +19,7 @@ set-next-requires : tie.Need-set-next-requires
 set-next-requires c κs =
     let d = c.before.before.before in
     serial_raisable d.before.before.before.before.requires
-    (omega (arith, d.if1.false, d.before.before.next_serial_holds.ensures))
+    (omega (arith, d.if1.false, d.before.before.next_serial.ensures))
 
 pub take_credential_spec : {M : Type 1} → statement M
 take_credential_spec =
@@ -35,5 +35,5 @@ take_credential_spec =
     let e = d.before.before in
     let s = e.before.before.before.before in
     credential_taken _ s.args.next c.accepted.result s.requires
-    (omega (arith, e.if1.false, e.before.before.next_serial_holds.ensures)) (omega (arith, d.if2.false))
+    (omega (arith, e.if1.false, e.before.before.next_serial.ensures)) (omega (arith, d.if2.false))
     c.before.before.before.before.set_next.ensures c.before.issue.ensures c.accepted.ensures))

@@ -22,7 +22,7 @@ returns : tie.Need-returns invariant-loop decreases_loop
 returns c =
     let l = c.before.before.before in (
       no_credential l.before.loop.invariant l.loop-test.true
-          (seen (credential_from _) c.before.before.credential_line_holds.ensures c.enum_told.given.1),
+          (seen (credential_from _) c.before.before.credential_line.ensures c.enum_told.given.1),
       l.before.loop.invariant.asked.raisable,
     )
 
@@ -39,7 +39,7 @@ take_credentials_spec =
     returns
     (λ c κs. let l = c.before.before.before.before.before in
     credential_asked l.before.loop.invariant l.loop-test.true _
-    (seen (credential_from _) c.before.before.before.before.credential_line_holds.ensures
+    (seen (credential_from _) c.before.before.before.before.credential_line.ensures
     c.before.before.f.given.1))
     (λ c. search rules)
     (λ c. search rules)
@@ -47,7 +47,7 @@ take_credentials_spec =
     let v = c.before.before.take-credential.ensures in (
       bad_credential_holds l.before.loop.invariant l.loop-test.true _
           (seen (credential_from _)
-          c.before.before.before.before.before.before.before.credential_line_holds.ensures
+          c.before.before.before.before.before.before.before.credential_line.ensures
           c.before.before.before.before.before.f.given.1)
           (seen (left_of _) v.0 c.enum-told3.given.1),
       v.1,
@@ -57,7 +57,7 @@ take_credentials_spec =
     (λ c. let l = c.before.before.before.before.before.before.before.before in
     let v = c.before.before.take-credential.ensures in
     give_next l.before.loop.invariant l.loop-test.true _ _
-    (seen (credential_from _) c.before.before.before.before.before.before.before.credential_line_holds.ensures
+    (seen (credential_from _) c.before.before.before.before.before.before.before.credential_line.ensures
     c.before.before.before.before.before.f.given.1)
     (seen (left_of _) v.0 c.enum-told2.given.1) v.1)
     (λ c. let h = c.before.loop.invariant in (give_end h c.loop-test.false, h.asked.raisable)))

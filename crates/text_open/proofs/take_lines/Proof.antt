@@ -23,7 +23,7 @@ returns : tie.Need-returns invariant-loop decreases_loop
 returns c =
     let l = c.before.before.before in (
       no_line l.before.loop.invariant l.loop-test.true
-          (row_none _ (seen (formula_of _) c.before.before.formula_line_holds.ensures c.enum_told.given.1)),
+          (row_none _ (seen (formula_of _) c.before.before.formula_line.ensures c.enum_told.given.1)),
       l.before.loop.invariant.asked.good,
     )
 
@@ -40,7 +40,7 @@ take_lines_spec =
     returns
     (λ c κs. let l = c.before.before.before.before.before in
     line_asked l.before.loop.invariant l.loop-test.true _
-    (row_read _ (seen (formula_of _) c.before.before.before.before.formula_line_holds.ensures
+    (row_read _ (seen (formula_of _) c.before.before.before.before.formula_line.ensures
     c.before.before.f.given.1)))
     (λ c. search rules)
     (λ c. search rules)
@@ -48,7 +48,7 @@ take_lines_spec =
     let v = c.before.before.take-line.ensures in (
       bad_line l.before.loop.invariant l.loop-test.true _
           (line_read _ (seen (formula_of _)
-          c.before.before.before.before.before.before.before.formula_line_holds.ensures
+          c.before.before.before.before.before.before.before.formula_line.ensures
           c.before.before.before.before.before.f.given.1))
           (seen (left_of _) v.0 c.enum-told3.given.1),
       v.1,
@@ -58,7 +58,7 @@ take_lines_spec =
     (λ c. let l = c.before.before.before.before.before.before.before.before in
     let v = c.before.before.take-line.ensures in
     take_next l.before.loop.invariant l.loop-test.true _ _
-    (line_read _ (seen (formula_of _) c.before.before.before.before.before.before.before.formula_line_holds.ensures
+    (line_read _ (seen (formula_of _) c.before.before.before.before.before.before.before.formula_line.ensures
     c.before.before.before.before.before.f.given.1))
     (seen (left_of _) v.0 c.enum-told2.given.1) v.1)
     (λ c. let h = c.before.loop.invariant in (take_end h c.loop-test.false, h.asked.good)))

@@ -29,7 +29,7 @@ turn : (c : tie.After-holder-letter invariant-loop decreases_loop)
     c.before.before.before.before.before.before.before.before.args.s.now)
 turn c =
     let f = c.before.before in
-    row_line _ (seen (formula_of _) f.before.before.formula_line_holds.ensures f.line.given.1)
+    row_line _ (seen (formula_of _) f.before.before.formula_line.ensures f.line.given.1)
 
 told : (c : tie.After-holder-letter invariant-loop decreases_loop) → holder_line (turn c).line ≡ c.holder-letter.result
 unfolding holder_line
@@ -39,7 +39,7 @@ returns : tie.Need-returns invariant-loop decreases_loop
 returns c =
     let l = c.before.before.before in
     sym (l.before.loop.invariant ∙ holders_broken _ _ _ l.loop-test.true
-    (row_none _ (seen (formula_of _) c.before.before.formula_line_holds.ensures c.enum_told.given.1)))
+    (row_none _ (seen (formula_of _) c.before.before.formula_line.ensures c.enum_told.given.1)))
 
 returns_2 : tie.Need-returns-2 invariant-loop decreases_loop
 returns_2 c =

@@ -21,7 +21,7 @@ returns_2 : tie.Need-returns-2 invariant-loop decreases_loop
 returns_2 c =
     let l = c.before.before.before.before.before.before in
     sym (l.before.loop.invariant ∙ rising_falls _ _ _ _ l.loop-test.true
-    (seen (credential_from _) c.before.before.before.before.before.credential_line_holds.ensures
+    (seen (credential_from _) c.before.before.before.before.before.credential_line.ensures
     c.before.before.before.f.given.1) c.if1.true)
 
 pub past_credentials_spec : {M : Type 1} → statement M
@@ -36,12 +36,12 @@ past_credentials_spec =
     (λ c. search rules)
     (λ c. let l = c.before.before.before in
     sym (l.before.loop.invariant ∙ rising_broken _ _ _ _ l.loop-test.true
-    (seen (credential_from _) c.before.before.credential_line_holds.ensures c.enum_told.given.1)))
+    (seen (credential_from _) c.before.before.credential_line.ensures c.enum_told.given.1)))
     returns_2
     (λ c. search rules)
     (λ c. search rules)
     (λ c. let l = c.before.before.before.before.before.before in
     l.before.loop.invariant ∙ rising_turn _ _ _ _ l.loop-test.true
-    (seen (credential_from _) c.before.before.before.before.before.credential_line_holds.ensures
+    (seen (credential_from _) c.before.before.before.before.before.credential_line.ensures
     c.before.before.before.f.given.1) (omega (arith, c.if1.false)))
     (λ c. sym (c.before.loop.invariant ∙ rising_end _ _ _ _ c.loop-test.false)))

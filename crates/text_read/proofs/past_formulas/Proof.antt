@@ -23,7 +23,7 @@ returns : tie.Need-returns invariant-loop decreases_loop
 returns c =
     let l = c.before.before.before in
     sym (l.before.loop.invariant ∙ past_broken _ _ _ _ l.loop-test.true
-    (row_none _ (seen (formula_of _) c.before.before.formula_line_holds.ensures c.enum_told.given.1)))
+    (row_none _ (seen (formula_of _) c.before.before.formula_line.ensures c.enum_told.given.1)))
 
 pub past_formulas_spec : {M : Type 1} → statement M
 past_formulas_spec =
@@ -40,5 +40,5 @@ past_formulas_spec =
     (λ c. search rules)
     (λ c. let l = c.before.before.before.before in
     l.before.loop.invariant ∙ past_turn _ _ _ _ l.loop-test.true
-    (row_line _ (seen (formula_of _) c.before.before.before.formula_line_holds.ensures c.before.f.given.1)).is)
+    (row_line _ (seen (formula_of _) c.before.before.before.formula_line.ensures c.before.f.given.1)).is)
     (λ c. sym (c.before.loop.invariant ∙ past_end _ _ _ _ c.loop-test.false)))

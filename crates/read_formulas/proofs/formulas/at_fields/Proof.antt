@@ -7,14 +7,12 @@ use Rattle.read_fields.proofs.Then.{seen}
 use Rattle.read_formulas.proofs.formulas.at_fields.Statement.{statement}
 use Rattle.read_formulas.proofs.formulas.at_fields.Tie as tie
 
-returns_3 : tie.Need-returns-3
+returns_3 : tie.Need-returns
 unfolding at_fields and_then
 returns_3 c =
-    let b = c.before in
-    let d = b.before.before.before.before in
     simp (
-      seen (decimal_of _) d.before.before.before.number.ensures d.before.f.given.1,
-      seen (span_of _) b.before.before.before.interval.ensures b.before.g.given.1,
+      seen (decimal_of _) c.number-f.ensures c.in-Number.is,
+      seen (span_of _) c.interval-g.ensures c.in-Minutes.is,
       c.none.ensures,
     )
 
@@ -26,14 +24,13 @@ at_fields_spec =
     (λ c κs. search rules)
     (λ c. search rules)
     (λ c. search rules)
-    (λ c. simp (seen (decimal_of _) c.before.before.number.ensures c.enum_told.given.1))
+    (λ c. simp (seen (decimal_of _) c.number-f.ensures c.in_default.is))
     (λ c κs. search rules)
     (λ c. search rules)
     (λ c. search rules)
-    (λ c. let d = c.before.before.before.before in
-    simp (
-      seen (decimal_of _) d.before.before.number.ensures d.f.given.1,
-      seen (span_of _) c.before.before.interval.ensures c.enum-told2.given.1,
+    (λ c. simp (
+      seen (decimal_of _) c.number-f.ensures c.in-Number.is,
+      seen (span_of _) c.interval-g.ensures c.in_default-g.is,
     ))
     (λ c κs. search rules)
     returns_3)

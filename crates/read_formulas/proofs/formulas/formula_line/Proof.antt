@@ -17,19 +17,17 @@ use Rattle.read_formulas.proofs.FormulaLetters.{letter_other, row_told}
 use Rattle.read_formulas.proofs.formulas.formula_line.Statement.{statement}
 use Rattle.read_formulas.proofs.formulas.formula_line.Tie as tie
 
-returns_5 : tie.Need-returns-5
+returns_5 : tie.Need-returns-in-97
 unfolding rowed formula_line_with choose named same_bytes bytes part parts and_then
 returns_5 c =
-    let d = c.before.before.before.before in
-    numbers_line _ _ d.before.before.if1.false (code "a") predicate.last session.last Line.atom
-    c.before.match.keys1 c.before.before.if4.false (λ b. refl) (λ i j. refl) c.two_fields.ensures
+    numbers_line _ _ c.if-s-i.false (code "a") predicate.last session.last Line.atom
+    c.in-97.is c.if-stop-ne44.false (λ b. refl) (λ i j. refl) c.two_fields.ensures
 
-returns_13 : tie.Need-returns-13
+returns_13 : tie.Need-returns-in-117
 unfolding rowed formula_line_with choose named same_bytes bytes part parts and_then
 returns_13 c =
-    let d = c.before.before.before.before in
-    numbers_line _ _ d.before.before.if1.false (code "u") formula_number.last formula_number.last Line.implies
-    c.before.match.keys9 c.before.before.if4.false (λ b. refl) (λ i j. refl) c.two-fields6.ensures
+    numbers_line _ _ c.if-s-i.false (code "u") formula_number.last formula_number.last Line.implies
+    c.in-117.is c.if-stop-ne44.false (λ b. refl) (λ i j. refl) c.two_fields-in-117.ensures
 
 pub formula_line_spec : {M : Type 1} → statement M
 unfolding rowed formula_line_with choose named same_bytes bytes part parts and_then
@@ -37,20 +35,17 @@ formula_line_spec =
     tie.close
     (tie.spec
     (λ c. search rules)
-    (λ c. sym (ap rowed (letter_short _ _ c.if1.true)))
+    (λ c. sym (ap rowed (letter_short _ _ c.if-s-i.true)))
     (λ c. search rules)
     (λ c. search rules)
     (λ c. search rules)
-    (λ c. omega (arith, c.before.shared-slice-known2.given c.before.before.before.before.args.at))
+    (λ c. omega (arith, c.shared_slice_known-2-1.given c.args.at))
     (λ c. search rules)
     (λ c κs. search rules)
-    (λ c. let d = c.before.before.before.before in
-    row_told _ c.lettered.ensures
-    ∙ sym (ap rowed (letter_one _ _ d.before.if1.false c.before.before.if2.true c.before.if3.true)))
-    (λ c. let d = c.before.before.before.before in
-    sym (ap rowed (letter_one_bare _ _ d.if1.false c.before.if2.true c.if3.false)))
-    (λ c. let d = c.before.before.before.before in
-    sym (ap rowed (letter_bare _ _ d.if1.false c.before.if2.false c.if4.true)))
+    (λ c. row_told _ c.lettered.ensures
+    ∙ sym (ap rowed (letter_one _ _ c.if-s-i.false c.if-x-eq-ONE.true c.if-stop-eq10.true)))
+    (λ c. sym (ap rowed (letter_one_bare _ _ c.if-s-i.false c.if-x-eq-ONE.true c.if-stop-eq10.false)))
+    (λ c. sym (ap rowed (letter_bare _ _ c.if-s-i.false c.if-x-eq-ONE.false c.if-stop-ne44.true)))
     (λ c κs. search rules)
     (λ c κs. search rules)
     (λ c κs. search rules)
@@ -64,46 +59,35 @@ formula_line_spec =
     (λ c κs. search rules)
     (λ c κs. search rules)
     returns_5
-    (λ c. let d = c.before.before.before.before in
-    c.one_field.ensures
-    ∙ sym (ap rowed (letter_fields _ _ d.before.before.if1.false (code "b") c.before.match.keys2
-    c.before.before.if4.false)
-    ∙ one_row _ Line.bang (λ i. ap (λ l. lettered l i 0) (sym c.before.match.keys2)) _))
-    (λ c. let d = c.before.before.before.before in
-    c.superset-fields.ensures
-    ∙ sym (ap rowed (letter_fields _ _ d.before.before.if1.false (code "g") c.before.match.keys3
-    c.before.before.if4.false)
-    ∙ superset_row _ c.before.match.keys3 _))
-    (λ c. let d = c.before.before.before.before in
-    c.at_fields.ensures
-    ∙ sym (ap rowed (letter_fields _ _ d.before.before.if1.false (code "h") c.before.match.keys4
-    c.before.before.if4.false)
-    ∙ at_row _ c.before.match.keys4 _))
-    (λ c. let d = c.before.before.before.before in
-    numbers_line _ _ d.before.before.if1.false (code "s") principal.last formula_number.last Line.says
-    c.before.match.keys5 c.before.before.if4.false (λ b. refl) (λ i j. refl) c.two-fields2.ensures)
-    (λ c. let d = c.before.before.before.before in
-    numbers_line _ _ d.before.before.if1.false (code "l") formula_number.last formula_number.last Line.lolli
-    c.before.match.keys6 c.before.before.if4.false (λ b. refl) (λ i j. refl) c.two-fields3.ensures)
-    (λ c. let d = c.before.before.before.before in
-    numbers_line _ _ d.before.before.if1.false (code "p") formula_number.last formula_number.last Line.plus
-    c.before.match.keys7 c.before.before.if4.false (λ b. refl) (λ i j. refl) c.two-fields4.ensures)
-    (λ c. let d = c.before.before.before.before in
-    numbers_line _ _ d.before.before.if1.false (code "t") formula_number.last formula_number.last Line.tensor
-    c.before.match.keys8 c.before.before.if4.false (λ b. refl) (λ i j. refl) c.two-fields5.ensures)
+    (λ c. c.one_field.ensures
+    ∙ sym (ap rowed (letter_fields _ _ c.if-s-i.false (code "b") c.in-98.is
+    c.if-stop-ne44.false)
+    ∙ one_row _ Line.bang (λ i. ap (λ l. lettered l i 0) (sym c.in-98.is)) _))
+    (λ c. c.superset_fields.ensures
+    ∙ sym (ap rowed (letter_fields _ _ c.if-s-i.false (code "g") c.in-103.is
+    c.if-stop-ne44.false)
+    ∙ superset_row _ c.in-103.is _))
+    (λ c. c.at_fields.ensures
+    ∙ sym (ap rowed (letter_fields _ _ c.if-s-i.false (code "h") c.in-104.is
+    c.if-stop-ne44.false)
+    ∙ at_row _ c.in-104.is _))
+    (λ c. numbers_line _ _ c.if-s-i.false (code "s") principal.last formula_number.last Line.says
+    c.in-115.is c.if-stop-ne44.false (λ b. refl) (λ i j. refl) c.two_fields-in-115.ensures)
+    (λ c. numbers_line _ _ c.if-s-i.false (code "l") formula_number.last formula_number.last Line.lolli
+    c.in-108.is c.if-stop-ne44.false (λ b. refl) (λ i j. refl) c.two_fields-in-108.ensures)
+    (λ c. numbers_line _ _ c.if-s-i.false (code "p") formula_number.last formula_number.last Line.plus
+    c.in-112.is c.if-stop-ne44.false (λ b. refl) (λ i j. refl) c.two_fields-in-112.ensures)
+    (λ c. numbers_line _ _ c.if-s-i.false (code "t") formula_number.last formula_number.last Line.tensor
+    c.in-116.is c.if-stop-ne44.false (λ b. refl) (λ i j. refl) c.two_fields-in-116.ensures)
     returns_13
-    (λ c. let d = c.before.before.before.before in
-    numbers_line _ _ d.before.before.if1.false (code "w") formula_number.last formula_number.last Line.with
-    c.before.match.keys10 c.before.before.if4.false (λ b. refl) (λ i j. refl) c.two-fields7.ensures)
-    (λ c. let d = c.before.before.before.before in
-    c.named-fields.ensures
-    ∙ sym (ap rowed (letter_fields _ _ d.before.before.if1.false (code "n") c.before.match.keys11
-    c.before.before.if4.false)
-    ∙ named_row _ c.before.match.keys11 _))
-    (λ c. let d = c.before.before.before.before in
-    c.one-field2.ensures
-    ∙ sym (ap rowed (letter_fields _ _ d.before.before.if1.false (code "q") c.before.match.keys12
-    c.before.before.if4.false)
-    ∙ one_row _ Line.for_every (λ i. ap (λ l. lettered l i 0) (sym c.before.match.keys12)) _))
-    (λ c. let d = c.before.before.before.before in
-    sym (ap rowed (letter_other _ _ d.before.if1.false (c.match.rest, c.before.before.if2.false)))))
+    (λ c. numbers_line _ _ c.if-s-i.false (code "w") formula_number.last formula_number.last Line.with
+    c.in-119.is c.if-stop-ne44.false (λ b. refl) (λ i j. refl) c.two_fields-in-119.ensures)
+    (λ c. c.named_fields.ensures
+    ∙ sym (ap rowed (letter_fields _ _ c.if-s-i.false (code "n") c.in-110.is
+    c.if-stop-ne44.false)
+    ∙ named_row _ c.in-110.is _))
+    (λ c. c.one_field-in-113.ensures
+    ∙ sym (ap rowed (letter_fields _ _ c.if-s-i.false (code "q") c.in-113.is
+    c.if-stop-ne44.false)
+    ∙ one_row _ Line.for_every (λ i. ap (λ l. lettered l i 0) (sym c.in-113.is)) _))
+    (λ c. sym (ap rowed (letter_other _ _ c.if-s-i.false (c.in_default.in_default-own.rest, c.if-x-eq-ONE.false)))))

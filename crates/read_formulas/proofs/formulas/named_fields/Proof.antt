@@ -7,17 +7,14 @@ use Rattle.read_fields.proofs.Then.{seen}
 use Rattle.read_formulas.proofs.formulas.named_fields.Statement.{statement}
 use Rattle.read_formulas.proofs.formulas.named_fields.Tie as tie
 
-returns_4 : tie.Need-returns-4
+returns_4 : tie.Need-returns
 unfolding named_fields and_then
 returns_4 c =
-    let b = c.before in
-    let d = b.before.before.before.before in
-    let e = d.before.before.before.before in
     simp (
-      seen (decimal_of _) e.before.before.before.number.ensures e.before.f.given.1,
-      seen (decimal_of _) d.before.before.before.number2.ensures d.before.g.given.1,
-      seen (decimal_of _) b.before.before.before.number3.ensures b.before.h.given.1,
-      c.none.ensures,
+      seen (decimal_of _) c.number-f.ensures c.in-Number.is,
+      seen (decimal_of _) c.number-g.ensures c.in-Number-g.is,
+      seen (decimal_of _) c.number-h.ensures c.in-Number-h.is,
+      c.none-none.ensures,
     )
 
 pub named_fields_spec : {M : Type 1} → statement M
@@ -28,24 +25,21 @@ named_fields_spec =
     (λ c κs. search rules)
     (λ c. search rules)
     (λ c. search rules)
-    (λ c. simp (seen (decimal_of _) c.before.before.number.ensures c.enum_told.given.1))
+    (λ c. simp (seen (decimal_of _) c.number-f.ensures c.in_default.is))
     (λ c κs. search rules)
     (λ c. search rules)
     (λ c. search rules)
-    (λ c. let d = c.before.before.before.before in
-    simp (
-      seen (decimal_of _) d.before.before.number.ensures d.f.given.1,
-      seen (decimal_of _) c.before.before.number2.ensures c.enum-told2.given.1,
+    (λ c. simp (
+      seen (decimal_of _) c.number-f.ensures c.in-Number.is,
+      seen (decimal_of _) c.number-g.ensures c.in_default-g.is,
     ))
     (λ c κs. search rules)
     (λ c. search rules)
     (λ c. search rules)
-    (λ c. let d = c.before.before.before.before in
-    let e = d.before.before.before.before in
-    simp (
-      seen (decimal_of _) e.before.before.number.ensures e.f.given.1,
-      seen (decimal_of _) d.before.before.number2.ensures d.g.given.1,
-      seen (decimal_of _) c.before.before.number3.ensures c.enum-told3.given.1,
+    (λ c. simp (
+      seen (decimal_of _) c.number-f.ensures c.in-Number.is,
+      seen (decimal_of _) c.number-g.ensures c.in-Number-g.is,
+      seen (decimal_of _) c.number-h.ensures c.in_default-h.is,
     ))
     (λ c κs. search rules)
     returns_4)

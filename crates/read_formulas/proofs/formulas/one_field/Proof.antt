@@ -15,9 +15,9 @@ one_field_spec =
     (λ c κs. search rules)
     (λ c. search rules)
     (λ c. search rules)
-    (λ c. simp (seen (decimal_of _) c.before.before.number.ensures c.enum_told.given.1))
+    (λ c. simp (seen (decimal_of _) c.number-f.ensures c.in_default.is))
     (λ c κs. search rules)
     (λ c. simp (
-      seen (decimal_of _) c.before.before.before.before.number.ensures c.before.before.f.given.1,
+      seen (decimal_of _) c.number-f.ensures c.in-Number.is,
       c.lettered.ensures,
     )))

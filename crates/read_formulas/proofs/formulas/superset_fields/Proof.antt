@@ -6,13 +6,12 @@ use Rattle.read_fields.proofs.Then.{seen}
 use Rattle.read_formulas.proofs.formulas.superset_fields.Statement.{statement}
 use Rattle.read_formulas.proofs.formulas.superset_fields.Tie as tie
 
-returns_3 : tie.Need-returns-3
+returns_3 : tie.Need-returns
 unfolding superset_fields and_then
 returns_3 c =
-    let d = c.before.before.before.before in
     simp (
-      seen (span_of _) d.before.before.before.interval.ensures d.before.f.given.1,
-      seen (span_of _) c.before.before.before.interval2.ensures c.before.g.given.1,
+      seen (span_of _) c.interval-f.ensures c.in-Minutes.is,
+      seen (span_of _) c.interval-g.ensures c.in-Minutes-g.is,
     )
 
 pub superset_fields_spec : {M : Type 1} → statement M
@@ -23,13 +22,12 @@ superset_fields_spec =
     (λ c κs. search rules)
     (λ c. search rules)
     (λ c. search rules)
-    (λ c. simp (seen (span_of _) c.before.before.interval.ensures c.enum_told.given.1))
+    (λ c. simp (seen (span_of _) c.interval-f.ensures c.in_default.is))
     (λ c κs. search rules)
     (λ c. search rules)
     (λ c. search rules)
-    (λ c. let d = c.before.before.before.before in
-    simp (
-      seen (span_of _) d.before.before.interval.ensures d.f.given.1,
-      seen (span_of _) c.before.before.interval2.ensures c.enum-told2.given.1,
+    (λ c. simp (
+      seen (span_of _) c.interval-f.ensures c.in-Minutes.is,
+      seen (span_of _) c.interval-g.ensures c.in_default-g.is,
     ))
     returns_3)

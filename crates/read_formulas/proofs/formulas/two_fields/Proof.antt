@@ -15,20 +15,17 @@ two_fields_spec =
     (λ c κs. search rules)
     (λ c. search rules)
     (λ c. search rules)
-    (λ c. simp (seen (decimal_of _) c.before.before.number.ensures c.enum_told.given.1))
+    (λ c. simp (seen (decimal_of _) c.number-f.ensures c.in_default.is))
     (λ c κs. search rules)
     (λ c. search rules)
     (λ c. search rules)
-    (λ c. let d = c.before.before.before.before in
-    simp (
-      seen (decimal_of _) d.before.before.number.ensures d.f.given.1,
-      seen (decimal_of _) c.before.before.number2.ensures c.enum-told2.given.1,
+    (λ c. simp (
+      seen (decimal_of _) c.number-f.ensures c.in-Number.is,
+      seen (decimal_of _) c.number-g.ensures c.in_default-g.is,
     ))
     (λ c κs. search rules)
-    (λ c. let b = c.before in
-    let d = b.before.before.before.before in
-    simp (
-      seen (decimal_of _) d.before.before.before.number.ensures d.before.f.given.1,
-      seen (decimal_of _) b.before.before.before.number2.ensures b.before.g.given.1,
+    (λ c. simp (
+      seen (decimal_of _) c.number-f.ensures c.in-Number.is,
+      seen (decimal_of _) c.number-g.ensures c.in-Number-g.is,
       c.lettered.ensures,
     )))

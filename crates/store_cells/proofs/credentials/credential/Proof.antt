@@ -8,7 +8,7 @@ use Rattle.store_cells.proofs.credentials.credential.Tie as tie
 returns : tie.Need-returns
 unfolding credential_at cell interval_at
 returns c =
-    rw (c.before.before.before.kind-from.ensures, c.read.ensures) (simp towards_suc)
+    rw (c.before.before.before.kind_from-kind.ensures, c.read.ensures) (simp towards_suc)
 
 pub credential_spec : {M : Type 1} → statement M
 credential_spec =

@@ -13,10 +13,10 @@ returns c =
     let linked = led.before.before in
     rw (
       c.put.ensures,
-      kind.kind_number_holds.ensures,
-      led.put-formula-link.ensures,
-      linked.put-link.ensures,
-      linked.before.before.formula-link.ensures,
+      kind.kind_number-k.ensures,
+      led.put_formula_link.ensures,
+      linked.put_link.ensures,
+      linked.before.before.formula_link-last.ensures,
     )
     (simp towards_suc)
 

@@ -17,11 +17,11 @@ bit_is n h = shl_exact 1 n 32 (omega arith) (omega arith) ∙ one-mul (2 ^ n)
 returns : tie.Need-returns
 unfolding put_mark
 returns c =
-    let s = c.before.before.before.before in
+    let s = c.before.before.before in
     let n = s.args.line in
     rw (
-      c.set2.ensures,
-      c.before.before.set.ensures,
+      c.set-2.ensures,
+      c.before.set.ensures,
       bit_is (n % set_lines) (omega arith),
       bit_is (n / set_lines) (omega (arith, s.requires.1)),
     )

@@ -11,7 +11,7 @@ returns : tie.Need-returns
 unfolding line_cell cell
 returns c =
     let b = line_base + c.before.before.before.before.before.before.args.i * line_width in
-    rw (interval_read _ b 4 c.before.read.ensures, interval_read _ b 8 c.read2.ensures) (simp add-zero)
+    rw (interval_read _ b 4 c.before.read.ensures, interval_read _ b 8 c.read-2.ensures) (simp add-zero)
 
 pub line_row_spec : {M : Type 1} → statement M
 line_row_spec =

@@ -32,9 +32,9 @@ returns c =
     let bits = c.before.before.before.before in
     let a = bits.before.before.before.before.args in
     all_stored a.store.now (line_base + a.i * line_width) a.row a.size a.plain a.balanced a.unbound
-    a.quantified a.low a.high a.gives c.before.before.put.ensures c.put2.ensures
-    bits.before.before.before.bit-of.ensures bits.before.before.bit-of2.ensures
-    bits.before.bit-of3.ensures bits.bit-of4.ensures
+    a.quantified a.low a.high a.gives c.before.before.put.ensures c.put-2.ensures
+    bits.before.before.before.bit_of-p.ensures bits.before.before.bit_of-b.ensures
+    bits.before.bit_of-u.ensures bits.bit_of-q.ensures
 
 pub put_line_spec : {M : Type 1} → statement M
 put_line_spec =
