@@ -45,7 +45,7 @@ alone_shape {r} {p} d b =
 pub hold_found : (b c : List ℕ) → strip (then_comma "hold") b ≡ some c
     → read_line hold_line b ≡ field_to 10 (number_in serial) c
 unfolding hold_line choose named same_bytes bytes inside
-hold_found b c e = word_found _ "hold" b c refl e ∙ alone_shape (number_shape serial) c
+hold_found b c e = word_found (("hold", number serial) ∷ []) "hold" b c refl e ∙ alone_shape (number_shape serial) c
 
 pub hold_none : (b : List ℕ) → strip (then_comma "hold") b ≡ none → read_line hold_line b ≡ none
 unfolding hold_line bytes inside number next

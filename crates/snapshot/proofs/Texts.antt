@@ -68,7 +68,7 @@ edition_exact : Exact 48 edition TitleInRange edition_fields 19
 unfolding edition edition_fields bytes same_bytes choose named all_of
 edition_exact = record {
   reads = λ h. go h.edition h;
-  only = choose_only (counts_only First (λ n l c. refl) also counts_only Second (λ n l c. refl) also done);
+  only = choose_only (◌also◌ {t = "1"} (counts_only First (λ n l c. refl)) (◌also◌ {t = "2"} (counts_only Second (λ n l c. refl)) done));
 }
   where
     go : (e : Edition) (h : Title) → TitleInRange h

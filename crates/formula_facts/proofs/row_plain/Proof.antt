@@ -19,7 +19,7 @@ returns : tie.Need-returns
 returns c =
     let s = c.before.before in
     other_letter (formula (ledger_of s.args.store.now)) _ s.requires.canonical
-    (sym c.before.plain-letter.ensures ∙ not-true _ c.if1.true)
+    (sym c.before.plain-letter.ensures ∙ c.if1.true)
 
 plain-at-requires : tie.Need-plain-at-requires
 plain-at-requires c κs =
@@ -43,7 +43,7 @@ plain_at_requires_3 c κs =
 
 -- the letter is one of a plain formula
 known : (c : tie.After-parts-of) → among c.before.before.before.args.row.letter plains ≡ true
-known c = sym c.before.before.plain-letter.ensures ∙ not-false _ c.before.if1.false
+known c = sym c.before.before.plain-letter.ensures ∙ c.before.if1.false
 
 returns_2 : tie.Need-returns-2
 unfolding all_of

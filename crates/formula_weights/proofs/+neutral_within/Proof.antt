@@ -55,7 +55,7 @@ within_returns_2 t c =
     let p = parts t i.before.before i.i2.given.1 in
     tries_at _ p.sessions
     (tries_left _ _ _ (part_tries p.each.0 x.before.line-at2.ensures _ x.neutral-within2.ensures)
-    (not-true _ c.if2.true))
+    (c.if2.true))
 
 within_returns_5 : (t : ℕ) → within_lts.Need-returns-5 (within_with t) (within_at t) within.Post
 within_returns_5 t c =
@@ -64,7 +64,7 @@ within_returns_5 t c =
     let p = parts t i.before.before i.i2.given.1 in
     tries_at _ p.sessions
     (tries_right _ _ _ (part_tries p.each.0 x.before.line-at2.ensures _ x.neutral-within2.ensures)
-    (not-false _ c.before.before.if2.false)
+    (c.before.before.if2.false)
     (part_tries p.each.1.0 c.before.line-at3.ensures _ c.neutral-within3.ensures))
 
 pub +neutral-within-spec : {M : Type 1} → statement M

@@ -6,46 +6,43 @@ use borrow.Author.Rules.{rules}
 use Rattle.step_premises.proofs.begin.Statement.{statement}
 use Rattle.step_premises.proofs.begin.Tie as tie
 
-returns : tie.Need-returns
-returns c = sym (nothing_full _ _ _ _ c.before.enum_told.given.1 c.if1.true)
+returns : tie.Need-returns-then-next-gt-LABELS
+returns c = sym (nothing_full _ _ _ _ c.in-Nothing.is c.if-next-gt-LABELS.true)
 
-returns_2 : tie.Need-returns-2
-returns_2 c = sym (linear_full _ _ _ _ c.before.before.fresh.given.1 c.if2.true)
+returns_2 : tie.Need-returns-then-next-ge-LABELS
+returns_2 c = sym (linear_full _ _ _ _ c.in-Linear.is c.if-next-ge-LABELS.true)
 
-returns_3 : tie.Need-returns-3
-returns_3 c = sym (both_full _ _ _ _ c.before.before.fresh2.given.1 c.if3.true)
+returns_3 : tie.Need-returns-then-next-ge-LABEL_LAST
+returns_3 c = sym (both_full _ _ _ _ c.in-Both.is c.if-next-ge-LABEL_LAST.true)
 
-returns_4 : tie.Need-returns-4
-returns_4 c = sym (unrestricted_full _ _ _ _ c.before.before.fresh3.given.1 c.if4.true)
+returns_4 : tie.Need-returns-then-next-ge-LABELS-2
+returns_4 c = sym (unrestricted_full _ _ _ _ c.in-Unrestricted.is c.if-next-ge-LABELS-2.true)
 
-returns_5 : tie.Need-returns-5
+returns_5 : tie.Need-returns-else-next-gt-LABELS
 returns_5 c =
     simp c.sequent.ensures
-    (sym (nothing_begins _ _ _ _ c.before.before.enum_told.given.1 c.before.if1.false))
+    (sym (nothing_begins _ _ _ _ c.in-Nothing.is c.if-next-gt-LABELS.false))
 
-returns_6 : tie.Need-returns-6
+returns_6 : tie.Need-returns-else-next-ge-LABELS
 returns_6 c =
-    let a = c.before.before.before.before in
-    simp (c.sequent2.ensures, c.before.insert.ensures, c.before.before.put-label.ensures)
-    (sym (linear_begins _ _ _ _ a.before.before.fresh.given.1 a.if2.false))
+    simp (c.sequent-in-Linear.ensures, c.insert.ensures, c.put_label.ensures)
+    (sym (linear_begins _ _ _ _ c.in-Linear.is c.if-next-ge-LABELS.false))
 
-returns_7 : tie.Need-returns-7
+returns_7 : tie.Need-returns-else-next-ge-LABEL_LAST
 returns_7 c =
-    let a = c.before.before.before.before.before.before.before in
     simp (
-      c.sequent3.ensures,
-      c.before.insert3.ensures,
-      c.before.before.insert2.ensures,
-      c.before.before.before.put-label3.ensures,
-      c.before.before.before.before.before.put-label2.ensures,
+      c.sequent-in-Both.ensures,
+      c.insert-d2.ensures,
+      c.insert-in-Both.ensures,
+      c.put_label-in-Both-2.ensures,
+      c.put_label-in-Both.ensures,
     )
-    (sym (both_begins _ _ _ _ a.before.before.fresh2.given.1 a.if3.false))
+    (sym (both_begins _ _ _ _ c.in-Both.is c.if-next-ge-LABEL_LAST.false))
 
-returns_8 : tie.Need-returns-8
+returns_8 : tie.Need-returns-else-next-ge-LABELS-2
 returns_8 c =
-    let a = c.before.before.before.before in
-    simp (c.sequent4.ensures, c.before.insert4.ensures, c.before.before.put-label4.ensures)
-    (sym (unrestricted_begins _ _ _ _ a.before.before.fresh3.given.1 a.if4.false))
+    simp (c.sequent-in-Unrestricted.ensures, c.insert-in-Unrestricted.ensures, c.put_label-in-Unrestricted.ensures)
+    (sym (unrestricted_begins _ _ _ _ c.in-Unrestricted.is c.if-next-ge-LABELS-2.false))
 
 pub begin_spec : {M : Type 1} → statement M
 begin_spec =

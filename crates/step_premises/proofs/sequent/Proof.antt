@@ -5,11 +5,11 @@ use Rattle.step_premises.specs.Begin.{sequent}
 use Rattle.step_premises.proofs.sequent.Statement.{statement}
 use Rattle.step_premises.proofs.sequent.Tie as tie
 
-returns : tie.Need-returns
-returns c = ap (sequent _ _) (sym c.before.g.given.1)
+returns : tie.Need-returns-in-Holds
+returns c = ap (sequent _ _) (sym c.in-Holds.is)
 
-returns_2 : tie.Need-returns-2
-returns_2 c = ap (sequent _ _) (sym c.before.g2.given.1)
+returns_2 : tie.Need-returns-in-Affirms
+returns_2 c = ap (sequent _ _) (sym c.in-Affirms.is)
 
 pub sequent_spec : {M : Type 1} → statement M
 sequent_spec = tie.close (tie.spec (λ c. search rules) (λ c. search rules) returns returns_2)

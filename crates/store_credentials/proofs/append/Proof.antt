@@ -6,30 +6,24 @@ use Rattle.store_credentials.proofs.Given.{give_done}
 use Rattle.store_credentials.proofs.append.Statement.{statement}
 use Rattle.store_credentials.proofs.append.Tie as tie
 
-add_put_next : tie.Need-overflow-add-put-next
+add_put_next : tie.Need-overflow_add-serial
 unfolding ledger_of
 add_put_next c =
-    let at = c.before.before.before.before.before.before.before in
-    omega (arith, at.next.ensures, at.before.before.before.before.before.before.requires.0.unused)
+    omega (arith, c.next-serial.ensures, c.requires.0.unused)
 
-put-credential-requires : tie.Need-put-credential-requires
+put-credential-requires : tie.Need-put_credential-requires
 put-credential-requires c κs =
-    let s = c.before.before.before.before.before.before.before in
-    let p = s.requires.0 in (
-      omega (arith, c.before.before.before.before.before.row_count.ensures, s.requires.1),
+    let p = c.requires.0 in (
+      omega (arith, c.row_count-i.ensures, c.requires.1),
       omega (arith, p.there, p.good.bounded.lines),
     )
 
 returns : tie.Need-returns
 returns c =
-    let next = c.before.before in
-    let put = next.before.before.before.before.before.before in
-    let at = put.before.before in
-    let s = at.before.before.before.before.before.before in
-    give_done _ _ _ _ s.requires.0 s.requires.1 at.before.before.before.before.row_count.ensures
-    at.before.before.live-count.ensures at.next.ensures put.put-credential.ensures
-    next.before.before.before.before.put-row-count.ensures next.before.before.put-live-count.ensures
-    next.put_next.ensures c.put-hint.ensures
+    give_done _ _ _ _ c.requires.0 c.requires.1 c.row_count-i.ensures
+    c.live_count-n.ensures c.next-serial.ensures c.put_credential.ensures
+    c.put_row_count.ensures c.put_live_count.ensures
+    c.put_next.ensures c.put_hint.ensures
 
 pub append_spec : {M : Type 1} → statement M
 append_spec =

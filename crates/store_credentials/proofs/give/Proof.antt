@@ -4,16 +4,15 @@ use Rattle.store_credentials.proofs.Given.{still_givable}
 use Rattle.store_credentials.proofs.give.Statement.{statement}
 use Rattle.store_credentials.proofs.give.Tie as tie
 
-make-room-requires : tie.Need-make-room-requires
-make-room-requires c κs = let p = c.before.requires in (p.good, omega (arith, p.room))
+make-room-requires : tie.Need-make_room-requires
+make-room-requires c κs = let p = c.requires in (p.good, omega (arith, p.room))
 
 append-requires : tie.Need-append-requires
 append-requires c κs =
-    let at = c.before in
-    (still_givable at.before.before.requires at.make-room.ensures.0, at.make-room.ensures.1)
+    (still_givable c.requires c.make_room.ensures.0, c.make_room.ensures.1)
 
 returns : tie.Need-returns
-returns c = rw c.before.before.make-room.ensures.0.ledger at c.append.ensures
+returns c = rw c.make_room.ensures.0.ledger at c.append.ensures
 
 pub give_spec : {M : Type 1} → statement M
 give_spec = tie.close (tie.spec make-room-requires append-requires returns)

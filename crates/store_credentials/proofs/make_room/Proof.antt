@@ -9,27 +9,24 @@ use Rattle.store_credentials.proofs.make_room.Statement.{statement}
 use Rattle.store_credentials.proofs.make_room.Tie as tie
 
 -- the count of live credentials is small
-twice : tie.Need-overflow-mul-if1
+twice : tie.Need-overflow_mul-live
 twice c =
-    let s = c.before.before.before.before in
-    omega (arith, c.live-count.ensures, s.requires.0.ordered.counted, s.requires.1)
+    omega (arith, c.live_count-live.ensures, c.requires.0.ordered.counted, c.requires.1)
 
-spare : tie.Need-overflow-add-if1
+spare : tie.Need-overflow_add-live
 spare c =
-    let s = c.before.before.before.before in
-    omega (arith, c.live-count.ensures, s.requires.0.ordered.counted, s.requires.1)
+    omega (arith, c.live_count-live.ensures, c.requires.0.ordered.counted, c.requires.1)
 
-returns : tie.Need-returns
+returns : tie.Need-returns-then-used-live
 returns c =
-    let p = c.before.before.before.before.before.before.before.requires in
+    let p = c.requires in
     (c.compact.ensures.stands, omega (arith, c.compact.ensures.rows, p.1))
 
-returns_2 : tie.Need-returns-2
+returns_2 : tie.Need-returns-else-used-live
 returns_2 c =
-    let at = c.before.before.before in
-    let g = at.before.before.requires.0 in
-    let e = at.row_count.ensures in
-    let n : at.row_count.result ≡ max_rows → ⊥ = eqb-false _ _ (left_false _ _ c.if1.false) in
+    let g = c.requires.0 in
+    let e = c.row_count-used.ensures in
+    let n : c.row_count-used.result ≡ max_rows → ⊥ = eqb-false _ _ (left_false _ _ c.if-used-live.false) in
     (record { good = g; ledger = refl }, omega (arith, g.ordered.few, e, n))
 
 pub make_room_spec : {M : Type 1} → statement M

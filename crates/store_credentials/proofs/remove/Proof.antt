@@ -5,21 +5,18 @@ use Rattle.store_credentials.proofs.Removed.{some_live, remove_done}
 use Rattle.store_credentials.proofs.remove.Statement.{statement}
 use Rattle.store_credentials.proofs.remove.Tie as tie
 
-put-gap-requires : tie.Need-put-gap-requires
+put-gap-requires : tie.Need-put_gap-requires
 put-gap-requires c κs =
-    let s = c.before.before.before in
-    omega (arith, s.requires.1.0, s.requires.0.ordered.few)
+    omega (arith, c.requires.1.0, c.requires.0.ordered.few)
 
-sub_put_live_count : tie.Need-overflow-sub-put-live-count
+sub_put_live_count : tie.Need-overflow_sub-n
 sub_put_live_count c =
-    let at = c.before.before.before in
-    omega (arith, at.live-count.ensures, some_live _ _ at.before.before.requires.0 at.before.before.requires.1)
+    omega (arith, c.live_count-n.ensures, some_live _ _ c.requires.0 c.requires.1)
 
 returns : tie.Need-returns
 returns c =
-    let at = c.before.before.before.before in
-    remove_done _ _ at.before.before.requires.0 at.before.before.requires.1 at.live-count.ensures
-    c.before.before.put-gap.ensures c.put-live-count.ensures
+    remove_done _ _ c.requires.0 c.requires.1 c.live_count-n.ensures
+    c.put_gap.ensures c.put_live_count.ensures
 
 pub remove_spec : {M : Type 1} → statement M
 remove_spec =

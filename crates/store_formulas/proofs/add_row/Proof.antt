@@ -11,27 +11,21 @@ use Rattle.store_formulas.proofs.Added.{add_done}
 use Rattle.store_formulas.proofs.add_row.Statement.{statement}
 use Rattle.store_formulas.proofs.add_row.Tie as tie
 
-put-line-requires : tie.Need-put-line-requires
+put-line-requires : tie.Need-put_line-requires
 put-line-requires c κs =
-    let s = c.before.before.before in
-    omega (arith, lines_length s.args.store.now, s.requires.room, c.before.line-count.ensures)
+    omega (arith, lines_length c.args.store.now, c.requires.room, c.line_count-n.ensures)
 
 -- the length and the line's number
 mark-requires : tie.Need-mark-requires
 mark-requires c κs =
-    let p = c.before in
-    let at = p.before.before in
-    let s = at.before.before in
-    let n : at.line-count.result < max_formulas =
-    omega (arith, lines_length s.args.store.now, s.requires.room, at.line-count.ensures) in
-    (ap length p.put-line.ensures ∙ (line_live _ _ _ _ _ _ _ _ _ _ _ s.requires.good.long n).long, n)
+    let n : c.line_count-n.result < max_formulas =
+    omega (arith, lines_length c.args.store.now, c.requires.room, c.line_count-n.ensures) in
+    (ap length c.put_line.ensures ∙ (line_live _ _ _ _ _ _ _ _ _ _ _ c.requires.good.long n).long, n)
 
 returns : tie.Need-returns
 returns c =
-    let put = c.before.before.before.before in
-    let at = put.before.before in
-    add_done _ _ _ _ _ _ _ _ _ _ at.before.before.requires at.line-count.ensures put.put-line.ensures
-    c.before.before.mark.ensures c.put-line-count.ensures
+    add_done _ _ _ _ _ _ _ _ _ _ c.requires c.line_count-n.ensures c.put_line.ensures
+    c.mark.ensures c.put_line_count.ensures
 
 pub add_row_spec : {M : Type 1} → statement M
 add_row_spec =

@@ -12,49 +12,42 @@ use Rattle.store_formulas.proofs.Found.{has_at, has_none}
 use Rattle.store_formulas.proofs.has_row.Statement.{statement}
 use Rattle.store_formulas.proofs.has_row.Tie as tie
 
-abbrev invariant-loop : tie.invariant-loop
+abbrev invariant-loop : tie.invariant-loop-i
 invariant-loop store row n i₀ i =
     (n ≡ line_count store) × ((i ≤ n) × ((k : ℕ) → k < i → same_row row (row_at store k) ≡ false))
 
-abbrev decreases_loop : tie.decreases_loop
+abbrev decreases_loop : tie.decreases-loop-i
 decreases_loop store row n i₀ i = n - i
 
-loop-holds : tie.Need-loop-init invariant-loop decreases_loop
-loop-holds c = (c.line-count.ensures, (search rules, λ k h. absurd (omega arith)))
+loop-holds : tie.Need-loop-i-init invariant-loop decreases_loop
+loop-holds c = (c.line_count-n.ensures, (search rules, λ k h. absurd (omega arith)))
 
 -- the test of a turn, said of the row in the store
-tested : (c : tie.After-same-row invariant-loop decreases_loop)
-    → same_row c.before.before.before.before.before.args.row
-    (row_at c.before.before.before.before.before.args.store.now c.before.before.before.loop.i)
+tested : (c : tie.After-same_row invariant-loop decreases_loop)
+    → same_row c.args.row
+    (row_at c.args.store.now c.loop-i.i)
     ≡ c.same_row.result
-tested c = ap (same_row _) (sym c.before.line_at_lem.ensures) ∙ sym c.same_row.ensures
+tested c = ap (same_row _) (sym c.line_at-other.ensures) ∙ sym c.same_row.ensures
 
-line-at-requires : tie.Need-line-at-requires invariant-loop decreases_loop
+line-at-requires : tie.Need-line_at-other-requires invariant-loop decreases_loop
 line-at-requires c κs =
-    let at = c.before in
-    let s = at.before.before in
-    let h = c.loop-test.true in
-    (s.requires, omega (arith, at.loop.invariant.0, lines_length s.args.store.now))
+    let h = c.loop-i-test.true in
+    (c.requires, omega (arith, c.loop-i.invariant.0, lines_length c.args.store.now))
 
-returns : tie.Need-returns invariant-loop decreases_loop
+returns : tie.Need-returns-then-same_row invariant-loop decreases_loop
 returns c =
-    let at = c.before.before.before.before in
-    let h = c.before.before.before.loop-test.true in
-    let s = at.before.before in
-    sym (has_at s.args.store.now s.requires (same_row s.args.row) at.loop.i (omega arith)
-    (tested c.before ∙ c.if1.true))
+    let h = c.loop-i-test.true in
+    sym (has_at c.args.store.now c.requires (same_row c.args.row) c.loop-i.i (omega arith)
+    (tested c.before ∙ c.if-same_row.true))
 
-loop-again : tie.Need-loop-preserved invariant-loop decreases_loop
+loop-again : tie.Need-loop-i-preserved invariant-loop decreases_loop
 loop-again c =
-    let at = c.before.before.before.before in
-    let h = c.before.before.before.loop-test.true in
-    (at.loop.invariant.0, (search rules, below_more _ _ at.loop.invariant.1.1 (tested c.before ∙ c.if1.false)))
+    let h = c.loop-i-test.true in
+    (c.loop-i.invariant.0, (search rules, below_more _ _ c.loop-i.invariant.1.1 (tested c.before ∙ c.if-same_row.false)))
 
-returns_2 : tie.Need-returns-2 invariant-loop decreases_loop
+returns_2 : tie.Need-returns invariant-loop decreases_loop
 returns_2 c =
-    let at = c.before in
-    let s = at.before.before in
-    sym (has_none s.args.store.now s.requires (same_row s.args.row) (λ k h. at.loop.invariant.1.1 k (omega arith)))
+    sym (has_none c.args.store.now c.requires (same_row c.args.row) (λ k h. c.loop-i.invariant.1.1 k (omega arith)))
 
 pub has_row_spec : {M : Type 1} → statement M
 has_row_spec =

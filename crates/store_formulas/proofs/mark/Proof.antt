@@ -14,38 +14,32 @@ use Rattle.store_formulas.proofs.Marks.{mark_start, mark_next, mark_done, mark_n
 use Rattle.store_formulas.proofs.mark.Statement.{statement}
 use Rattle.store_formulas.proofs.mark.Tie as tie
 
-abbrev invariant-loop : tie.invariant-loop
+abbrev invariant-loop : tie.invariant-loop-k
 invariant-loop store₀ line low high more first k₀ store k = MarkedTo store₀ store line low k
 
-abbrev decreases_loop : tie.decreases_loop
+abbrev decreases_loop : tie.decreases-loop-k
 decreases_loop store₀ line low high more first k₀ store k = groups - k
 
-returns : tie.Need-returns invariant-loop decreases_loop
+returns : tie.Need-returns-then-high-low invariant-loop decreases_loop
 returns c =
-    let s = c.before in
-    mark_none _ _ _ _ s.requires.0 c.if1.true
+    mark_none _ _ _ _ c.requires.0 c.if-high-low.true
 
-loop-holds : tie.Need-loop-init invariant-loop decreases_loop
-loop-holds c = mark_start _ _ _ c.before.requires.0
+loop-holds : tie.Need-loop-k-init invariant-loop decreases_loop
+loop-holds c = mark_start _ _ _ c.requires.0
 
-few : (c : tie.In-loop invariant-loop decreases_loop) → c.before.loop.k < groups
-few c = ltb-true _ _ (left_true _ _ c.loop-test.true)
+few : (c : tie.In-loop-k invariant-loop decreases_loop) → c.loop-k.k < groups
+few c = ltb-true _ _ (left_true _ _ c.loop-k-test.true)
 
-loop-again : tie.Need-loop-preserved invariant-loop decreases_loop
+loop-again : tie.Need-loop-k-preserved invariant-loop decreases_loop
 loop-again c =
-    let t = c.before.before in
-    let at = t.before in
-    let s = at.before.before in
-    let e : (s.args.low % groups + at.loop.k) % groups ≡ (s.args.low + at.loop.k) % groups = omega arith in
-    rw c.mark.ensures (mark_next _ _ _ _ _ _ s.requires.1 e at.loop.invariant)
+    let e : (c.args.low % groups + c.loop-k.k) % groups ≡ (c.args.low + c.loop-k.k) % groups = omega arith in
+    rw c.mark.ensures (mark_next _ _ _ _ _ _ c.requires.1 e c.loop-k.invariant)
 
-returns_2 : tie.Need-returns-2 invariant-loop decreases_loop
+returns_2 : tie.Need-returns invariant-loop decreases_loop
 returns_2 c =
-    let at = c.before in
-    let s = at.before.before in
-    let k = at.loop.k in
-    let more = s.args.high - s.args.low in
-    mark_done _ _ _ _ s.args.high k at.loop.invariant (λ i h q. go i k more h q c.loop-test.false (dec_lt i k))
+    let k = c.loop-k.k in
+    let more = c.args.high - c.args.low in
+    mark_done _ _ _ _ c.args.high k c.loop-k.invariant (λ i h q. go i k more h q c.loop-k-test.false (dec_lt i k))
   where
     go : (i k more : ℕ) → i < groups → i ≤ more → (ltb k groups && leb k more) ≡ false → Dec (i < k) → i < k
     go i k more h q e (yes z) = z
@@ -61,7 +55,7 @@ mark_spec =
     returns
     loop-holds
     (λ c. omega (arith, few c.before))
-    (λ c κs. (omega arith, c.before.before.before.before.requires.1))
+    (λ c κs. (omega arith, c.requires.1))
     (λ c. omega (arith, few c.before.before))
     (λ c. omega (arith, few c.before.before))
     loop-again

@@ -51,31 +51,23 @@ module _ (x y : Row) where
       → (eqb x.b y.b && (eqb x.holder y.holder && eqb x.letter y.letter)) ≡ b → heads ≡ b
   heads_same e b h = rw (eq-eqb _ _ e) h
 
-returns : tie.Need-returns
-returns c = heads_differ _ _ (rw (ne_eqb _ _ c.if1.true))
+returns : tie.Need-returns-then-x-y
+returns c = heads_differ _ _ (rw (ne_eqb _ _ c.if-x-y.true))
 
-returns_2 : tie.Need-returns-2
+returns_2 : tie.Need-returns-then-same
 returns_2 c =
-    let b = c.before.before in
-    let a = b.before.before.before.before.before.before.before.before in
-    let s = a.before.before.before in
-    c.same2.ensures
-    ∙ all_same _ _ (heads_same s.args.x s.args.y a.if1.false _ b.before.if2.true)
-    (sym b.same.ensures ∙ c.before.if3.true)
+    c.same-then-same.ensures
+    ∙ all_same _ _ (heads_same c.args.x c.args.y c.if-x-y.false _ c.if-x-y-2.true)
+    (sym c.same.ensures ∙ c.if-same.true)
 
-returns_3 : tie.Need-returns-3
+returns_3 : tie.Need-returns-else-same
 returns_3 c =
-    let b = c.before.before in
-    let a = b.before.before.before.before.before.before.before in
-    let s = a.before.before.before in
-    firsts_differ _ _ (heads_same s.args.x s.args.y a.if1.false _ b.if2.true)
-    (sym c.before.same.ensures ∙ c.if3.false)
+    firsts_differ _ _ (heads_same c.args.x c.args.y c.if-x-y.false _ c.if-x-y-2.true)
+    (sym c.same.ensures ∙ c.if-same.false)
 
-returns_4 : tie.Need-returns-4
+returns_4 : tie.Need-returns-else-x-y-2
 returns_4 c =
-    let a = c.before.before.before.before.before.before.before in
-    let s = a.before.before.before in
-    heads_differ _ _ (heads_same s.args.x s.args.y a.if1.false _ c.if2.false)
+    heads_differ _ _ (heads_same c.args.x c.args.y c.if-x-y.false _ c.if-x-y-2.false)
 
 pub same_row_spec : {M : Type 1} → statement M
 same_row_spec =

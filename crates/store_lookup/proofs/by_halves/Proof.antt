@@ -8,69 +8,52 @@ use Rattle.store_lookup.proofs.Places.{nowhere, has_left, stands}
 use Rattle.store_lookup.proofs.by_halves.Statement.{statement}
 use Rattle.store_lookup.proofs.by_halves.Tie as tie
 
-abbrev invariant-loop : tie.invariant-loop
+abbrev invariant-loop : tie.invariant-loop-low
 invariant-loop store serial low₀ high₀ low high = Halving store serial low high
 
-abbrev decreases_loop : tie.decreases_loop
+abbrev decreases_loop : tie.decreases-loop-low
 decreases_loop store serial low₀ high₀ low high = high - low
 
-loop-holds : tie.Need-loop-init invariant-loop decreases_loop
-loop-holds c = first_half _ c.before.requires _ c.row_count.ensures
+loop-holds : tie.Need-loop-low-init invariant-loop decreases_loop
+loop-holds c = first_half _ c.requires _ c.row_count-high.ensures
 
-add_middle : tie.Need-overflow-add-middle invariant-loop decreases_loop
+add_middle : tie.Need-overflow_add-middle invariant-loop decreases_loop
 add_middle c =
-    let at = c.before in
-    omega (arith, at.loop.invariant.ends.0, at.loop.invariant.ends.1, at.before.before.requires.ordered.few)
+    omega (arith, c.loop-low.invariant.ends.0, c.loop-low.invariant.ends.1, c.requires.ordered.few)
 
-serial-requires : tie.Need-serial-requires invariant-loop decreases_loop
+serial-requires : tie.Need-serial-seen-requires invariant-loop decreases_loop
 serial-requires c κs =
-    let at = c.before in
-    omega (arith, c.loop-test.true, at.loop.invariant.ends.1, at.before.before.requires.ordered.few)
+    omega (arith, c.loop-low-test.true, c.loop-low.invariant.ends.1, c.requires.ordered.few)
 
 gap-requires : tie.Need-gap-requires invariant-loop decreases_loop
 gap-requires c κs =
-    let turn = c.before.before in
-    let at = turn.before in
-    omega (arith, turn.loop-test.true, at.loop.invariant.ends.1, at.before.before.requires.ordered.few)
+    omega (arith, c.loop-low-test.true, c.loop-low.invariant.ends.1, c.requires.ordered.few)
 
-returns : tie.Need-returns invariant-loop decreases_loop
+returns : tie.Need-returns-then-gap invariant-loop decreases_loop
 returns c =
-    let same = c.before.before in
-    let turn = same.before.before in
-    let at = turn.before in
-    has_left at.before.before.requires (omega (arith, turn.loop-test.true, at.loop.invariant.ends.1))
-    (sym same.before.serial.ensures ∙ same.if1.true) (sym c.before.gap.ensures ∙ c.if2.true)
+    has_left c.requires (omega (arith, c.loop-low-test.true, c.loop-low.invariant.ends.1))
+    (sym c.serial-seen.ensures ∙ c.if-seen-serial.true) (sym c.gap.ensures ∙ c.if-gap.true)
 
-returns_2 : tie.Need-returns-2 invariant-loop decreases_loop
+returns_2 : tie.Need-returns-then-seen-serial invariant-loop decreases_loop
 returns_2 c =
-    let same = c.before.before in
-    let turn = same.before.before in
-    let at = turn.before in
-    stands at.before.before.requires (omega (arith, turn.loop-test.true, at.loop.invariant.ends.1))
-    (sym same.before.serial.ensures ∙ same.if1.true) (sym c.before.gap.ensures ∙ c.if2.false)
+    stands c.requires (omega (arith, c.loop-low-test.true, c.loop-low.invariant.ends.1))
+    (sym c.serial-seen.ensures ∙ c.if-seen-serial.true) (sym c.gap.ensures ∙ c.if-gap.false)
 
-loop-again : tie.Need-loop-preserved invariant-loop decreases_loop
+loop-again : tie.Need-loop-low-preserved-then-seen-serial-2 invariant-loop decreases_loop
 loop-again c =
-    let look = c.before.before in
-    let turn = look.before in
-    let at = turn.before in
-    upper_half _ at.before.before.requires _ at.loop.invariant _ (omega (arith, turn.loop-test.true))
-    (omega (arith, turn.loop-test.true)) (omega (arith, look.serial.ensures, c.if3.true))
+    upper_half _ c.requires _ c.loop-low.invariant _ (omega (arith, c.loop-low-test.true))
+    (omega (arith, c.loop-low-test.true)) (omega (arith, c.serial-seen.ensures, c.if-seen-serial-2.true))
 
-loop-again-2 : tie.Need-loop-preserved-2 invariant-loop decreases_loop
+loop-again-2 : tie.Need-loop-low-preserved invariant-loop decreases_loop
 loop-again-2 c =
-    let look = c.before.before in
-    let turn = look.before in
-    let at = turn.before in
-    lower_half _ at.before.before.requires _ at.loop.invariant _ (omega (arith, turn.loop-test.true))
-    (omega (arith, turn.loop-test.true))
-    (omega (arith, look.serial.ensures, c.before.if1.false, c.if3.false))
+    lower_half _ c.requires _ c.loop-low.invariant _ (omega (arith, c.loop-low-test.true))
+    (omega (arith, c.loop-low-test.true))
+    (omega (arith, c.serial-seen.ensures, c.if-seen-serial.false, c.if-seen-serial-2.false))
 
-returns_3 : tie.Need-returns-3 invariant-loop decreases_loop
+returns_3 : tie.Need-returns invariant-loop decreases_loop
 returns_3 c =
-    let at = c.before in
-    nowhere at.before.before.requires
-    (none_left _ at.before.before.requires _ at.loop.invariant c.loop-test.false)
+    nowhere c.requires
+    (none_left _ c.requires _ c.loop-low.invariant c.loop-low-test.false)
 
 pub by_halves_spec : {M : Type 1} → statement M
 by_halves_spec =

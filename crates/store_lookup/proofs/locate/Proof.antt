@@ -15,19 +15,17 @@ use Rattle.store_lookup.proofs.locate.Statement.{statement}
 use Rattle.store_lookup.proofs.locate.Tie as tie
 
 -- the row of the hint is in use, has the serial and is no gap; and it is answered
-in_use : (c : tie.Then1) →
-    let hint = c.before.before in hint.hint.result < row_count hint.before.args.store.now
-in_use c = omega (arith, c.if1.true, c.before.row_count.ensures)
+in_use : (c : tie.Then-i-row_count) →
+    c.hint-i.result < row_count c.args.store.now
+in_use c = omega (arith, c.if-i-row_count.true, c.row_count.ensures)
 
-its_serial : (c : tie.Then2) →
-    let hint = c.before.before.before.before in
-    (credential_at hint.before.args.store.now hint.hint.result).serial ≡ hint.before.args.serial
-its_serial c = sym c.before.serial.ensures ∙ c.if2.true
+its_serial : (c : tie.Then-serial) →
+    (credential_at c.args.store.now c.hint-i.result).serial ≡ c.args.serial
+its_serial c = sym c.serial.ensures ∙ c.if-serial.true
 
-no_gap : (c : tie.Then3) →
-    let hint = c.before.before.before.before.before.before in
-    gap_at hint.before.args.store.now hint.hint.result ≡ false
-no_gap c = sym c.before.gap.ensures ∙ not-true _ c.if3.true
+no_gap : (c : tie.Then-not-gap) →
+    gap_at c.args.store.now c.hint-i.result ≡ false
+no_gap c = sym c.gap.ensures ∙ c.if-not-gap.true
 
 abbrev answer : {l : List ℕ} {n : ℕ} {p : Place} → LooksUp l n p → Place
 answer {p = p} looked = p
@@ -36,22 +34,20 @@ answer {p = p} looked = p
 abbrev part : {A B : Type 0} → (A → B → B) → Type 0
 part {B = B} _ = B
 
-answers_it : part (λ (x : tie.Need-returns) (y : (c : tie.Then3)
-    → answer (x c) ≡ At c.before.before.before.before.before.before.hint.result). y)
+answers_it : part (λ (x : tie.Need-returns-then-not-gap) (y : (c : tie.Then-not-gap)
+    → answer (x c) ≡ At c.before.before.before.before.before.before.hint-i.result). y)
 answers_it c = refl
 
 serial-requires : tie.Need-serial-requires
-serial-requires c κs = omega (arith, in_use c, c.before.before.before.requires.ordered.few)
+serial-requires c κs = omega (arith, in_use c, c.requires.ordered.few)
 
 gap-requires : tie.Need-gap-requires
 gap-requires c κs =
-    let used = c.before.before in omega (arith, in_use used, used.before.before.before.requires.ordered.few)
+    omega (arith, in_use c.before.before, c.requires.ordered.few)
 
-returns : tie.Need-returns
+returns : tie.Need-returns-then-not-gap
 returns c =
-    let same = c.before.before in
-    let used = same.before.before in
-    looked_up_as (stands used.before.before.before.requires (in_use used) (its_serial same) (no_gap c))
+    looked_up_as (stands c.requires (in_use c.before.before.before.before) (its_serial c.before.before) (no_gap c))
     (sym (answers_it c))
 
 pub locate_spec : {M : Type 1} → statement M

@@ -9,31 +9,23 @@ use Rattle.read_heads.proofs.Heads.{no_line, book_line_holds, field_range, inter
 use Rattle.read_heads.proofs.requests.book.Statement.{statement}
 use Rattle.read_heads.proofs.requests.book.Tie as tie
 
-returns_5 : tie.Need-returns-5
+returns_5 : tie.Need-returns-in_default-e
 unfolding request_from booking_from
 returns_5 c =
-    let d = c.before.before.before.before in
-    let e = d.before.before.before.before in
-    let f = e.before.before.before.before in
-    let g = f.before.before.before.before in
-    no_line (book_line_holds _ ∙ then_some _ (seen (decimal_of _) g.before.before.number.ensures g.a.given.1)
-    ∙ then_some _ (seen (decimal_of _) f.before.before.number2.ensures f.b.given.1)
-    ∙ then_some _ (seen (span_of _) e.before.before.interval.ensures e.c.given.1)
-    ∙ then_some _ (seen (decimal_of _) d.before.before.number3.ensures d.d.given.1)
-    ∙ then_no _ (seen (decimal_of _) c.before.before.number4.ensures c.enum-told5.given.1))
+    no_line (book_line_holds _ ∙ then_some _ (seen (decimal_of _) c.number-a.ensures c.in-Number.is)
+    ∙ then_some _ (seen (decimal_of _) c.number-b.ensures c.in-Number-b.is)
+    ∙ then_some _ (seen (span_of _) c.interval-c.ensures c.in-Minutes.is)
+    ∙ then_some _ (seen (decimal_of _) c.number-d.ensures c.in-Number-d.is)
+    ∙ then_no _ (seen (decimal_of _) c.number-e.ensures c.in_default-e.is))
 
-returns_6 : tie.Need-returns-6
+returns_6 : tie.Need-returns
 unfolding request_from booking_from
 returns_6 c =
-    let d = c.before.before.before.before in
-    let e = d.before.before.before.before in
-    let f = e.before.before.before.before in
-    let g = f.before.before.before.before in
-    let m = seen (decimal_of _) g.before.before.before.number.ensures g.before.a.given.1 in
-    let n = seen (decimal_of _) f.before.before.before.number2.ensures f.before.b.given.1 in
-    let i = seen (span_of _) e.before.before.before.interval.ensures e.before.c.given.1 in
-    let h = seen (decimal_of _) d.before.before.before.number3.ensures d.before.d.given.1 in
-    let k = seen (decimal_of _) c.before.before.before.number4.ensures c.before.e.given.1 in
+    let m = seen (decimal_of _) c.number-a.ensures c.in-Number.is in
+    let n = seen (decimal_of _) c.number-b.ensures c.in-Number-b.is in
+    let i = seen (span_of _) c.interval-c.ensures c.in-Minutes.is in
+    let h = seen (decimal_of _) c.number-d.ensures c.in-Number-d.is in
+    let k = seen (decimal_of _) c.number-e.ensures c.in-Number-e.is in
     record {
       reads = then_some _ (book_line_holds _ ∙ then_some _ m ∙ then_some _ n ∙ then_some _ i ∙ then_some _ h ∙ then_some _ k);
       range = record {
@@ -53,32 +45,26 @@ book_spec =
     (λ c κs. search rules)
     (λ c. search rules)
     (λ c. search rules)
-    (λ c. no_line (book_line_holds _ ∙ then_no _ (seen (decimal_of _) c.before.before.number.ensures
-    c.enum_told.given.1)))
+    (λ c. no_line (book_line_holds _ ∙ then_no _ (seen (decimal_of _) c.number-a.ensures
+    c.in_default.is)))
     (λ c κs. search rules)
     (λ c. search rules)
     (λ c. search rules)
-    (λ c. let d = c.before.before.before.before in
-    no_line (book_line_holds _ ∙ then_some _ (seen (decimal_of _) d.before.before.number.ensures d.a.given.1)
-    ∙ then_no _ (seen (decimal_of _) c.before.before.number2.ensures c.enum-told2.given.1)))
+    (λ c. no_line (book_line_holds _ ∙ then_some _ (seen (decimal_of _) c.number-a.ensures c.in-Number.is)
+    ∙ then_no _ (seen (decimal_of _) c.number-b.ensures c.in_default-b.is)))
     (λ c κs. search rules)
     (λ c. search rules)
     (λ c. search rules)
-    (λ c. let d = c.before.before.before.before in
-    let e = d.before.before.before.before in
-    no_line (book_line_holds _ ∙ then_some _ (seen (decimal_of _) e.before.before.number.ensures e.a.given.1)
-    ∙ then_some _ (seen (decimal_of _) d.before.before.number2.ensures d.b.given.1)
-    ∙ then_no _ (seen (span_of _) c.before.before.interval.ensures c.enum-told3.given.1)))
+    (λ c. no_line (book_line_holds _ ∙ then_some _ (seen (decimal_of _) c.number-a.ensures c.in-Number.is)
+    ∙ then_some _ (seen (decimal_of _) c.number-b.ensures c.in-Number-b.is)
+    ∙ then_no _ (seen (span_of _) c.interval-c.ensures c.in_default-c.is)))
     (λ c κs. search rules)
     (λ c. search rules)
     (λ c. search rules)
-    (λ c. let d = c.before.before.before.before in
-    let e = d.before.before.before.before in
-    let f = e.before.before.before.before in
-    no_line (book_line_holds _ ∙ then_some _ (seen (decimal_of _) f.before.before.number.ensures f.a.given.1)
-    ∙ then_some _ (seen (decimal_of _) e.before.before.number2.ensures e.b.given.1)
-    ∙ then_some _ (seen (span_of _) d.before.before.interval.ensures d.c.given.1)
-    ∙ then_no _ (seen (decimal_of _) c.before.before.number3.ensures c.enum-told4.given.1)))
+    (λ c. no_line (book_line_holds _ ∙ then_some _ (seen (decimal_of _) c.number-a.ensures c.in-Number.is)
+    ∙ then_some _ (seen (decimal_of _) c.number-b.ensures c.in-Number-b.is)
+    ∙ then_some _ (seen (span_of _) c.interval-c.ensures c.in-Minutes.is)
+    ∙ then_no _ (seen (decimal_of _) c.number-d.ensures c.in_default-d.is)))
     (λ c κs. search rules)
     (λ c. search rules)
     (λ c. search rules)

@@ -9,12 +9,11 @@ use Rattle.read_heads.specs.First.{request_from}
 use Rattle.read_heads.proofs.requests.issue.Statement.{statement}
 use Rattle.read_heads.proofs.requests.issue.Tie as tie
 
-returns : tie.Need-returns
+returns : tie.Need-returns-in-Past
 unfolding bytes
 returns c =
-    let d = c.before.before.before.before in
-    first_by d.before.before.before.args.s.now c.issued.result
-    (ap request_from (issue_linear _ _ (seen (past_of _) d.past.ensures c.before.before.a.given.1)))
+    first_by c.args.s.now c.issued.result
+    (ap request_from (issue_linear _ _ (seen (past_of _) c.past-a.ensures c.in-Past.is)))
     c.issued.ensures
 
 pub issue_spec : {M : Type 1} → statement M
@@ -22,22 +21,17 @@ unfolding bytes
 issue_spec =
     tie.close
     (tie.spec
-    (λ c. search rules)
     (λ c κs. search rules)
     (λ c. search rules)
     (λ c κs. search rules)
     returns
     (λ c. search rules)
-    (λ c. search rules)
     (λ c κs. search rules)
     (λ c. search rules)
     (λ c κs. search rules)
-    (λ c. let d = c.before.before.before.before in
-    let e = d.before.before.before.before in
-    first_by e.before.before.before.args.s.now c.issued2.result
-    (ap request_from (issue_unrestricted _ _ (seen (past_of _) d.past2.ensures c.before.before.b.given.1)))
-    c.issued2.ensures)
+    (λ c. first_by c.args.s.now c.issued-in-Past-b.result
+    (ap request_from (issue_unrestricted _ _ (seen (past_of _) c.past-b.ensures c.in-Past-b.is)))
+    c.issued-in-Past-b.ensures)
     (λ c. search rules)
-    (λ c. let d = c.before.before.before.before in
-    no_line (no_kind _ (seen (past_of _) d.before.before.past.ensures d.enum_told.given.1)
-    (seen (past_of _) c.before.before.past2.ensures c.enum-told2.given.1))))
+    (λ c. no_line (no_kind _ (seen (past_of _) c.past-a.ensures c.in_default.is)
+    (seen (past_of _) c.past-b.ensures c.in_default-b.is))))

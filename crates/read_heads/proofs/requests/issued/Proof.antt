@@ -15,22 +15,17 @@ issued_spec =
     (λ c κs. search rules)
     (λ c. search rules)
     (λ c. search rules)
-    (λ c. no_line (issue_line _ _ ∙ then_no _ (seen (decimal_of _) c.before.before.number.ensures
-    c.enum_told.given.1)))
+    (λ c. no_line (issue_line _ _ ∙ then_no _ (seen (decimal_of _) c.number-f.ensures
+    c.in_default.is)))
     (λ c κs. search rules)
     (λ c. search rules)
     (λ c. search rules)
-    (λ c. let d = c.before.before.before.before in
-    no_line (issue_line _ _ ∙ then_some _ (seen (decimal_of _) d.before.before.number.ensures d.f.given.1)
-    ∙ then_no _ (seen (span_of _) c.before.before.interval.ensures c.enum-told2.given.1)))
+    (λ c. no_line (issue_line _ _ ∙ then_some _ (seen (decimal_of _) c.number-f.ensures c.in-Number.is)
+    ∙ then_no _ (seen (span_of _) c.interval-g.ensures c.in_default-g.is)))
     (λ c. search rules)
-    (λ c. let d = c.before.before.before.before in
-    let e = d.before.before.before.before in
-    lines_follow _ _ (issue_line _ _ ∙ then_some _ (seen (decimal_of _) e.number.ensures
-    d.before.before.f.given.1)
-    ∙ then_some _ (seen (span_of _) d.interval.ensures c.before.before.g.given.1)) c.if1.true)
-    (λ c. let d = c.before.before.before.before in
-    let e = d.before.before.before.before in
-    whole_request _ _ (issue_line _ _ ∙ then_some _ (seen (decimal_of _) e.number.ensures
-    d.before.before.f.given.1)
-    ∙ then_some _ (seen (span_of _) d.interval.ensures c.before.before.g.given.1)) c.if1.false))
+    (λ c. lines_follow _ _ (issue_line _ _ ∙ then_some _ (seen (decimal_of _) c.number-f.ensures
+    c.in-Number.is)
+    ∙ then_some _ (seen (span_of _) c.interval-g.ensures c.in-Minutes.is)) c.if-j-s.true)
+    (λ c. whole_request _ _ (issue_line _ _ ∙ then_some _ (seen (decimal_of _) c.number-f.ensures
+    c.in-Number.is)
+    ∙ then_some _ (seen (span_of _) c.interval-g.ensures c.in-Minutes.is)) c.if-j-s.false))

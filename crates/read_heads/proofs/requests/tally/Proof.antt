@@ -7,18 +7,16 @@ use Rattle.read_heads.proofs.Heads.{no_line, lines_follow, whole_request, tally_
 use Rattle.read_heads.proofs.requests.tally.Statement.{statement}
 use Rattle.read_heads.proofs.requests.tally.Tie as tie
 
-returns : tie.Need-returns
+returns : tie.Need-returns-in_default
 returns c =
-    no_line (tally_line _ ∙ then_no _ (seen (decimal_of _) c.before.before.number.ensures
-    c.enum_told.given.1))
+    no_line (tally_line _ ∙ then_no _ (seen (decimal_of _) c.number-f.ensures
+    c.in_default.is))
 
-returns_4 : tie.Need-returns-4
+returns_4 : tie.Need-returns
 returns_4 c =
-    let d = c.before.before.before.before in
-    let e = d.before.before.before.before in
-    whole_request _ _ (tally_line _ ∙ then_some _ (seen (decimal_of _) e.number.ensures
-    d.before.before.f.given.1)
-    ∙ then_some _ (seen (decimal_of _) d.number2.ensures c.before.before.g.given.1)) c.if1.false
+    whole_request _ _ (tally_line _ ∙ then_some _ (seen (decimal_of _) c.number-f.ensures
+    c.in-Number.is)
+    ∙ then_some _ (seen (decimal_of _) c.number-g.ensures c.in-Number-g.is)) c.if-j-s.false
 
 pub tally_spec : {M : Type 1} → statement M
 tally_spec =
@@ -31,13 +29,10 @@ tally_spec =
     (λ c κs. search rules)
     (λ c. search rules)
     (λ c. search rules)
-    (λ c. let d = c.before.before.before.before in
-    no_line (tally_line _ ∙ then_some _ (seen (decimal_of _) d.before.before.number.ensures d.f.given.1)
-    ∙ then_no _ (seen (decimal_of _) c.before.before.number2.ensures c.enum-told2.given.1)))
+    (λ c. no_line (tally_line _ ∙ then_some _ (seen (decimal_of _) c.number-f.ensures c.in-Number.is)
+    ∙ then_no _ (seen (decimal_of _) c.number-g.ensures c.in_default-g.is)))
     (λ c. search rules)
-    (λ c. let d = c.before.before.before.before in
-    let e = d.before.before.before.before in
-    lines_follow _ _ (tally_line _ ∙ then_some _ (seen (decimal_of _) e.number.ensures
-    d.before.before.f.given.1)
-    ∙ then_some _ (seen (decimal_of _) d.number2.ensures c.before.before.g.given.1)) c.if1.true)
+    (λ c. lines_follow _ _ (tally_line _ ∙ then_some _ (seen (decimal_of _) c.number-f.ensures
+    c.in-Number.is)
+    ∙ then_some _ (seen (decimal_of _) c.number-g.ensures c.in-Number-g.is)) c.if-j-s.true)
     returns_4)

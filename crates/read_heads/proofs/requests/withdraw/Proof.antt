@@ -14,12 +14,10 @@ withdraw_spec =
     (λ c κs. search rules)
     (λ c. search rules)
     (λ c. search rules)
-    (λ c. no_line (withdraw_line _ ∙ then_no _ (seen (decimal_of _) c.before.before.number.ensures
-    c.enum_told.given.1)))
+    (λ c. no_line (withdraw_line _ ∙ then_no _ (seen (decimal_of _) c.number-f.ensures
+    c.in_default.is)))
     (λ c. search rules)
-    (λ c. let d = c.before.before.before.before in
-    lines_follow _ _ (withdraw_line _ ∙ then_some _ (seen (decimal_of _) d.number.ensures
-    c.before.before.f.given.1)) c.if1.true)
-    (λ c. let d = c.before.before.before.before in
-    whole_request _ _ (withdraw_line _ ∙ then_some _ (seen (decimal_of _) d.number.ensures
-    c.before.before.f.given.1)) c.if1.false))
+    (λ c. lines_follow _ _ (withdraw_line _ ∙ then_some _ (seen (decimal_of _) c.number-f.ensures
+    c.in-Number.is)) c.if-i-s.true)
+    (λ c. whole_request _ _ (withdraw_line _ ∙ then_some _ (seen (decimal_of _) c.number-f.ensures
+    c.in-Number.is)) c.if-i-s.false))

@@ -13,9 +13,7 @@ word_spec =
     (λ c κs. search rules)
     (λ c. search rules)
     (λ c. search rules)
-    (λ c. no_formula _ (seen (formula_of _) c.before.before.formula_line.ensures c.enum_told.given.1))
+    (λ c. no_formula _ (seen (formula_of _) c.formula_line-f.ensures c.in_default.is))
     (λ c. search rules)
-    (λ c. let d = c.before.before.before.before in
-    word_follow _ _ _ (seen (formula_of _) d.formula_line.ensures c.before.before.f.given.1) c.if1.true)
-    (λ c. let d = c.before.before.before.before in
-    word_whole _ _ _ (seen (formula_of _) d.formula_line.ensures c.before.before.f.given.1) c.if1.false))
+    (λ c. word_follow _ _ _ (seen (formula_of _) c.formula_line-f.ensures c.in-Formula.is) c.if-i-s.true)
+    (λ c. word_whole _ _ _ (seen (formula_of _) c.formula_line-f.ensures c.in-Formula.is) c.if-i-s.false))

@@ -13,17 +13,14 @@ unfolding bytes
 read_hold_spec =
     tie.close
     (tie.spec
-    (λ c. search rules)
     (λ c κs. search rules)
     (λ c. search rules)
     (λ c. search rules)
-    (λ c. sym (hold_none _ (seen (past_of _) c.before.before.past.ensures c.enum_told.given.1)))
+    (λ c. sym (hold_none _ (seen (past_of _) c.past-p.ensures c.in_default.is)))
     (λ c κs. search rules)
     (λ c. search rules)
     (λ c. search rules)
-    (λ c. let d = c.before.before.before.before in
-    sym (hold_found _ _ (seen (past_of _) d.before.before.past.ensures d.p.given.1)
-    ∙ seen (decimal_of _) c.before.before.number.ensures c.enum-told2.given.1))
-    (λ c. let d = c.before.before.before.before in
-    sym (hold_found _ _ (seen (past_of _) d.before.before.before.past.ensures d.before.p.given.1)
-    ∙ seen (decimal_of _) c.before.before.before.number.ensures c.before.f.given.1)))
+    (λ c. sym (hold_found _ _ (seen (past_of _) c.past-p.ensures c.in-Past.is)
+    ∙ seen (decimal_of _) c.number-f.ensures c.in_default-f.is))
+    (λ c. sym (hold_found _ _ (seen (past_of _) c.past-p.ensures c.in-Past.is)
+    ∙ seen (decimal_of _) c.number-f.ensures c.in-Number.is)))

@@ -16,18 +16,15 @@ holder_fields_spec =
     (λ c κs. search rules)
     (λ c. search rules)
     (λ c. search rules)
-    (λ c. sym (holder_line_holds _ ∙ then_no _ (seen (decimal_of _) c.before.before.number.ensures
-    c.enum_told.given.1)))
+    (λ c. sym (holder_line_holds _ ∙ then_no _ (seen (decimal_of _) c.number-f.ensures
+    c.in_default.is)))
     (λ c κs. search rules)
     (λ c. search rules)
     (λ c. search rules)
-    (λ c. let d = c.before.before.before.before in
-    sym (holder_line_holds _ ∙ then_some _ (seen (decimal_of _) d.before.before.number.ensures d.f.given.1)
-    ∙ then_no _ (seen (decimal_of _) c.before.before.number2.ensures c.enum-told2.given.1)))
+    (λ c. sym (holder_line_holds _ ∙ then_some _ (seen (decimal_of _) c.number-f.ensures c.in-Number.is)
+    ∙ then_no _ (seen (decimal_of _) c.number-g.ensures c.in_default-g.is)))
     (λ c κs. search rules)
-    (λ c. let b = c.before in
-    let d = b.before.before.before.before in
-    step_told _ c.plain_step.ensures
-    ∙ sym (holder_line_holds _ ∙ then_some _ (seen (decimal_of _) d.before.before.before.number.ensures
-    d.before.f.given.1)
-    ∙ then_some _ (seen (decimal_of _) b.before.before.before.number2.ensures b.before.g.given.1))))
+    (λ c. step_told _ c.plain_step.ensures
+    ∙ sym (holder_line_holds _ ∙ then_some _ (seen (decimal_of _) c.number-f.ensures
+    c.in-Number.is)
+    ∙ then_some _ (seen (decimal_of _) c.number-g.ensures c.in-Number-g.is))))

@@ -17,15 +17,13 @@ implies_fields_spec =
     (λ c κs. search rules)
     (λ c. search rules)
     (λ c. search rules)
-    (λ c. sym (implies_line _ ∙ then_no _ (seen (decimal_of _) c.before.before.number.ensures
-    c.enum_told.given.1)))
+    (λ c. sym (implies_line _ ∙ then_no _ (seen (decimal_of _) c.number-f.ensures
+    c.in_default.is)))
     (λ c κs. search rules)
     (λ c. search rules)
     (λ c. search rules)
-    (λ c. let d = c.before.before.before.before in
-    sym (implies_line _ ∙ then_some _ (seen (decimal_of _) d.before.before.number.ensures d.f.given.1)
-    ∙ then_no _ (seen (span_of _) c.before.before.interval.ensures c.enum-told2.given.1)))
-    (λ c. let d = c.before.before.before.before in
-    sym (implies_line _ ∙ then_some _ (seen (decimal_of _) d.before.before.before.number.ensures
-    d.before.f.given.1)
-    ∙ then_some _ (seen (span_of _) c.before.before.before.interval.ensures c.before.g.given.1))))
+    (λ c. sym (implies_line _ ∙ then_some _ (seen (decimal_of _) c.number-f.ensures c.in-Number.is)
+    ∙ then_no _ (seen (span_of _) c.interval-g.ensures c.in_default-g.is)))
+    (λ c. sym (implies_line _ ∙ then_some _ (seen (decimal_of _) c.number-f.ensures
+    c.in-Number.is)
+    ∙ then_some _ (seen (span_of _) c.interval-g.ensures c.in-Minutes.is))))

@@ -14,9 +14,9 @@ label_fields_spec =
     (λ c κs. search rules)
     (λ c. search rules)
     (λ c. search rules)
-    (λ c. sym (label_line _ _ ∙ then_no _ (seen (decimal_of _) c.before.before.number.ensures
-    c.enum_told.given.1)))
+    (λ c. sym (label_line _ _ ∙ then_no _ (seen (decimal_of _) c.number-f.ensures
+    c.in_default.is)))
     (λ c κs. search rules)
     (λ c. step_told _ c.plain_step.ensures
-    ∙ sym (label_line _ _ ∙ then_some _ (seen (decimal_of _) c.before.before.before.before.number.ensures
-    c.before.before.f.given.1))))
+    ∙ sym (label_line _ _ ∙ then_some _ (seen (decimal_of _) c.number-f.ensures
+    c.in-Number.is))))

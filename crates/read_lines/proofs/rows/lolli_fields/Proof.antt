@@ -17,28 +17,23 @@ lolli_fields_spec =
     (λ c κs. search rules)
     (λ c. search rules)
     (λ c. search rules)
-    (λ c. sym (lolli_line _ ∙ then_no _ (seen (decimal_of _) c.before.before.number.ensures
-    c.enum_told.given.1)))
+    (λ c. sym (lolli_line _ ∙ then_no _ (seen (decimal_of _) c.number-f.ensures
+    c.in_default.is)))
     (λ c κs. search rules)
     (λ c. search rules)
     (λ c. search rules)
-    (λ c. let d = c.before.before.before.before in
-    sym (lolli_line _ ∙ then_some _ (seen (decimal_of _) d.before.before.number.ensures d.f.given.1)
-    ∙ then_no _ (seen (labels_of _) c.before.before.label-set.ensures c.enum-told2.given.1)))
+    (λ c. sym (lolli_line _ ∙ then_some _ (seen (decimal_of _) c.number-f.ensures c.in-Number.is)
+    ∙ then_no _ (seen (labels_of _) c.label_set-g.ensures c.in_default-g.is)))
     (λ c κs. search rules)
     (λ c. search rules)
     (λ c. search rules)
-    (λ c. let d = c.before.before.before.before in
-    let e = d.before.before.before.before in
-    sym (lolli_line _ ∙ then_some _ (seen (decimal_of _) e.before.before.number.ensures e.f.given.1)
-    ∙ then_some _ (seen (labels_of _) d.before.before.label-set.ensures d.g.given.1)
-    ∙ then_no _ (seen (span_of _) c.before.before.interval.ensures c.enum-told3.given.1)))
+    (λ c. sym (lolli_line _ ∙ then_some _ (seen (decimal_of _) c.number-f.ensures c.in-Number.is)
+    ∙ then_some _ (seen (labels_of _) c.label_set-g.ensures c.in-Set.is)
+    ∙ then_no _ (seen (span_of _) c.interval-h.ensures c.in_default-h.is)))
     (λ c. search rules)
     (λ c. search rules)
-    (λ c. let d = c.before.before.before.before in
-    let e = d.before.before.before.before in
-    lolli_halves _ _ _ _
+    (λ c. lolli_halves _ _ _ _
     ∙ sym (lolli_line _ ∙ then_some _
-    (seen (decimal_of _) e.before.before.before.number.ensures e.before.f.given.1)
-    ∙ then_some _ (seen (labels_of _) d.before.before.before.label-set.ensures d.before.g.given.1)
-    ∙ then_some _ (seen (span_of _) c.before.before.before.interval.ensures c.before.h.given.1))))
+    (seen (decimal_of _) c.number-f.ensures c.in-Number.is)
+    ∙ then_some _ (seen (labels_of _) c.label_set-g.ensures c.in-Set.is)
+    ∙ then_some _ (seen (span_of _) c.interval-h.ensures c.in-Minutes.is))))

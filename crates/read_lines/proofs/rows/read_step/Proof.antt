@@ -7,33 +7,29 @@ use Rattle.read_lines.proofs.Ops.{step_none, step_told}
 use Rattle.read_lines.proofs.rows.read_step.Statement.{statement}
 use Rattle.read_lines.proofs.rows.read_step.Tie as tie
 
-returns_2 : tie.Need-returns-2
+returns_2 : tie.Need-returns-then-stop-ne10
 returns_2 c =
-    let d = c.before.before.before.before in
-    sym (step_plain_on _ _ d.before.before.if1.false c.before.before.before.op-of.ensures
-    c.before.if2.true c.if3.true)
+    sym (step_plain_on _ _ c.if-s-i.false c.op_of-op.ensures
+    c.if-op-lt-TR.true c.if-stop-ne10.true)
 
-returns_3 : tie.Need-returns-3
+returns_3 : tie.Need-returns-then-op-lt-TR
 returns_3 c =
-    let d = c.before.before.before.before in
     step_told _ c.plain_step.ensures
-    ∙ sym (step_plain _ _ d.before.before.before.if1.false d.op-of.ensures c.before.before.if2.true
-    c.before.if3.false)
+    ∙ sym (step_plain _ _ c.if-s-i.false c.op_of-op.ensures c.if-op-lt-TR.true
+    c.if-stop-ne10.false)
 
-returns_9 : tie.Need-returns-9
+returns_9 : tie.Need-returns-then-op-eq-UL
 returns_9 c =
-    let d = c.before.before.before.before in
-    let e = d.before.before.before.before in
-    c.implies-fields.ensures
-    ∙ sym (step_fields_holds _ _ e.before.before.before.before.if1.false e.before.op-of.ensures
-    d.before.before.if4.false ul_number c.before.if9.true)
+    c.implies_fields.ensures
+    ∙ sym (step_fields_holds _ _ c.if-s-i.false c.op_of-op.ensures
+    c.if-stop-ne44.false ul_number c.if-op-eq-UL.true)
 
 pub read_step_spec : {M : Type 1} → statement M
 read_step_spec =
     tie.close
     (tie.spec
     (λ c. search rules)
-    (λ c. sym (step_short _ _ c.if1.true))
+    (λ c. sym (step_short _ _ c.if-s-i.true))
     (λ c. search rules)
     (λ c. search rules)
     (λ c. search rules)
@@ -44,38 +40,27 @@ read_step_spec =
     returns_2
     (λ c κs. search rules)
     returns_3
-    (λ c. let d = c.before.before.before.before in
-    sym (step_bare _ _ d.before.before.if1.false c.before.before.before.op-of.ensures
-    c.before.if2.false c.if4.true))
+    (λ c. sym (step_bare _ _ c.if-s-i.false c.op_of-op.ensures
+    c.if-op-lt-TR.false c.if-stop-ne44.true))
     (λ c κs. search rules)
-    (λ c. let d = c.before.before.before.before in
-    let e = d.before.before.before.before in
-    c.set-fields.ensures
-    ∙ sym (step_fields_holds _ _ e.if1.false d.before.op-of.ensures c.before.before.if4.false tr_number
-    c.before.if5.true))
+    (λ c. c.set_fields.ensures
+    ∙ sym (step_fields_holds _ _ c.if-s-i.false c.op_of-op.ensures c.if-stop-ne44.false tr_number
+    c.if-op-eq-TR.true))
     (λ c κs. search rules)
-    (λ c. let d = c.before.before.before.before in
-    let e = d.before.before.before.before in
-    c.label-fields.ensures
-    ∙ sym (step_label _ _ e.before.if1.false d.before.before.op-of.ensures
-    c.before.before.before.if4.false
-    d.if2.false c.before.before.if5.false c.before.if6.true))
+    (λ c. c.label_fields.ensures
+    ∙ sym (step_label _ _ c.if-s-i.false c.op_of-op.ensures
+    c.if-stop-ne44.false
+    c.if-op-lt-TR.false c.if-op-eq-TR.false c.if-op-lt-AL.true))
     (λ c κs. search rules)
-    (λ c. let d = c.before.before.before.before in
-    let e = d.before.before.before.before in
-    c.holder-fields.ensures
-    ∙ sym (step_fields_holds _ _ e.before.before.if1.false d.before.before.before.op-of.ensures
-    d.if4.false al_number c.before.if7.true))
+    (λ c. c.holder_fields.ensures
+    ∙ sym (step_fields_holds _ _ c.if-s-i.false c.op_of-op.ensures
+    c.if-stop-ne44.false al_number c.if-op-eq-AL.true))
     (λ c κs. search rules)
-    (λ c. let d = c.before.before.before.before in
-    let e = d.before.before.before.before in
-    c.lolli-fields.ensures
-    ∙ sym (step_fields_holds _ _ e.before.before.before.if1.false e.op-of.ensures d.before.if4.false ll_number
-    c.before.if8.true))
+    (λ c. c.lolli_fields.ensures
+    ∙ sym (step_fields_holds _ _ c.if-s-i.false c.op_of-op.ensures c.if-stop-ne44.false ll_number
+    c.if-op-eq-LL.true))
     (λ c κs. search rules)
     returns_9
-    (λ c. let d = c.before.before.before.before in
-    let e = d.before.before.before.before in
-    sym (step_none _ _ e.before.before.before.if1.false e.op-of.ensures d.before.if4.false
-    c.before.before.before.if6.false
-    c.before.before.if7.false c.before.if8.false c.if9.false)))
+    (λ c. sym (step_none _ _ c.if-s-i.false c.op_of-op.ensures c.if-stop-ne44.false
+    c.if-op-lt-AL.false
+    c.if-op-eq-AL.false c.if-op-eq-LL.false c.if-op-eq-UL.false)))

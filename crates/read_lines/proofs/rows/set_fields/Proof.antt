@@ -16,12 +16,12 @@ set_fields_spec =
     (λ c κs. search rules)
     (λ c. search rules)
     (λ c. search rules)
-    (λ c. sym (set_line _ ∙ then_no _ (seen (labels_of _) c.before.before.label-set.ensures
-    c.enum_told.given.1)))
+    (λ c. sym (set_line _ ∙ then_no _ (seen (labels_of _) c.label_set-f.ensures
+    c.in_default.is)))
     (λ c. search rules)
     (λ c. search rules)
     (λ c κs. search rules)
     (λ c. step_told _ c.plain_step.ensures
     ∙ set_halves _ _
-    ∙ sym (set_line _ ∙ then_some _ (seen (labels_of _) c.before.before.before.before.label-set.ensures
-    c.before.before.f.given.1))))
+    ∙ sym (set_line _ ∙ then_some _ (seen (labels_of _) c.label_set-f.ensures
+    c.in-Set.is))))

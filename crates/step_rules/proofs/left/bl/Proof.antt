@@ -6,14 +6,14 @@ use Rattle.steps.specs.Plans.{when}
 use Rattle.step_rules.proofs.left.bl.Statement.{statement}
 use Rattle.step_rules.proofs.left.bl.Tie as tie
 
-returns : tie.Need-returns
+returns : tie.Need-returns-then-x-ne-BANG
 unfolding when
-returns c = rw (ne_eqb _ _ c.if1.true)
+returns c = rw (ne_eqb _ _ c.if-x-ne-BANG.true)
 
-returns_2 : tie.Need-returns-2
+returns_2 : tie.Need-returns
 unfolding when
 returns_2 c =
-    rw (eq-eqb _ _ c.before.before.if1.false) (c.unrestricted.ensures ∙ simp c.before.part_of.ensures)
+    rw (eq-eqb _ _ c.if-x-ne-BANG.false) (c.unrestricted.ensures ∙ simp c.part_of-part.ensures)
 
 pub bl_spec : {M : Type 1} → statement M
 bl_spec =

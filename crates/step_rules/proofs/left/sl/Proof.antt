@@ -6,16 +6,15 @@ use Rattle.steps.specs.Plans.{when}
 use Rattle.step_rules.proofs.left.sl.Statement.{statement}
 use Rattle.step_rules.proofs.left.sl.Tie as tie
 
-returns : tie.Need-returns
+returns : tie.Need-returns-then-x-ne-SAYS
 unfolding when
-returns c = rw (ne_eqb _ _ c.if1.true)
+returns c = rw (ne_eqb _ _ c.if-x-ne-SAYS.true)
 
-returns_2 : tie.Need-returns-2
+returns_2 : tie.Need-returns
 unfolding when
 returns_2 c =
-    let b = c.before.before.before in
-    rw (eq-eqb _ _ b.before.if1.false)
-    (c.linear.ensures ∙ simp (c.before.contains.ensures, b.part_of.ensures))
+    rw (eq-eqb _ _ c.if-x-ne-SAYS.false)
+    (c.linear.ensures ∙ simp (c.contains.ensures, c.part_of-b.ensures))
 
 pub sl_spec : {M : Type 1} → statement M
 sl_spec =

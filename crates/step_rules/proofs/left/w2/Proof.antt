@@ -6,14 +6,14 @@ use Rattle.steps.specs.Plans.{when}
 use Rattle.step_rules.proofs.left.w2.Statement.{statement}
 use Rattle.step_rules.proofs.left.w2.Tie as tie
 
-returns : tie.Need-returns
+returns : tie.Need-returns-then-x-ne-WITH
 unfolding when
-returns c = rw (ne_eqb _ _ c.if1.true)
+returns c = rw (ne_eqb _ _ c.if-x-ne-WITH.true)
 
-returns_2 : tie.Need-returns-2
+returns_2 : tie.Need-returns
 unfolding when
 returns_2 c =
-    rw (eq-eqb _ _ c.before.before.if1.false) (c.linear.ensures ∙ simp c.before.part_of.ensures)
+    rw (eq-eqb _ _ c.if-x-ne-WITH.false) (c.linear.ensures ∙ simp c.part_of-second.ensures)
 
 pub w2_spec : {M : Type 1} → statement M
 w2_spec =

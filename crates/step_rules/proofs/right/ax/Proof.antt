@@ -16,24 +16,21 @@ holders_last true true false b w h = refl
 holders_last true true true false w h = refl
 holders_last true true true true w h = and_comm w h
 
-returns : tie.Need-returns
+returns : tie.Need-returns-then-x-eq-ATOM
 unfolding when
 returns c =
-    let w = c.before.before.before in
-    rw (eq-eqb _ _ c.before.if1.true)
-    (c.when.ensures ∙ simp (w.contains.ensures, w.before.is-just.ensures, and-true))
+    rw (eq-eqb _ _ c.if-x-eq-ATOM.true)
+    (c.when.ensures ∙ simp (c.contains.ensures, c.is_just.ensures, and-true))
 
-returns_2 : tie.Need-returns-2
+returns_2 : tie.Need-returns
 returns_2 c =
-    let h = c.before.before in
-    let w = h.before.before.before.before in
-    rw (ne_eqb _ _ h.before.before.if1.false)
-    (c.when2.ensures
+    rw (ne_eqb _ _ c.if-x-eq-ATOM.false)
+    (c.when-2.ensures
     ∙ rw (when_and, holders_last) (simp (
-      w.contains.ensures,
-      w.before.is-just.ensures,
-      h.holder-of2.ensures,
-      h.before.holder-of.ensures,
+      c.contains.ensures,
+      c.is_just.ensures,
+      c.holder_of-ours.ensures,
+      c.holder_of-theirs.ensures,
     )))
 
 pub ax_spec : {M : Type 1} → statement M

@@ -6,15 +6,14 @@ use Rattle.steps.specs.Plans.{when}
 use Rattle.step_rules.proofs.right.br.Statement.{statement}
 use Rattle.step_rules.proofs.right.br.Tie as tie
 
-returns : tie.Need-returns
+returns : tie.Need-returns-then-x-ne-BANG
 unfolding when
-returns c = rw (ne_eqb _ _ c.if1.true)
+returns c = rw (ne_eqb _ _ c.if-x-ne-BANG.true)
 
-returns_2 : tie.Need-returns-2
+returns_2 : tie.Need-returns
 unfolding when
 returns_2 c =
-    let b = c.before.before in
-    rw (eq-eqb _ _ b.before.if1.false) (c.goal.ensures ∙ simp (c.before.is-empty.ensures, b.part_of.ensures))
+    rw (eq-eqb _ _ c.if-x-ne-BANG.false) (c.goal.ensures ∙ simp (c.is_empty.ensures, c.part_of-a.ensures))
 
 pub br_spec : {M : Type 1} → statement M
 br_spec =

@@ -6,15 +6,15 @@ use Rattle.steps.specs.Plans.{when}
 use Rattle.step_rules.proofs.right.gr.Statement.{statement}
 use Rattle.step_rules.proofs.right.gr.Tie as tie
 
-returns : tie.Need-returns
+returns : tie.Need-returns-then-x-ne-SUPERSET
 unfolding when
-returns c = rw (ne_eqb _ _ c.if1.true)
+returns c = rw (ne_eqb _ _ c.if-x-ne-SUPERSET.true)
 
-returns_2 : tie.Need-returns-2
+returns_2 : tie.Need-returns
 unfolding when
 returns_2 c =
-    rw (eq-eqb _ _ c.before.before.before.before.before.if1.false)
-    (c.when.ensures ∙ simp (c.before.contains.ensures, c.before.before.is-empty.ensures))
+    rw (eq-eqb _ _ c.if-x-ne-SUPERSET.false)
+    (c.when.ensures ∙ simp (c.contains.ensures, c.is_empty.ensures))
 
 pub gr_spec : {M : Type 1} → statement M
 gr_spec =

@@ -6,14 +6,14 @@ use Rattle.steps.specs.Plans.{when}
 use Rattle.step_rules.proofs.right.or.Statement.{statement}
 use Rattle.step_rules.proofs.right.or.Tie as tie
 
-returns : tie.Need-returns
+returns : tie.Need-returns-then-x-ne-ONE
 unfolding when
-returns c = rw (ne_eqb _ _ c.if1.true)
+returns c = rw (ne_eqb _ _ c.if-x-ne-ONE.true)
 
-returns_2 : tie.Need-returns-2
+returns_2 : tie.Need-returns
 unfolding when
 returns_2 c =
-    rw (eq-eqb _ _ c.before.before.if1.false) (c.when.ensures ∙ simp c.before.is-empty.ensures)
+    rw (eq-eqb _ _ c.if-x-ne-ONE.false) (c.when.ensures ∙ simp c.is_empty.ensures)
 
 pub or_spec : {M : Type 1} → statement M
 or_spec =

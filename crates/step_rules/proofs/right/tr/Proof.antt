@@ -6,19 +6,18 @@ use Rattle.steps.specs.Plans.{when}
 use Rattle.step_rules.proofs.right.tr.Statement.{statement}
 use Rattle.step_rules.proofs.right.tr.Tie as tie
 
-returns : tie.Need-returns
+returns : tie.Need-returns-then-x-ne-TENSOR
 unfolding when
-returns c = rw (ne_eqb _ _ c.if1.true)
+returns c = rw (ne_eqb _ _ c.if-x-ne-TENSOR.true)
 
-returns_2 : tie.Need-returns-2
+returns_2 : tie.Need-returns
 unfolding when
 returns_2 c =
-    let b = c.before.before.before in
-    rw (eq-eqb _ _ b.before.before.if1.false) (c.goals.ensures ∙ simp (
-      c.before.subset.ensures,
-      c.before.before.without.ensures,
-      b.part-of2.ensures,
-      b.before.part_of.ensures,
+    rw (eq-eqb _ _ c.if-x-ne-TENSOR.false) (c.goals.ensures ∙ simp (
+      c.subset.ensures,
+      c.without-rest.ensures,
+      c.part_of-b.ensures,
+      c.part_of-a.ensures,
     ))
 
 pub tr_spec : {M : Type 1} → statement M

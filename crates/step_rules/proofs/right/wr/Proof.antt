@@ -6,16 +6,15 @@ use Rattle.steps.specs.Plans.{when}
 use Rattle.step_rules.proofs.right.wr.Statement.{statement}
 use Rattle.step_rules.proofs.right.wr.Tie as tie
 
-returns : tie.Need-returns
+returns : tie.Need-returns-then-x-ne-WITH
 unfolding when
-returns c = rw (ne_eqb _ _ c.if1.true)
+returns c = rw (ne_eqb _ _ c.if-x-ne-WITH.true)
 
-returns_2 : tie.Need-returns-2
+returns_2 : tie.Need-returns
 unfolding when
 returns_2 c =
-    let b = c.before in
-    rw (eq-eqb _ _ b.before.before.if1.false)
-    (c.goals.ensures ∙ simp (b.part-of2.ensures, b.before.part_of.ensures))
+    rw (eq-eqb _ _ c.if-x-ne-WITH.false)
+    (c.goals.ensures ∙ simp (c.part_of-b.ensures, c.part_of-a.ensures))
 
 pub wr_spec : {M : Type 1} → statement M
 wr_spec =
