@@ -81,7 +81,7 @@ pub title_exact : Exact 48 title_line TitleInRange title_fields 24
 unfolding title_line title_fields bytes same_bytes choose named all_of
 title_exact = record {
   reads = λ h r. word_reads "till" refl (λ us. refl) (edition_exact.reads h r);
-  only = choose_only (only_after edition_exact.only also done);
+  only = choose_only (◌also◌ {t = "till"} (only_after edition_exact.only) done);
 }
 
 -- A credential's line: at most 45 bytes

@@ -8,27 +8,23 @@ use Rattle.formula_facts.proofs.both.Statement.{statement}
 use Rattle.formula_facts.proofs.both.Tie as tie
 
 -- what two formulas have fits in a number
-add_t7 : tie.Need-overflow-add-t7
+add_t7 : tie.Need-overflow_add-result
 add_t7 c =
-    let least = c.before.before.before in
-    let s = least.before in
     omega (
       arith,
-      s.requires,
-      c.before.given.ensures,
-      c.given2.ensures,
-      given_le s.args.x least.least.result,
-      given_le s.args.y least.least.result,
+      c.requires,
+      c.given.ensures,
+      c.given-2.ensures,
+      given_le c.args.x c.least-low.result,
+      given_le c.args.y c.least-low.result,
     )
 
 returns : tie.Need-returns
 returns c =
-    let given = c.before in
-    let most = given.before in
     record {
-      lows = most.before.least.ensures;
-      highs = most.most.ensures;
-      given = ap₂ ◌+◌ given.given.ensures c.given2.ensures;
+      lows = c.least-low.ensures;
+      highs = c.most.ensures;
+      c = ap₂ ◌+◌ c.given.ensures c.given-2.ensures;
     }
 
 pub both_spec : {M : Type 1} → statement M

@@ -5,4 +5,4 @@ use Rattle.formula_facts.proofs.given.Tie as tie
 
 pub given_spec : {M : Type 1} → statement M
 given_spec =
-    tie.close (tie.spec (λ c. simp (eq-eqb _ _ c.if1.true)) (λ c. simp (ne_eqb _ _ c.if1.false)))
+    tie.close (tie.spec (λ c. simp (eq-eqb _ _ c.if-span-session.true)) (λ c. simp (ne_eqb _ _ c.if-span-session.false)))

@@ -12,38 +12,35 @@ use Rattle.formula_facts.proofs.Named.{all_below}
 use Rattle.formula_facts.proofs.names_there.Statement.{statement}
 use Rattle.formula_facts.proofs.names_there.Tie as tie
 
-returns : tie.Need-returns
+returns : tie.Need-returns-in-Nothing
 unfolding all_of
 returns c =
-    let p = c.before.before in
-    all_below _ _ _ p.parts-of.ensures c.enum_told.given.1 p.before.before.args.store.now _
-    p.before.formula-count.ensures p.before.before.requires
+    all_below _ _ _ c.parts_of.ensures c.in-Nothing.is c.args.store.now _
+    c.formula_count-n.ensures c.requires
 
-returns_2 : tie.Need-returns-2
+returns_2 : tie.Need-returns-in-One
 unfolding all_of
 returns_2 c =
-    let p = c.before.before.before in
     sym (and-true _)
-    ∙ all_below _ _ _ p.parts-of.ensures c.before.i.given.1 p.before.before.args.store.now _
-    p.before.formula-count.ensures p.before.before.requires
+    ∙ all_below _ _ _ c.parts_of.ensures c.in-One.is c.args.store.now _
+    c.formula_count-n.ensures c.requires
 
 -- two parts
-two : (c : tie.After-known-told2)
-    → (ltb c.before.i2.given.0.0 c.before.before.before.before.formula-count.result
-    && (ltb c.before.i2.given.0.1.0 c.before.before.before.before.formula-count.result && true))
-    ≡ not (any_of (missing (ledger_of c.before.before.before.before.before.args.store.now))
-    (names (line_of c.before.before.before.before.before.args.row)))
+two : (c : tie.In-Two)
+    → (ltb c.in-Two.i c.formula_count-n.result
+    && (ltb c.in-Two.j c.formula_count-n.result && true))
+    ≡ not (any_of (missing (ledger_of c.args.store.now))
+    (names (line_of c.args.row)))
 unfolding all_of
 two c =
-    let p = c.before.before.before in
-    all_below _ _ _ p.parts-of.ensures c.before.i2.given.1 p.before.before.args.store.now _
-    p.before.formula-count.ensures p.before.before.requires
+    all_below _ _ _ c.parts_of.ensures c.in-Two.is c.args.store.now _
+    c.formula_count-n.ensures c.requires
 
-returns_3 : tie.Need-returns-3
-returns_3 c = sym (and-true _) ∙ (simp (lt-ltb _ _ c.if1.true) at (two c.before))
+returns_3 : tie.Need-returns-then-i-n
+returns_3 c = sym (and-true _) ∙ (simp (lt-ltb _ _ c.if-i-n.true) at (two c.before))
 
-returns_4 : tie.Need-returns-4
-returns_4 c = le-ltb _ _ c.if1.false ∙ (simp (le-ltb _ _ c.if1.false) at (two c.before))
+returns_4 : tie.Need-returns-else-i-n
+returns_4 c = le-ltb _ _ c.if-i-n.false ∙ (simp (le-ltb _ _ c.if-i-n.false) at (two c.before))
 
 pub names_there_spec : {M : Type 1} → statement M
 names_there_spec =

@@ -22,48 +22,40 @@ any_two : {a b : Bool} (f : ℕ → Bool) (i j : ℕ) → a ≡ f i → b ≡ f 
 unfolding any_of
 any_two f i j e h = ap₂ ◌||◌ e (any_one f j h)
 
-there_one : (c : tie.After-known-told)
-    → There (ledger_of c.before.before.before.before.args.store.now) (c.before.i.given.0.0 ∷ [])
+there_one : (c : tie.In-One)
+    → There (ledger_of c.args.store.now) (c.in-One.i ∷ [])
 there_one c =
-    let p = c.before.before.before in
-    parts_there _ _ _ p.parts-of.ensures c.before.i.given.1 _ p.before.requires
+    parts_there _ _ _ c.parts_of.ensures c.in-One.is _ c.requires
 
-there_two : (c : tie.After-known-told2)
-    → There (ledger_of c.before.before.before.before.args.store.now)
-    (c.before.i2.given.0.0 ∷ c.before.i2.given.0.1.0 ∷ [])
+there_two : (c : tie.In-Two)
+    → There (ledger_of c.args.store.now)
+    (c.in-Two.i ∷ c.in-Two.j ∷ [])
 there_two c =
-    let p = c.before.before.before in
-    parts_there _ _ _ p.parts-of.ensures c.before.i2.given.1 _ p.before.requires
+    parts_there _ _ _ c.parts_of.ensures c.in-Two.is _ c.requires
 
-none : tie.Need-returns
+none : tie.Need-returns-in-Nothing
 unfolding any_of
 none c =
-    let p = c.before.before in
-    let asked = any_part _ _ _ p.parts-of.ensures c.enum_told.given.1 _ p.before.requires in
+    let asked = any_part _ _ _ c.parts_of.ensures c.in-Nothing.is _ c.requires in
     record { unbound = asked _; quantified = asked _ }
 
-one : tie.Need-returns-2
+one : tie.Need-returns-in-One
 one c =
-    let u = c.before in
-    let p = u.before.before.before.before in
-    let t = ledger_of p.before.args.store.now in
-    let asked = any_part _ _ _ p.parts-of.ensures u.before.before.i.given.1 _ p.before.requires in
+    let t = ledger_of c.args.store.now in
+    let asked = any_part _ _ _ c.parts_of.ensures c.in-One.is _ c.requires in
     record {
-      unbound = any_one (λ k. unbound (formula t k)) _ u.unbound-at.ensures ∙ asked _;
-      quantified = any_one (λ k. quantified (formula t k)) _ c.quantified-at.ensures ∙ asked _;
+      unbound = any_one (λ k. unbound (formula t k)) _ c.unbound_at.ensures ∙ asked _;
+      quantified = any_one (λ k. quantified (formula t k)) _ c.quantified_at.ensures ∙ asked _;
     }
 
-two : tie.Need-returns-3
+two : tie.Need-returns-in-Two
 two c =
-    let v = c.before.before in
-    let u = v.before in
-    let p = u.before.before.before.before in
-    let t = ledger_of p.before.args.store.now in
-    let asked = any_part _ _ _ p.parts-of.ensures u.before.before.i2.given.1 _ p.before.requires in
+    let t = ledger_of c.args.store.now in
+    let asked = any_part _ _ _ c.parts_of.ensures c.in-Two.is _ c.requires in
     record {
-      unbound = any_two (λ k. unbound (formula t k)) _ _ u.unbound-at2.ensures v.unbound-at3.ensures ∙ asked _;
+      unbound = any_two (λ k. unbound (formula t k)) _ _ c.unbound_at-in-Two.ensures c.unbound_at-in-Two-2.ensures ∙ asked _;
       quantified =
-          any_two (λ k. quantified (formula t k)) _ _ c.before.quantified-at2.ensures c.quantified-at3.ensures
+          any_two (λ k. quantified (formula t k)) _ _ c.quantified_at-in-Two.ensures c.quantified_at-in-Two-2.ensures
           ∙ asked _;
     }
 
@@ -74,14 +66,14 @@ parts_holders_spec =
     (λ c κs. search rules)
     (λ c. search rules)
     (λ c. search rules)
-    (λ c κs. (c.before.before.before.before.requires.good, (there_one c).0))
-    (λ c κs. (c.before.before.before.before.before.requires.good, (there_one c.before).0))
+    (λ c κs. (c.requires.good, (there_one c).0))
+    (λ c κs. (c.requires.good, (there_one c.before).0))
     (λ c. search rules)
-    (λ c κs. (c.before.before.before.before.requires.good, (there_two c).0))
-    (λ c κs. (c.before.before.before.before.before.requires.good, (there_two c.before).1.0))
-    (λ c κs. (c.before.before.before.before.before.before.requires.good, (there_two c.before.before).0))
+    (λ c κs. (c.requires.good, (there_two c).0))
+    (λ c κs. (c.requires.good, (there_two c.before).1.0))
+    (λ c κs. (c.requires.good, (there_two c.before.before).0))
     (λ c κs. (
-      c.before.before.before.before.before.before.before.requires.good,
+      c.requires.good,
       (there_two c.before.before.before).1.0,
     ))
     none one two)

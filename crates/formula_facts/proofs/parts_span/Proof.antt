@@ -29,69 +29,58 @@ together l r e x h g = record {
 }
 
 -- one part, and two
-there_one : (c : tie.After-known-told)
-    → There (ledger_of c.before.before.before.before.args.store.now) (c.before.i.given.0.0 ∷ [])
+there_one : (c : tie.In-One)
+    → There (ledger_of c.args.store.now) (c.in-One.i ∷ [])
 there_one c =
-    parts_there _ _ _ c.before.before.before.parts-of.ensures c.before.i.given.1 _
-    c.before.before.before.before.requires
+    parts_there _ _ _ c.parts_of.ensures c.in-One.is _
+    c.requires
 
-there_two : (c : tie.After-known-told2)
-    → There (ledger_of c.before.before.before.before.args.store.now)
-    (c.before.i2.given.0.0 ∷ c.before.i2.given.0.1.0 ∷ [])
+there_two : (c : tie.In-Two)
+    → There (ledger_of c.args.store.now)
+    (c.in-Two.i ∷ c.in-Two.j ∷ [])
 there_two c =
-    parts_there _ _ _ c.before.before.before.parts-of.ensures c.before.i2.given.1 _
-    c.before.before.before.before.requires
+    parts_there _ _ _ c.parts_of.ensures c.in-Two.is _
+    c.requires
 
-span-at-requires : tie.Need-span-at-requires
-span-at-requires c κs = (c.before.before.before.before.requires.good, (there_one c).0)
+span-at-requires : tie.Need-span_at-requires
+span-at-requires c κs = (c.requires.good, (there_one c).0)
 
-span_at_requires_2 : tie.Need-span-at-requires-2
-span_at_requires_2 c κs = (c.before.before.before.before.requires.good, (there_two c).0)
+span_at_requires_2 : tie.Need-span_at-requires-in-Two
+span_at_requires_2 c κs = (c.requires.good, (there_two c).0)
 
-span_at_requires_3 : tie.Need-span-at-requires-3
-span_at_requires_3 c κs = (c.before.before.before.before.before.requires.good, (there_two c.before).1.0)
+span_at_requires_3 : tie.Need-span_at-requires-in-Two-2
+span_at_requires_3 c κs = (c.requires.good, (there_two c.before).1.0)
 
 both-requires : tie.Need-both-requires
 both-requires c κs =
-    let d = c.before.before in
-    let sizes = d.before.before.before.before.requires.good.bounded.sizes in
-    let p = d.before.i2.given.0 in (
-      gives_small _ _ c.before.span-at2.ensures (sizes p.0),
-      gives_small _ _ c.span-at3.ensures (sizes p.1.0),
+    let sizes = c.requires.good.bounded.sizes in
+    let p = c.i-in-Two-1.given.0 in (
+      gives_small _ _ c.span_at-in-Two.ensures (sizes p.0),
+      gives_small _ _ c.span_at-in-Two-2.ensures (sizes p.1.0),
     )
 
-returns : tie.Need-returns
+returns : tie.Need-returns-in-Nothing
 unfolding sum
 returns c =
-    let p = c.before.before in
-    let s = p.before in
-    together s.args.store.now _
-    (parts_names _ _ _ p.parts-of.ensures c.enum_told.given.1 s.requires.canonical) _ tt refl
+    together c.args.store.now _
+    (parts_names _ _ _ c.parts_of.ensures c.in-Nothing.is c.requires.canonical) _ tt refl
 
-returns_2 : tie.Need-returns-2
+returns_2 : tie.Need-returns-in-One
 unfolding sum
 returns_2 c =
-    let d = c.before in
-    let p = d.before.before.before in
-    let s = p.before in
-    let w = c.span-at.ensures in
-    together s.args.store.now _
-    (parts_names _ _ _ p.parts-of.ensures d.before.i.given.1 s.requires.canonical) _
+    let w = c.span_at.ensures in
+    together c.args.store.now _
+    (parts_names _ _ _ c.parts_of.ensures c.in-One.is c.requires.canonical) _
     (w.between, tt) (omega (arith, w.given))
 
-returns_3 : tie.Need-returns-3
+returns_3 : tie.Need-returns-in-Two
 unfolding sum
 returns_3 c =
-    let second = c.before in
-    let first = second.before in
-    let d = first.before in
-    let p = d.before.before.before in
-    let s = p.before in
-    let v = first.span-at2.ensures in
-    let w = second.span-at3.ensures in
+    let v = c.span_at-in-Two.ensures in
+    let w = c.span_at-in-Two-2.ensures in
     let o = c.both.ensures in
-    together s.args.store.now _
-    (parts_names _ _ _ p.parts-of.ensures d.before.i2.given.1 s.requires.canonical) _
+    together c.args.store.now _
+    (parts_names _ _ _ c.parts_of.ensures c.in-Two.is c.requires.canonical) _
     (first_spans _ _ _ _ _ v w o, (second_spans _ _ _ _ _ v w o, tt)) (omega (arith, both_given _ _ _ _ _ v w o))
 
 pub parts_span_spec : {M : Type 1} → statement M

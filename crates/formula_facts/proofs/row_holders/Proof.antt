@@ -7,11 +7,10 @@ use Rattle.formula_facts.proofs.row_holders.Tie as tie
 
 returns : tie.Need-returns
 returns c =
-    let p = c.before.before.before.before.before in
-    let l = p.before.args.store.now in
-    let r = p.before.args.row in
-    let canonical = p.before.requires.canonical in
-    let parts = p.parts-holders.ensures in
+    let l = c.args.store.now in
+    let r = c.args.row in
+    let canonical = c.requires.canonical in
+    let parts = c.parts_holders-parts.ensures in
     record {
       unbound = rw parts.unbound (sym (unbound_is l r canonical));
       quantified = rw parts.quantified (sym (quantified_is l r canonical));

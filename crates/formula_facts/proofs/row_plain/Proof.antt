@@ -15,74 +15,64 @@ use Rattle.formula_facts.proofs.Named.{other_letter, parts_there, parts_plain}
 use Rattle.formula_facts.proofs.row_plain.Statement.{statement}
 use Rattle.formula_facts.proofs.row_plain.Tie as tie
 
-returns : tie.Need-returns
+returns : tie.Need-returns-then-not-plain_letter
 returns c =
-    let s = c.before.before in
-    other_letter (formula (ledger_of s.args.store.now)) _ s.requires.canonical
-    (sym c.before.plain-letter.ensures ∙ c.if1.true)
+    other_letter (formula (ledger_of c.args.store.now)) _ c.requires.canonical
+    (sym c.plain_letter.ensures ∙ c.if-not-plain_letter.true)
 
-plain-at-requires : tie.Need-plain-at-requires
+plain-at-requires : tie.Need-plain_at-requires
 plain-at-requires c κs =
-    let p = c.before.before.before in
-    let s = p.before.before.before in
-    (s.requires.good, (parts_there _ _ _ p.parts-of.ensures c.before.i.given.1 _ s.requires).0)
+    (c.requires.good, (parts_there _ _ _ c.parts_of.ensures c.in-One.is _ c.requires).0)
 
-there_two : (c : tie.After-known-told2)
-    → There (ledger_of c.before.before.before.before.before.before.args.store.now)
-    (c.before.i2.given.0.0 ∷ c.before.i2.given.0.1.0 ∷ [])
+there_two : (c : tie.In-Two)
+    → There (ledger_of c.args.store.now)
+    (c.in-Two.i ∷ c.in-Two.j ∷ [])
 there_two c =
-    let p = c.before.before.before in
-    parts_there _ _ _ p.parts-of.ensures c.before.i2.given.1 _ p.before.before.before.requires
+    parts_there _ _ _ c.parts_of.ensures c.in-Two.is _ c.requires
 
-plain_at_requires_2 : tie.Need-plain-at-requires-2
-plain_at_requires_2 c κs = (c.before.before.before.before.before.before.requires.good, (there_two c).0)
+plain_at_requires_2 : tie.Need-plain_at-requires-in-Two
+plain_at_requires_2 c κs = (c.requires.good, (there_two c).0)
 
-plain_at_requires_3 : tie.Need-plain-at-requires-3
+plain_at_requires_3 : tie.Need-plain_at-requires-then-plain_at
 plain_at_requires_3 c κs =
-    (c.before.before.before.before.before.before.before.before.requires.good, (there_two c.before.before).1.0)
+    (c.requires.good, (there_two c.before.before).1.0)
 
 -- the letter is one of a plain formula
-known : (c : tie.After-parts-of) → among c.before.before.before.args.row.letter plains ≡ true
-known c = sym c.before.before.plain-letter.ensures ∙ c.before.if1.false
+known : (c : tie.After-parts_of) → among c.args.row.letter plains ≡ true
+known c = sym c.plain_letter.ensures ∙ c.if-not-plain_letter.false
 
-returns_2 : tie.Need-returns-2
+returns_2 : tie.Need-returns-in-Nothing
 unfolding all_of
 returns_2 c =
-    let p = c.before.before in
-    let s = p.before.before.before in
-    parts_plain _ _ _ p.parts-of.ensures c.enum_told.given.1 s.args.store.now s.requires (known p)
+    parts_plain _ _ _ c.parts_of.ensures c.in-Nothing.is c.args.store.now c.requires (known c.before)
 
-returns_3 : tie.Need-returns-3
+returns_3 : tie.Need-returns-in-One
 unfolding all_of
 returns_3 c =
-    let p = c.before.before.before.before in
-    let s = p.before.before.before in
-    let l = s.args.store.now in
+    let l = c.args.store.now in
     c.plain_at.ensures ∙ sym (and-true _)
-    ∙ parts_plain _ _ _ p.parts-of.ensures c.before.before.i.given.1 l s.requires (known p)
+    ∙ parts_plain _ _ _ c.parts_of.ensures c.in-One.is l c.requires (known c.before.before)
 
 -- two parts
-two : (c : tie.After-plain-at2)
-    → (c.plain-at2.result
-    && (plain (formula (ledger_of c.before.before.before.before.before.before.before.args.store.now)
-    c.before.before.i2.given.0.1.0)
+two : (c : tie.After-plain_at-in-Two)
+    → (c.plain_at-in-Two.result
+    && (plain (formula (ledger_of c.args.store.now)
+    c.in-Two.j)
     && true))
-    ≡ plain (form (formula (ledger_of c.before.before.before.before.before.before.before.args.store.now))
-    (line_of c.before.before.before.before.before.before.before.args.row))
+    ≡ plain (form (formula (ledger_of c.args.store.now))
+    (line_of c.args.row))
 unfolding all_of
 two c =
-    let p = c.before.before.before.before in
-    let s = p.before.before.before in
-    let l = s.args.store.now in
-    rw c.plain-at2.ensures
-    (parts_plain _ _ _ p.parts-of.ensures c.before.before.i2.given.1 l s.requires (known p))
+    let l = c.args.store.now in
+    rw c.plain_at-in-Two.ensures
+    (parts_plain _ _ _ c.parts_of.ensures c.in-Two.is l c.requires (known c.before.before))
 
-returns_4 : tie.Need-returns-4
+returns_4 : tie.Need-returns-then-plain_at
 returns_4 c =
-    c.plain-at3.ensures ∙ sym (and-true _) ∙ (simp c.before.if2.true at (two c.before.before))
+    c.plain_at-then-plain_at.ensures ∙ sym (and-true _) ∙ (simp c.if-plain_at.true at (two c.before.before))
 
-returns_5 : tie.Need-returns-5
-returns_5 c = c.if2.false ∙ (simp c.if2.false at (two c.before))
+returns_5 : tie.Need-returns-else-plain_at
+returns_5 c = c.if-plain_at.false ∙ (simp c.if-plain_at.false at (two c.before))
 
 pub row_plain_spec : {M : Type 1} → statement M
 row_plain_spec =

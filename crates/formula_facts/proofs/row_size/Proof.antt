@@ -11,68 +11,64 @@ use Rattle.formula_facts.proofs.row_size.Statement.{statement}
 use Rattle.formula_facts.proofs.row_size.Tie as tie
 
 -- one part, and two
-there_one : (c : tie.After-known-told)
-    → There (ledger_of c.before.before.before.before.args.store.now) (c.before.i.given.0.0 ∷ [])
+there_one : (c : tie.In-One)
+    → There (ledger_of c.args.store.now) (c.in-One.i ∷ [])
 there_one c =
-    parts_there _ _ _ c.before.before.before.parts-of.ensures c.before.i.given.1 _
-    c.before.before.before.before.requires
+    parts_there _ _ _ c.parts_of.ensures c.in-One.is _
+    c.requires
 
-there_two : (c : tie.After-known-told2)
-    → There (ledger_of c.before.before.before.before.args.store.now)
-    (c.before.i2.given.0.0 ∷ c.before.i2.given.0.1.0 ∷ [])
+there_two : (c : tie.In-Two)
+    → There (ledger_of c.args.store.now)
+    (c.in-Two.i ∷ c.in-Two.j ∷ [])
 there_two c =
-    parts_there _ _ _ c.before.before.before.parts-of.ensures c.before.i2.given.1 _
-    c.before.before.before.before.requires
+    parts_there _ _ _ c.parts_of.ensures c.in-Two.is _
+    c.requires
 
-size-at-requires : tie.Need-size-at-requires
-size-at-requires c κs = (c.before.before.before.before.requires.good, (there_one c).0)
+size-at-requires : tie.Need-size_at-requires
+size-at-requires c κs = (c.requires.good, (there_one c).0)
 
-add-result : tie.Need-overflow-add-result
+add-result : tie.Need-overflow_add-result
 add-result c =
-    let s = c.before.before.before.before.before in
-    omega (arith, c.size-at.ensures, s.requires.good.bounded.sizes c.before.before.i.given.0.0)
+    omega (arith, c.size_at.ensures, c.requires.good.bounded.sizes c.in-One.i)
 
-size_at_requires_2 : tie.Need-size-at-requires-2
-size_at_requires_2 c κs = (c.before.before.before.before.requires.good, (there_two c).0)
+size_at_requires_2 : tie.Need-size_at-requires-in-Two
+size_at_requires_2 c κs = (c.requires.good, (there_two c).0)
 
-size_at_requires_3 : tie.Need-size-at-requires-3
-size_at_requires_3 c κs = (c.before.before.before.before.before.requires.good, (there_two c.before).1.0)
+size_at_requires_3 : tie.Need-size_at-requires-in-Two-2
+size_at_requires_3 c κs = (c.requires.good, (there_two c.before).1.0)
 
 -- both sizes are small
-small : (c : tie.After-size-at3) → c.before.size-at2.result + c.size-at3.result ≤ 128
+small : (c : tie.After-size_at-in-Two-2) → c.size_at-in-Two.result + c.size_at-in-Two-2.result ≤ 128
 small c =
-    let s = c.before.before.before.before.before.before in
-    let p = c.before.before.before.i2.given.0 in
+    let p = c.i-in-Two-1.given.0 in
     omega (
       arith,
-      c.size-at3.ensures,
-      c.before.size-at2.ensures,
-      s.requires.good.bounded.sizes p.0,
-      s.requires.good.bounded.sizes p.1.0,
+      c.size_at-in-Two-2.ensures,
+      c.size_at-in-Two.ensures,
+      c.requires.good.bounded.sizes p.0,
+      c.requires.good.bounded.sizes p.1.0,
     )
 
-returns : tie.Need-returns
+returns : tie.Need-returns-in-Nothing
 unfolding sum
 returns c =
-    parts_size _ _ _ c.before.before.parts-of.ensures c.enum_told.given.1 _ c.before.before.before.requires
+    parts_size _ _ _ c.parts_of.ensures c.in-Nothing.is _ c.requires
 
-returns_2 : tie.Need-returns-2
+returns_2 : tie.Need-returns-in-One
 unfolding sum
 returns_2 c =
-    let d = c.before in
     let e =
-    parts_size _ _ _ d.before.before.before.parts-of.ensures d.before.i.given.1 _
-    d.before.before.before.before.requires in
-    omega (arith, e, c.size-at.ensures)
+    parts_size _ _ _ c.parts_of.ensures c.in-One.is _
+    c.requires in
+    omega (arith, e, c.size_at.ensures)
 
-returns_3 : tie.Need-returns-3
+returns_3 : tie.Need-returns-in-Two
 unfolding sum
 returns_3 c =
-    let d = c.before.before in
     let e =
-    parts_size _ _ _ d.before.before.before.parts-of.ensures d.before.i2.given.1 _
-    d.before.before.before.before.requires in
-    omega (arith, e, c.size-at3.ensures, c.before.size-at2.ensures)
+    parts_size _ _ _ c.parts_of.ensures c.in-Two.is _
+    c.requires in
+    omega (arith, e, c.size_at-in-Two-2.ensures, c.size_at-in-Two.ensures)
 
 pub row_size_spec : {M : Type 1} → statement M
 row_size_spec =

@@ -7,27 +7,21 @@ use Rattle.formula_facts.proofs.Spanned.{atom_span, parts_span}
 use Rattle.formula_facts.proofs.row_span.Statement.{statement}
 use Rattle.formula_facts.proofs.row_span.Tie as tie
 
-returns : tie.Need-returns
+returns : tie.Need-returns-then-row
 returns c =
-    let t = c.before in
-    let s = t.before.before.before in
-    atom_span (formula (ledger_of s.args.store.now)) _ s.requires.canonical t.if1.true c.own.ensures
+    atom_span (formula (ledger_of c.args.store.now)) _ c.requires.canonical c.if-row.true c.own.ensures
 
-returns_2 : tie.Need-returns-2
+returns_2 : tie.Need-returns-then-row-eq-SAYS
 returns_2 c =
-    let p = c.before.before.before in
-    let s = p.before.before.before.before in
-    parts_span (formula (ledger_of s.args.store.now)) _ s.requires.canonical s.requires.good.bounded.sizes
-    p.before.if1.false _ p.parts_span.ensures.between p.parts_span.ensures.given
-    (rw (eq-eqb _ _ c.before.if2.true) c.said.ensures)
+    parts_span (formula (ledger_of c.args.store.now)) _ c.requires.canonical c.requires.good.bounded.sizes
+    c.if-row.false _ c.parts_span-parts.ensures.between c.parts_span-parts.ensures.given
+    (rw (eq-eqb _ _ c.if-row-eq-SAYS.true) c.said.ensures)
 
-returns_3 : tie.Need-returns-3
+returns_3 : tie.Need-returns
 returns_3 c =
-    let p = c.before.before in
-    let s = p.before.before.before.before in
-    parts_span (formula (ledger_of s.args.store.now)) _ s.requires.canonical s.requires.good.bounded.sizes
-    p.before.if1.false _ p.parts_span.ensures.between p.parts_span.ensures.given
-    (rw (ne_eqb _ _ c.if2.false))
+    parts_span (formula (ledger_of c.args.store.now)) _ c.requires.canonical c.requires.good.bounded.sizes
+    c.if-row.false _ c.parts_span-parts.ensures.between c.parts_span-parts.ensures.given
+    (rw (ne_eqb _ _ c.if-row-eq-SAYS.false))
 
 pub row_span_spec : {M : Type 1} → statement M
 row_span_spec =

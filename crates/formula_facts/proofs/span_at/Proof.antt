@@ -14,15 +14,12 @@ use Rattle.formula_facts.proofs.span_at.Tie as tie
 
 returns : tie.Need-returns
 returns c =
-    let high = c.before in
-    let low = high.before in
-    let s = low.before in
-    let l = s.args.store.now in
-    let h : s.args.n < line_count l = omega (arith, lines_length l, s.requires.1) in
+    let l = c.args.store.now in
+    let h : c.args.n < line_count l = omega (arith, lines_length l, c.requires.1) in
     record {
-      between = spans_same refl low.low-at.ensures high.high-at.ensures (s.requires.0.spans s.args.n h);
-      given = c.gives-at.ensures
-          ∙ ap (λ (k : ℕ). counts k (formula (ledger_of l) s.args.n)) (sym low.low-at.ensures);
+      between = spans_same refl c.low_at.ensures c.high_at.ensures (c.requires.0.spans c.args.n h);
+      given = c.gives_at.ensures
+          ∙ ap (λ (k : ℕ). counts k (formula (ledger_of l) c.args.n)) (sym c.low_at.ensures);
     }
 
 pub span_at_spec : {M : Type 1} → statement M

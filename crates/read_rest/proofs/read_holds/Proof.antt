@@ -16,36 +16,36 @@ use Rattle.read_rest.specs.LinesRead.{read_lines}
 use Rattle.read_rest.proofs.read_holds.Statement.{statement}
 use Rattle.read_rest.proofs.read_holds.Tie as tie
 
-abbrev invariant-loop : tie.invariant-loop
+abbrev invariant-loop : tie.invariant-loop-k
 invariant-loop s at count serials₀ i₀ k₀ serials i k =
     (k ≤ count) × ((length serials ≡ max_holds) × (read_lines count hold_line (drop at s)
     ≡ prefixed (take k serials) (read_lines (count - k) hold_line (drop i s))))
 
-abbrev decreases_loop : tie.decreases_loop
+abbrev decreases_loop : tie.decreases-loop-k
 decreases_loop s at count serials₀ i₀ k₀ serials i k = count - k
 
-loop-again : tie.Need-loop-preserved invariant-loop decreases_loop
+loop-again : tie.Need-loop-k-preserved invariant-loop decreases_loop
 loop-again c =
-    let l = c.before.before.before.before in (
+    (
       search rules,
       (
-        simp length-set l.before.loop.invariant.1.0,
-        l.before.loop.invariant.1.1 ∙ lines_turn _ _ _ _ l.loop-test.true
-            (seen (hold_of _) c.before.before.before.read-hold.ensures c.before.h.given.1) _
-            ∙ take_next l.before.loop.serials l.before.loop.k _ _
+        simp length-set c.loop-k.invariant.1.0,
+        c.loop-k.invariant.1.1 ∙ lines_turn _ _ _ _ c.loop-k-test.true
+            (seen (hold_of _) c.read_hold-h.ensures c.in-Serial.is) _
+            ∙ take_next c.loop-k.serials c.loop-k.k _ _
             (omega (
               arith,
-              l.before.loop.invariant.1.0,
-              l.loop-test.true,
-              l.before.before.before.before.before.requires.few,
+              c.loop-k.invariant.1.0,
+              c.loop-k-test.true,
+              c.requires.few,
             )),
       ),
     )
 
-returns_2 : tie.Need-returns-2 invariant-loop decreases_loop
+returns_2 : tie.Need-returns invariant-loop decreases_loop
 returns_2 c =
-    holds_told (Read _) (take_here _ _ _ _ c.before.loop.invariant.0 c.loop-test.false
-    ∙ sym (c.before.loop.invariant.1.1 ∙ lines_end _ _ _ _ _ c.loop-test.false)) c.before.loop.invariant.1.0
+    holds_told (Read _) (take_here _ _ _ _ c.loop-k.invariant.0 c.loop-k-test.false
+    ∙ sym (c.loop-k.invariant.1.1 ∙ lines_end _ _ _ _ _ c.loop-k-test.false)) c.loop-k.invariant.1.0
 
 pub read_holds_spec : {M : Type 1} → statement M
 read_holds_spec =
@@ -54,13 +54,12 @@ read_holds_spec =
     invariant-loop
     decreases_loop
     (λ c κs. search rules)
-    (λ c. (search rules, (c.serials-sized.ensures, lines_begin _ _ _)))
+    (λ c. (search rules, (c.serials_sized.ensures, lines_begin _ _ _)))
     (λ c κs. search rules)
     (λ c. search rules)
     (λ c. search rules)
-    (λ c. let l = c.before.before.before in
-    holds_told Broken (sym (l.before.loop.invariant.1.1 ∙ lines_broken _ _ _ _ l.loop-test.true
-    (seen (hold_of _) c.before.before.read-hold.ensures c.enum_told.given.1) _)) l.before.loop.invariant.1.0)
+    (λ c. holds_told Broken (sym (c.loop-k.invariant.1.1 ∙ lines_broken _ _ _ _ c.loop-k-test.true
+    (seen (hold_of _) c.read_hold-h.ensures c.in_default.is) _)) c.loop-k.invariant.1.0)
     (λ c. search rules)
     (λ c. search rules)
     (λ c. search rules)

@@ -18,34 +18,31 @@ use Rattle.read_rest.proofs.Told.{none_told, all_told}
 use Rattle.read_rest.proofs.read_steps.Statement.{statement}
 use Rattle.read_rest.proofs.read_steps.Tie as tie
 
-abbrev invariant-loop : tie.invariant-loop
+abbrev invariant-loop : tie.invariant-loop-k
 invariant-loop s count rows₀ at₀ k₀ n₀ x₀ rows at k n x = Reading s count rows at k n x
 
-abbrev decreases_loop : tie.decreases_loop
+abbrev decreases_loop : tie.decreases-loop-k
 decreases_loop s count rows₀ at₀ k₀ n₀ x₀ rows at k n x = count - k
 
-loop-again : tie.Need-loop-preserved invariant-loop decreases_loop
+loop-again : tie.Need-loop-k-preserved invariant-loop decreases_loop
 loop-again c =
-    let e = c.before.before in
-    let d = e.before.before.before in
-    let l = d.before.before.before in
-    next_reading l.before.loop.invariant _ _ _ _ _ l.loop-test.true
-    l.before.before.before.before.before.requires.few
-    (seen (step_line_of _) d.before.before.read-step.ensures d.line.given.1) c.put_step.ensures
-    e.before.reversed-count.ensures e.broken-count.ensures
+    next_reading c.loop-k.invariant _ _ _ _ _ c.loop-k-test.true
+    c.requires.few
+    (seen (step_line_of _) c.read_step-line.ensures c.in-Step.is) c.put_step.ensures
+    c.reversed_count-reversed.ensures c.broken_count-broken.ensures
     (search rules)
 
 -- bytes are left after the last line, or none
-bytes_left : (c : tie.Then1 invariant-loop decreases_loop) →
-    let loop = c.before.before in loop.loop.at < length loop.before.before.before.before.args.s.now
-bytes_left c = c.if1.true
+bytes_left : (c : tie.Then-at-s invariant-loop decreases_loop) →
+    c.loop-k.at < length c.args.s.now
+bytes_left c = c.if-at-s.true
 
-at_the_end : (c : tie.Else1 invariant-loop decreases_loop) →
-    let loop = c.before.before in length loop.before.before.before.before.args.s.now ≤ loop.loop.at
-at_the_end c = c.if1.false
+at_the_end : (c : tie.Else-at-s invariant-loop decreases_loop) →
+    length c.args.s.now ≤ c.loop-k.at
+at_the_end c = c.if-at-s.false
 
-returns_2 : tie.Need-returns-2 invariant-loop decreases_loop
-returns_2 c = none_told (more_bytes c.before.before.loop.invariant c.before.loop-test.false (bytes_left c))
+returns_2 : tie.Need-returns-then-at-s invariant-loop decreases_loop
+returns_2 c = none_told (more_bytes c.loop-k.invariant c.loop-k-test.false (bytes_left c))
 
 abbrev answer : {q : Option (List Step)} {n : ℕ} {rows : List ℕ} {r : StepsRead} → StepsIs q n rows r → StepsRead
 answer {r = r} is = r
@@ -54,14 +51,14 @@ answer {r = r} is = r
 abbrev part : {A B : Type 0} → (A → B → B) → Type 0
 part {B = B} _ = B
 
-answers_both : part (λ (x : tie.Need-returns-3 invariant-loop decreases_loop) (y : (c : tie.Else1 invariant-loop decreases_loop) →
-    let loop = c.before.before.loop in answer (x c) ≡ AllRead (ltb 0 loop.reversed) (ltb 0 loop.broken)). y)
+answers_both : part (λ (x : tie.Need-returns invariant-loop decreases_loop) (y : (c : tie.Else-at-s invariant-loop decreases_loop) →
+    let loop = c.before.before.loop-k in answer (x c) ≡ AllRead (ltb 0 loop.reversed) (ltb 0 loop.broken)). y)
 answers_both c = refl
 
-returns_3 : tie.Need-returns-3 invariant-loop decreases_loop
+returns_3 : tie.Need-returns invariant-loop decreases_loop
 returns_3 c =
     subst (StepsIs _ _ _) (sym (answers_both c))
-    (all_told (all_lines_read c.before.before.loop.invariant c.before.loop-test.false (at_the_end c)))
+    (all_told (all_lines_read c.loop-k.invariant c.loop-k-test.false (at_the_end c)))
 
 pub read_steps_spec : {M : Type 1} → statement M
 read_steps_spec =
@@ -70,13 +67,12 @@ read_steps_spec =
     invariant-loop
     decreases_loop
     (λ c κs. search rules)
-    (λ c. first_reading _ _ _ c.rows-sized.ensures)
+    (λ c. first_reading _ _ _ c.rows_sized.ensures)
     (λ c κs. search rules)
     (λ c. search rules)
     (λ c. search rules)
-    (λ c. let l = c.before.before.before in
-    none_told (no_step_holds l.before.loop.invariant l.loop-test.true
-    (seen (step_line_of _) c.before.before.read-step.ensures c.enum_told.given.1)))
+    (λ c. none_told (no_step_holds c.loop-k.invariant c.loop-k-test.true
+    (seen (step_line_of _) c.read_step-line.ensures c.in_default.is)))
     (λ c κs. search rules)
     (λ c. search rules)
     (λ c κs. search rules)

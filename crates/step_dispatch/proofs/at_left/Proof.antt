@@ -12,101 +12,89 @@ use borrow.Author.Rules.{rules}
 use Rattle.step_dispatch.proofs.at_left.Statement.{statement}
 use Rattle.step_dispatch.proofs.at_left.Tie as tie
 
-returns : tie.Need-returns
+returns : tie.Need-returns-then-not-has
 returns c =
-    let s = c.before.before in
-    let e = s.step_at.ensures in
-    sym (rw (← e) (left_refused _ _ _ _ _ _ (fails c.before.has.ensures c.if1.true)
-    (left_row (sym e) s.before.requires.1)))
+    let e = c.step_at-s.ensures in
+    sym (rw (← e) (left_refused _ _ _ _ _ _ (fails c.has.ensures c.if-not-has.true)
+    (left_row (sym e) c.requires.1)))
 
-label-at-requires : tie.Need-label-at-requires
+label-at-requires : tie.Need-label_at-h-requires
 label-at-requires c κs =
-    member_below _ 64 _ (omega arith) (holds c.before.has.ensures c.if1.false)
+    member_below _ 64 _ (omega arith) (holds c.has.ensures c.if-not-has.false)
 
-remove-requires : tie.Need-remove-requires
+remove-requires : tie.Need-remove-d-requires
 remove-requires c κs =
-    let a = c.before.before in
-    let start = a.before.before.before in
-    member_below _ 64 _ (omega (arith, start.well-formed.1.1.1.1.0)) (holds a.before.has.ensures a.if1.false)
+    member_below _ 64 _ (omega (arith, c.well-formed.1.1.1.1.0)) (holds c.has.ensures c.if-not-has.false)
 
 -- where the step is read, seen from where its label is taken out of D
-abbrev read : tie.After-remove → tie.After-step-at
+abbrev read : tie.After-remove-d → tie.After-step_at-s
 read b = b.before.before.before.before.before
 
 -- its label is in D
-inside : (b : tie.After-remove) → member (read b).before.args.q.linear (read b).step_at.result.label ≡ true
-inside b = holds b.before.before.before.before.has.ensures b.before.before.before.if1.false
+inside : (b : tie.After-remove-d) → member (read b).before.args.q.linear (read b).step_at-s.result.label ≡ true
+inside b = holds b.before.before.before.before.has.ensures b.before.before.before.if-not-has.false
 
-returns_7 : tie.Need-returns-7
+returns_7 : tie.Need-returns-in-Holds
 unfolding plan_of affirmed
 returns_7 c =
-    let b = c.before.before.before.before in
-    rw (read_as (read b).step_at.ensures c.before.before.match.keys6, c.enum_told.given.1)
+    rw (read_as (read c).step_at-s.ensures c.in-17.is, c.in-Holds.is)
 
-returns_8 : tie.Need-returns-8
+returns_8 : tie.Need-returns-in-Affirms
 unfolding plan_of affirmed
 returns_8 c =
-    let m = c.before.before.before.before.before in
-    let b = m.before.before in
     rw (
-      read_as (read b).step_at.ensures m.match.keys6,
-      c.before.before.before.g.given.1,
+      read_as (read c).step_at-s.ensures c.in-17.is,
+      c.in-Affirms.is,
       left_worded,
-      inside b,
+      inside c,
     )
     (simp (
       c.sl.ensures,
-      b.remove.ensures,
-      c.before.row-at6.ensures,
-      b.before.formula-of.ensures,
-      b.before.before.label_at.ensures,
+      c.remove-d.ensures,
+      c.row_at-in-Affirms.ensures,
+      c.formula_of-k.ensures,
+      c.label_at-h.ensures,
     ))
 
-returns_11 : tie.Need-returns-11
+returns_11 : tie.Need-returns-in-20
 unfolding plan_of
 returns_11 c =
-    let m = c.before.before.before in
-    let b = m.before.before in
-    rw (read_as (read b).step_at.ensures m.match.keys9, left_worded, inside b)
+    rw (read_as (read c).step_at-s.ensures c.in-20.is, left_worded, inside c)
     (simp (
       c.al.ensures,
-      c.before.before.step-at2.ensures ∙ sym (read b).step_at.ensures,
-      b.remove.ensures,
-      c.before.row-at9.ensures,
-      b.before.formula-of.ensures,
-      b.before.before.label_at.ensures,
+      c.step_at-t.ensures ∙ sym (read c).step_at-s.ensures,
+      c.remove-d.ensures,
+      c.row_at-in-20.ensures,
+      c.formula_of-k.ensures,
+      c.label_at-h.ensures,
     ))
 
-returns_12 : tie.Need-returns-12
+returns_12 : tie.Need-returns-in-21
 unfolding plan_of
 returns_12 c =
-    let m = c.before.before.before.before in
-    let b = m.before.before in
-    rw (read_as (read b).step_at.ensures m.match.keys10, left_worded, inside b)
+    rw (read_as (read c).step_at-s.ensures c.in-21.is, left_worded, inside c)
     (simp (
       c.ll.ensures,
-      c.before.share.ensures,
-      c.before.before.before.step-at3.ensures ∙ sym (read b).step_at.ensures,
-      b.remove.ensures,
-      c.before.before.row-at10.ensures,
-      b.before.formula-of.ensures,
-      b.before.before.label_at.ensures,
+      c.share.ensures,
+      c.step_at-t-in-21.ensures ∙ sym (read c).step_at-s.ensures,
+      c.remove-d.ensures,
+      c.row_at-in-21.ensures,
+      c.formula_of-k.ensures,
+      c.label_at-h.ensures,
     ))
 
-returns_13 : tie.Need-returns-13
+returns_13 : tie.Need-returns-in_default
 unfolding plan_of
 returns_13 c =
-    let m = c.before.before.before in
-    let b = m.before.before in
-    let e = (read b).step_at.ensures in
-    rw (read_last e (left_row (sym e) (read b).before.requires.1) m.match.rest, left_worded, inside b)
+    let e = (read c).step_at-s.ensures in
+    rw (read_last e (left_row (sym e) (read c).before.requires.1) c.in_default.in_default-own.rest, left_worded, inside c)
     (simp (
       c.ul.ensures,
-      c.before.before.step-at4.ensures ∙ sym e,
-      b.remove.ensures,
-      c.before.row-at11.ensures,
-      b.before.formula-of.ensures,
-      b.before.before.label_at.ensures,
+      c.step_at-t-in_default.ensures ∙ sym e,
+      c.remove-d.ensures,
+      c.row_at-in_default.ensures,
+      c.formula_of-k.ensures,
+      c.label_at-h.ensures,
     ))
 
 pub at_left_spec : {M : Type 1} → statement M
@@ -123,68 +111,61 @@ at_left_spec =
     (λ c κs. search rules) (λ c κs. search rules) (λ c κs. search rules) (λ c κs. search rules)
     (λ c κs. search rules) (λ c κs. search rules) (λ c κs. search rules) (λ c κs. search rules)
     (λ c κs. search rules) (λ c κs. search rules)
-    (λ c. let b = c.before.before.before.before in
-    rw (read_as (read b).step_at.ensures c.before.before.match.keys1, left_worded, inside b)
+    (λ c. rw (read_as (read c).step_at-s.ensures c.in-12.is, left_worded, inside c)
     (simp (
       c.ol.ensures,
-      b.remove.ensures,
-      c.before.row_at.ensures,
-      b.before.formula-of.ensures,
-      b.before.before.label_at.ensures,
+      c.remove-d.ensures,
+      c.row_at.ensures,
+      c.formula_of-k.ensures,
+      c.label_at-h.ensures,
     )))
-    (λ c. let b = c.before.before.before.before in
-    rw (read_as (read b).step_at.ensures c.before.before.match.keys2, left_worded, inside b)
+    (λ c. rw (read_as (read c).step_at-s.ensures c.in-13.is, left_worded, inside c)
     (simp (
       c.w1.ensures,
-      b.remove.ensures,
-      c.before.row-at2.ensures,
-      b.before.formula-of.ensures,
-      b.before.before.label_at.ensures,
+      c.remove-d.ensures,
+      c.row_at-in-13.ensures,
+      c.formula_of-k.ensures,
+      c.label_at-h.ensures,
     )))
-    (λ c. let b = c.before.before.before.before in
-    rw (read_as (read b).step_at.ensures c.before.before.match.keys3, left_worded, inside b)
+    (λ c. rw (read_as (read c).step_at-s.ensures c.in-14.is, left_worded, inside c)
     (simp (
       c.w2.ensures,
-      b.remove.ensures,
-      c.before.row-at3.ensures,
-      b.before.formula-of.ensures,
-      b.before.before.label_at.ensures,
+      c.remove-d.ensures,
+      c.row_at-in-14.ensures,
+      c.formula_of-k.ensures,
+      c.label_at-h.ensures,
     )))
-    (λ c. let b = c.before.before.before.before in
-    rw (read_as (read b).step_at.ensures c.before.before.match.keys4, left_worded, inside b)
+    (λ c. rw (read_as (read c).step_at-s.ensures c.in-15.is, left_worded, inside c)
     (simp (
       c.bl.ensures,
-      b.remove.ensures,
-      c.before.row-at4.ensures,
-      b.before.formula-of.ensures,
-      b.before.before.label_at.ensures,
+      c.remove-d.ensures,
+      c.row_at-in-15.ensures,
+      c.formula_of-k.ensures,
+      c.label_at-h.ensures,
     )))
-    (λ c. let b = c.before.before.before.before in
-    rw (read_as (read b).step_at.ensures c.before.before.match.keys5, left_worded, inside b)
+    (λ c. rw (read_as (read c).step_at-s.ensures c.in-16.is, left_worded, inside c)
     (simp (
       c.hl.ensures,
-      b.remove.ensures,
-      c.before.row-at5.ensures,
-      b.before.formula-of.ensures,
-      b.before.before.label_at.ensures,
+      c.remove-d.ensures,
+      c.row_at-in-16.ensures,
+      c.formula_of-k.ensures,
+      c.label_at-h.ensures,
     )))
     returns_7 returns_8
-    (λ c. let b = c.before.before.before.before in
-    rw (read_as (read b).step_at.ensures c.before.before.match.keys7, left_worded, inside b)
+    (λ c. rw (read_as (read c).step_at-s.ensures c.in-18.is, left_worded, inside c)
     (simp (
       c.tl.ensures,
-      b.remove.ensures,
-      c.before.row-at7.ensures,
-      b.before.formula-of.ensures,
-      b.before.before.label_at.ensures,
+      c.remove-d.ensures,
+      c.row_at-in-18.ensures,
+      c.formula_of-k.ensures,
+      c.label_at-h.ensures,
     )))
-    (λ c. let b = c.before.before.before.before in
-    rw (read_as (read b).step_at.ensures c.before.before.match.keys8, left_worded, inside b)
+    (λ c. rw (read_as (read c).step_at-s.ensures c.in-19.is, left_worded, inside c)
     (simp (
       c.pl.ensures,
-      b.remove.ensures,
-      c.before.row-at8.ensures,
-      b.before.formula-of.ensures,
-      b.before.before.label_at.ensures,
+      c.remove-d.ensures,
+      c.row_at-in-19.ensures,
+      c.formula_of-k.ensures,
+      c.label_at-h.ensures,
     )))
     returns_11 returns_12 returns_13)

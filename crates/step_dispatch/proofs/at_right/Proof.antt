@@ -8,46 +8,40 @@ use borrow.Author.Rules.{rules}
 use Rattle.step_dispatch.proofs.at_right.Statement.{statement}
 use Rattle.step_dispatch.proofs.at_right.Tie as tie
 
-label_past : tie.Need-returns
+label_past : tie.Need-returns-then-s-ge-LABELS
 label_past c =
-    let a = c.before.before in
-    let s = a.before in
-    let w = s.before.before.requires.1 in
-    let v = right_row (sym s.step_at.ensures) w.0 w.1 in
-    let e = last_right _ v.0 v.1 a.match.rest in
-    sym (rw (read_as s.step_at.ensures e)
-    (ax_refused _ _ _ _ _ _ _ (omega (arith, s.before.before.well-formed.1.1.1.1.0)) c.if1.true))
+    let w = c.requires.1 in
+    let v = right_row (sym c.step_at-s.ensures) w.0 w.1 in
+    let e = last_right _ v.0 v.1 c.in_default.in_default-own.rest in
+    sym (rw (read_as c.step_at-s.ensures e)
+    (ax_refused _ _ _ _ _ _ _ (omega (arith, c.well_formed.1.1.1.1.0)) c.if-s-ge-LABELS.true))
 
-tr_returns : tie.Need-returns-10
+tr_returns : tie.Need-returns-in-9
 unfolding plan_of
 tr_returns c =
-    let a = c.before.before.before.before in
-    let s = a.before in
-    rw (read_as s.step_at.ensures a.match.keys9, right_worded)
+    rw (read_as c.step_at-s.ensures c.in-9.is, right_worded)
     (c.tr.ensures
     ∙ simp (
-      c.before.share.ensures,
-      c.before.before.before.step-at2.ensures ∙ sym s.step_at.ensures,
-      c.before.before.row-at9.ensures,
-      s.before.formula-of.ensures,
+      c.share.ensures,
+      c.step_at-t.ensures ∙ sym c.step_at-s.ensures,
+      c.row_at-in-9.ensures,
+      c.formula_of-k.ensures,
     ))
 
-ax_returns : tie.Need-returns-11
+ax_returns : tie.Need-returns-else-s-ge-LABELS
 unfolding plan_of
 ax_returns c =
-    let a = c.before.before.before.before.before.before.before in
-    let s = a.before in
-    let w = s.before.before.requires.1 in
-    let v = right_row (sym s.step_at.ensures) w.0 w.1 in
-    let e = last_right _ v.0 v.1 a.match.rest in
-    rw (read_as s.step_at.ensures e, atomic_worded _ _ _ _ _ _ _ s.step_at.result.label)
+    let w = c.requires.1 in
+    let v = right_row (sym c.step_at-s.ensures) w.0 w.1 in
+    let e = last_right _ v.0 v.1 c.in_default.in_default-own.rest in
+    rw (read_as c.step_at-s.ensures e, atomic_worded _ _ _ _ _ _ _ c.step_at-s.result.label)
     (c.ax.ensures
     ∙ simp (
-      c.before.row-at11.ensures,
-      c.before.before.row-at10.ensures,
-      c.before.before.before.formula-of2.ensures,
-      c.before.before.before.before.label_at.ensures,
-      s.before.formula-of.ensures,
+      c.row_at-in_default.ensures,
+      c.row_at-y.ensures,
+      c.formula_of.ensures,
+      c.label_at-h.ensures,
+      c.formula_of-k.ensures,
     ))
 
 pub at_right_spec : {M : Type 1} → statement M
@@ -63,28 +57,20 @@ at_right_spec =
     (λ c κs. search rules)
     label_past (λ c κs. search rules)
     (λ c κs. search rules) (λ c κs. search rules) (λ c κs. search rules) (λ c κs. search rules)
-    (λ c. let s = c.before.before.before in
-    rw (read_as s.step_at.ensures c.before.before.match.keys1, right_worded)
-    (c.or.ensures ∙ simp (c.before.row_at.ensures, s.before.formula-of.ensures)))
-    (λ c. let s = c.before.before.before in
-    rw (read_as s.step_at.ensures c.before.before.match.keys2, right_worded)
-    (c.gr.ensures ∙ simp (c.before.row-at2.ensures, s.before.formula-of.ensures)))
-    (λ c. let s = c.before.before.before in
-    rw (read_as s.step_at.ensures c.before.before.match.keys3, right_worded)
-    (c.p1.ensures ∙ simp (c.before.row-at3.ensures, s.before.formula-of.ensures)))
-    (λ c. let s = c.before.before.before in
-    rw (read_as s.step_at.ensures c.before.before.match.keys4, right_worded)
-    (c.p2.ensures ∙ simp (c.before.row-at4.ensures, s.before.formula-of.ensures)))
-    (λ c. let s = c.before.before.before in
-    rw (read_as s.step_at.ensures c.before.before.match.keys5, right_worded)
-    (c.br.ensures ∙ simp (c.before.row-at5.ensures, s.before.formula-of.ensures)))
-    (λ c. let s = c.before.before.before in
-    rw (read_as s.step_at.ensures c.before.before.match.keys6, right_worded)
-    (c.hr.ensures ∙ simp (c.before.row-at6.ensures, s.before.formula-of.ensures)))
-    (λ c. let s = c.before.before.before in
-    rw (read_as s.step_at.ensures c.before.before.match.keys7, right_worded)
-    (c.sr.ensures ∙ simp (c.before.row-at7.ensures, s.before.formula-of.ensures)))
-    (λ c. let s = c.before.before.before in
-    rw (read_as s.step_at.ensures c.before.before.match.keys8, right_worded)
-    (c.wr.ensures ∙ simp (c.before.row-at8.ensures, s.before.formula-of.ensures)))
+    (λ c. rw (read_as c.step_at-s.ensures c.in-1.is, right_worded)
+    (c.or.ensures ∙ simp (c.row_at.ensures, c.formula_of-k.ensures)))
+    (λ c. rw (read_as c.step_at-s.ensures c.in-2.is, right_worded)
+    (c.gr.ensures ∙ simp (c.row_at-in-2.ensures, c.formula_of-k.ensures)))
+    (λ c. rw (read_as c.step_at-s.ensures c.in-3.is, right_worded)
+    (c.p1.ensures ∙ simp (c.row_at-in-3.ensures, c.formula_of-k.ensures)))
+    (λ c. rw (read_as c.step_at-s.ensures c.in-4.is, right_worded)
+    (c.p2.ensures ∙ simp (c.row_at-in-4.ensures, c.formula_of-k.ensures)))
+    (λ c. rw (read_as c.step_at-s.ensures c.in-5.is, right_worded)
+    (c.br.ensures ∙ simp (c.row_at-in-5.ensures, c.formula_of-k.ensures)))
+    (λ c. rw (read_as c.step_at-s.ensures c.in-6.is, right_worded)
+    (c.hr.ensures ∙ simp (c.row_at-in-6.ensures, c.formula_of-k.ensures)))
+    (λ c. rw (read_as c.step_at-s.ensures c.in-7.is, right_worded)
+    (c.sr.ensures ∙ simp (c.row_at-in-7.ensures, c.formula_of-k.ensures)))
+    (λ c. rw (read_as c.step_at-s.ensures c.in-8.is, right_worded)
+    (c.wr.ensures ∙ simp (c.row_at-in-8.ensures, c.formula_of-k.ensures)))
     tr_returns ax_returns)

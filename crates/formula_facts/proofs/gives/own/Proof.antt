@@ -7,6 +7,6 @@ pub own_spec : {M : Type 1} → statement M
 own_spec =
     tie.close
     (tie.spec
-    (λ c. simp (eq-eqb _ _ c.if1.true))
-    (λ c. simp (ne_eqb _ _ c.before.if1.false, eq-eqb _ _ c.if2.true))
-    (λ c. simp (ne_eqb _ _ c.before.if1.false, ne_eqb _ _ c.if2.false)))
+    (λ c. simp (eq-eqb _ _ c.if-predicate-eq-SEAT.true))
+    (λ c. simp (ne_eqb _ _ c.if-predicate-eq-SEAT.false, eq-eqb _ _ c.if-predicate-eq-PLACE.true))
+    (λ c. simp (ne_eqb _ _ c.if-predicate-eq-SEAT.false, ne_eqb _ _ c.if-predicate-eq-PLACE.false)))

@@ -24,6 +24,6 @@ said_spec =
     tie.close
     (tie.spec
     (λ c κs. search rules)
-    (λ c. omega (arith, c.under.ensures, low c.before.args.principal c.before.args.part (search rules)))
-    (λ c. omega (arith, c.under.ensures, low c.before.args.principal c.before.args.part (search rules)))
-    (λ c. omega (arith, c.under.ensures)))
+    (λ c. omega (arith, c.under-house.ensures, low c.args.principal c.args.part (search rules)))
+    (λ c. omega (arith, c.under-house.ensures, low c.args.principal c.args.part (search rules)))
+    (λ c. omega (arith, c.under-house.ensures)))
