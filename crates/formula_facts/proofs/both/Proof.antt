@@ -24,7 +24,7 @@ returns c =
     record {
       lows = c.least-low.ensures;
       highs = c.most.ensures;
-      c = ap₂ ◌+◌ c.given.ensures c.given-2.ensures;
+      given = ap₂ ◌+◌ c.given.ensures c.given-2.ensures;
     }
 
 pub both_spec : {M : Type 1} → statement M

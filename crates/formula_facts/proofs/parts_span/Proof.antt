@@ -54,9 +54,9 @@ span_at_requires_3 c κs = (c.requires.good, (there_two c.before).1.0)
 both-requires : tie.Need-both-requires
 both-requires c κs =
     let sizes = c.requires.good.bounded.sizes in
-    let p = c.i-in-Two-1.given.0 in (
-      gives_small _ _ c.span_at-in-Two.ensures (sizes p.0),
-      gives_small _ _ c.span_at-in-Two-2.ensures (sizes p.1.0),
+    (
+      gives_small _ _ c.span_at-in-Two.ensures (sizes c.in-Two.i),
+      gives_small _ _ c.span_at-in-Two-2.ensures (sizes c.in-Two.j),
     )
 
 returns : tie.Need-returns-in-Nothing

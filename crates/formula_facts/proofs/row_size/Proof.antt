@@ -40,13 +40,12 @@ size_at_requires_3 c κs = (c.requires.good, (there_two c.before).1.0)
 -- both sizes are small
 small : (c : tie.After-size_at-in-Two-2) → c.size_at-in-Two.result + c.size_at-in-Two-2.result ≤ 128
 small c =
-    let p = c.i-in-Two-1.given.0 in
     omega (
       arith,
       c.size_at-in-Two-2.ensures,
       c.size_at-in-Two.ensures,
-      c.requires.good.bounded.sizes p.0,
-      c.requires.good.bounded.sizes p.1.0,
+      c.requires.good.bounded.sizes c.in-Two.i,
+      c.requires.good.bounded.sizes c.in-Two.j,
     )
 
 returns : tie.Need-returns-in-Nothing

@@ -1,8 +1,7 @@
 -- `at_left` meets its contract.
-use mathlib.Core.Path.{◌≡◌, sym, ◌∙◌}
-use mathlib.Core.Bool.{true}
+use mathlib.Core.Path.{sym, ap, ◌∙◌}
+use mathlib.Core.Bool.{not}
 use native.Mathlib.Omega.{arith}
-use Rattle.labels.specs.Labels.{member}
 use Rattle.labels.proofs.Sets.{member_below}
 use Rattle.steps.specs.Plans.{plan_of, affirmed}
 use Rattle.step_plans.proofs.PlanTests.{holds, fails}
@@ -15,38 +14,30 @@ use Rattle.step_dispatch.proofs.at_left.Tie as tie
 returns : tie.Need-returns-then-not-has
 returns c =
     let e = c.step_at-s.ensures in
-    sym (rw (← e) (left_refused _ _ _ _ _ _ (fails c.has.ensures c.if-not-has.true)
+    sym (rw (← e) (left_refused _ _ _ _ _ _ (fails c.has.ensures (ap not c.if-not-has.true))
     (left_row (sym e) c.requires.1)))
 
 label-at-requires : tie.Need-label_at-h-requires
 label-at-requires c κs =
-    member_below _ 64 _ (omega arith) (holds c.has.ensures c.if-not-has.false)
+    member_below _ 64 _ (omega arith) (holds c.has.ensures (ap not c.if-not-has.false))
 
 remove-requires : tie.Need-remove-d-requires
 remove-requires c κs =
-    member_below _ 64 _ (omega (arith, c.well-formed.1.1.1.1.0)) (holds c.has.ensures c.if-not-has.false)
-
--- where the step is read, seen from where its label is taken out of D
-abbrev read : tie.After-remove-d → tie.After-step_at-s
-read b = b.before.before.before.before.before
-
--- its label is in D
-inside : (b : tie.After-remove-d) → member (read b).before.args.q.linear (read b).step_at-s.result.label ≡ true
-inside b = holds b.before.before.before.before.has.ensures b.before.before.before.if-not-has.false
+    member_below _ 64 _ (omega (arith, c.well_formed.1.1.1.1.0)) (holds c.has.ensures (ap not c.if-not-has.false))
 
 returns_7 : tie.Need-returns-in-Holds
 unfolding plan_of affirmed
 returns_7 c =
-    rw (read_as (read c).step_at-s.ensures c.in-17.is, c.in-Holds.is)
+    rw (read_as c.step_at-s.ensures c.in-17.is, c.in-Holds.is)
 
 returns_8 : tie.Need-returns-in-Affirms
 unfolding plan_of affirmed
 returns_8 c =
     rw (
-      read_as (read c).step_at-s.ensures c.in-17.is,
+      read_as c.step_at-s.ensures c.in-17.is,
       c.in-Affirms.is,
       left_worded,
-      inside c,
+      holds c.has.ensures (ap not c.if-not-has.false),
     )
     (simp (
       c.sl.ensures,
@@ -59,10 +50,10 @@ returns_8 c =
 returns_11 : tie.Need-returns-in-20
 unfolding plan_of
 returns_11 c =
-    rw (read_as (read c).step_at-s.ensures c.in-20.is, left_worded, inside c)
+    rw (read_as c.step_at-s.ensures c.in-20.is, left_worded, holds c.has.ensures (ap not c.if-not-has.false))
     (simp (
       c.al.ensures,
-      c.step_at-t.ensures ∙ sym (read c).step_at-s.ensures,
+      c.step_at-t.ensures ∙ sym c.step_at-s.ensures,
       c.remove-d.ensures,
       c.row_at-in-20.ensures,
       c.formula_of-k.ensures,
@@ -72,11 +63,11 @@ returns_11 c =
 returns_12 : tie.Need-returns-in-21
 unfolding plan_of
 returns_12 c =
-    rw (read_as (read c).step_at-s.ensures c.in-21.is, left_worded, inside c)
+    rw (read_as c.step_at-s.ensures c.in-21.is, left_worded, holds c.has.ensures (ap not c.if-not-has.false))
     (simp (
       c.ll.ensures,
       c.share.ensures,
-      c.step_at-t-in-21.ensures ∙ sym (read c).step_at-s.ensures,
+      c.step_at-t-in-21.ensures ∙ sym c.step_at-s.ensures,
       c.remove-d.ensures,
       c.row_at-in-21.ensures,
       c.formula_of-k.ensures,
@@ -86,8 +77,8 @@ returns_12 c =
 returns_13 : tie.Need-returns-in_default
 unfolding plan_of
 returns_13 c =
-    let e = (read c).step_at-s.ensures in
-    rw (read_last e (left_row (sym e) (read c).before.requires.1) c.in_default.in_default-own.rest, left_worded, inside c)
+    let e = c.step_at-s.ensures in
+    rw (read_last e (left_row (sym e) c.requires.1) c.in_default.in_default-own.rest, left_worded, holds c.has.ensures (ap not c.if-not-has.false))
     (simp (
       c.ul.ensures,
       c.step_at-t-in_default.ensures ∙ sym e,
@@ -111,7 +102,7 @@ at_left_spec =
     (λ c κs. search rules) (λ c κs. search rules) (λ c κs. search rules) (λ c κs. search rules)
     (λ c κs. search rules) (λ c κs. search rules) (λ c κs. search rules) (λ c κs. search rules)
     (λ c κs. search rules) (λ c κs. search rules)
-    (λ c. rw (read_as (read c).step_at-s.ensures c.in-12.is, left_worded, inside c)
+    (λ c. rw (read_as c.step_at-s.ensures c.in-12.is, left_worded, holds c.has.ensures (ap not c.if-not-has.false))
     (simp (
       c.ol.ensures,
       c.remove-d.ensures,
@@ -119,7 +110,7 @@ at_left_spec =
       c.formula_of-k.ensures,
       c.label_at-h.ensures,
     )))
-    (λ c. rw (read_as (read c).step_at-s.ensures c.in-13.is, left_worded, inside c)
+    (λ c. rw (read_as c.step_at-s.ensures c.in-13.is, left_worded, holds c.has.ensures (ap not c.if-not-has.false))
     (simp (
       c.w1.ensures,
       c.remove-d.ensures,
@@ -127,7 +118,7 @@ at_left_spec =
       c.formula_of-k.ensures,
       c.label_at-h.ensures,
     )))
-    (λ c. rw (read_as (read c).step_at-s.ensures c.in-14.is, left_worded, inside c)
+    (λ c. rw (read_as c.step_at-s.ensures c.in-14.is, left_worded, holds c.has.ensures (ap not c.if-not-has.false))
     (simp (
       c.w2.ensures,
       c.remove-d.ensures,
@@ -135,7 +126,7 @@ at_left_spec =
       c.formula_of-k.ensures,
       c.label_at-h.ensures,
     )))
-    (λ c. rw (read_as (read c).step_at-s.ensures c.in-15.is, left_worded, inside c)
+    (λ c. rw (read_as c.step_at-s.ensures c.in-15.is, left_worded, holds c.has.ensures (ap not c.if-not-has.false))
     (simp (
       c.bl.ensures,
       c.remove-d.ensures,
@@ -143,7 +134,7 @@ at_left_spec =
       c.formula_of-k.ensures,
       c.label_at-h.ensures,
     )))
-    (λ c. rw (read_as (read c).step_at-s.ensures c.in-16.is, left_worded, inside c)
+    (λ c. rw (read_as c.step_at-s.ensures c.in-16.is, left_worded, holds c.has.ensures (ap not c.if-not-has.false))
     (simp (
       c.hl.ensures,
       c.remove-d.ensures,
@@ -152,7 +143,7 @@ at_left_spec =
       c.label_at-h.ensures,
     )))
     returns_7 returns_8
-    (λ c. rw (read_as (read c).step_at-s.ensures c.in-18.is, left_worded, inside c)
+    (λ c. rw (read_as c.step_at-s.ensures c.in-18.is, left_worded, holds c.has.ensures (ap not c.if-not-has.false))
     (simp (
       c.tl.ensures,
       c.remove-d.ensures,
@@ -160,7 +151,7 @@ at_left_spec =
       c.formula_of-k.ensures,
       c.label_at-h.ensures,
     )))
-    (λ c. rw (read_as (read c).step_at-s.ensures c.in-19.is, left_worded, inside c)
+    (λ c. rw (read_as c.step_at-s.ensures c.in-19.is, left_worded, holds c.has.ensures (ap not c.if-not-has.false))
     (simp (
       c.pl.ensures,
       c.remove-d.ensures,

@@ -27,21 +27,19 @@ returns_4 c = simp c.in-Holds-g.is c.at_right.ensures
 
 returns_5 : tie.Need-returns-in-Affirms-g
 returns_5 c =
-    let w = right_row c.step_at-s.ensures (omega (arith, c.in-0.rest.0.1))
-    (omega (arith, c.if-op-lt11.true)) in
+    let w = right_row c.step_at-s.ensures (omega arith) (omega arith) in
     sym (rw c.in-Affirms-g.is (right_refused _ _ _ _ _ _ _ _ w.0 w.1))
 
 at-right-requires : tie.Need-at_right-requires
 at-right-requires c κs =
     (
       c.requires,
-      right_row c.step_at-s.ensures (omega (arith, c.in-0.rest.0.1)) (omega (arith, c.if-op-lt11.true)),
+      right_row c.step_at-s.ensures (omega arith) (omega arith),
     )
 
 at-left-requires : tie.Need-at_left-requires
 at-left-requires c κs =
-    let n = c.in-0.rest in
-    (c.requires, left_row c.step_at-s.ensures (omega (arith, c.if-op-lt11.false, n.0.1, n.1)))
+    (c.requires, left_row c.step_at-s.ensures (omega arith))
 
 pub rule_spec : {M : Type 1} → statement M
 rule_spec =
