@@ -96,7 +96,7 @@ below_without n k (c ∷ cs) b = go (eqb c.serial k) (below_without n k cs b.1)
 below_spend : (n : ℕ) (cs hs : List Credential) → Below n cs → Below n (spend cs hs)
 unfolding spend
 below_spend n cs [] b = b
-below_spend n cs (h ∷ hs) b = below_spend n _ hs (go h.kind)
+below_spend n cs (h ∷ hs) b = below_spend n (by_kind h.kind (without_serial cs h.serial) cs) hs (go h.kind)
   where
     go : (k : Kind) → Below n (by_kind k (without_serial cs h.serial) cs)
     go Linear = below_without n h.serial cs b

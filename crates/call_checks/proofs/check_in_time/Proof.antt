@@ -7,7 +7,7 @@ use Rattle.call_checks.proofs.check_in_time.Statement.{statement}
 use Rattle.call_checks.proofs.check_in_time.Tie as tie
 
 returns : tie.Need-returns
-returns c = reworded (c.tested.ensures 30) (ap not c.before.has.ensures)
+returns c = reworded (c.tested.ensures 30) (ap not c.has.ensures)
 
 pub check_in_time_spec : {M : Type 1} → statement M
 check_in_time_spec = tie.close (tie.spec (λ c κs. search rules) (λ c κs. search rules) returns)

@@ -4,11 +4,11 @@ use Rattle.call_checks.proofs.Verdicts.{by_kind}
 use Rattle.call_checks.proofs.check_issuable.Statement.{statement}
 use Rattle.call_checks.proofs.check_issuable.Tie as tie
 
-returns : tie.Need-returns
-returns c = by_kind c.before.enum_told.given.1 _ c.check-plain.ensures
+returns : tie.Need-returns-in-Linear
+returns c = by_kind c.in-Linear.is _ c.check_plain.ensures
 
-returns_2 : tie.Need-returns-2
-returns_2 c = by_kind c.before.enum-told2.given.1 _ c.check-balanced.ensures
+returns_2 : tie.Need-returns-in-Unrestricted
+returns_2 c = by_kind c.in-Unrestricted.is _ c.check_balanced.ensures
 
 pub check_issuable_spec : {M : Type 1} → statement M
 check_issuable_spec =

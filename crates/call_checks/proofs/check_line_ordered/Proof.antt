@@ -7,8 +7,7 @@ use Rattle.call_checks.proofs.check_line_ordered.Tie as tie
 
 returns : tie.Need-returns
 returns c =
-    let start = c.before.before in
-    reworded (c.tested.ensures 3) (c.before.reversed-row.ensures (line_of start.args.row) start.requires)
+    reworded (c.tested.ensures 3) (c.reversed_row.ensures (line_of c.args.row) c.requires)
 
 pub check_line_ordered_spec : {M : Type 1} → statement M
 check_line_ordered_spec = tie.close (tie.spec (λ c κs. search rules) (λ c κs. search rules) returns)

@@ -8,8 +8,8 @@ use Rattle.call_checks.proofs.check_lines_ordered.Tie as tie
 
 returns : tie.Need-returns
 returns c =
-    let backward = c.before.before.args.backward in
-    reworded (c.tested.ensures 3) (ap (λ b. b || backward) c.before.reversed.ensures)
+    let backward = c.args.backward in
+    reworded (c.tested.ensures 3) (ap (λ b. b || backward) c.reversed.ensures)
 
 pub check_lines_ordered_spec : {M : Type 1} → statement M
 check_lines_ordered_spec = tie.close (tie.spec (λ c κs. search rules) (λ c κs. search rules) returns)

@@ -5,7 +5,7 @@ use Rattle.call_checks.proofs.check_present.Statement.{statement}
 use Rattle.call_checks.proofs.check_present.Tie as tie
 
 returns : tie.Need-returns
-returns c = reworded (c.tested.ensures 10) (simp c.before.formula-count.ensures)
+returns c = reworded (c.tested.ensures 10) (simp c.formula_count.ensures)
 
 pub check_present_spec : {M : Type 1} → statement M
 check_present_spec = tie.close (tie.spec (λ c κs. search rules) (λ c κs. search rules) returns)

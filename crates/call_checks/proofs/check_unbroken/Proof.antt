@@ -5,7 +5,7 @@ use Rattle.call_checks.proofs.check_unbroken.Statement.{statement}
 use Rattle.call_checks.proofs.check_unbroken.Tie as tie
 
 returns : tie.Need-returns
-returns c = reworded (c.tested.ensures 43) c.before.broken.ensures
+returns c = reworded (c.tested.ensures 43) c.broken.ensures
 
 pub check_unbroken_spec : {M : Type 1} → statement M
 check_unbroken_spec = tie.close (tie.spec (λ c κs. search rules) (λ c κs. search rules) returns)

@@ -3,11 +3,11 @@ use Rattle.call_checks.proofs.Verdicts.{passing, failing}
 use Rattle.call_checks.proofs.tested.Statement.{statement}
 use Rattle.call_checks.proofs.tested.Tie as tie
 
-returns : tie.Need-returns
-returns c n = failing n c.if1.true
+returns : tie.Need-returns-then-bad
+returns c n = failing n c.if-bad.true
 
-returns_2 : tie.Need-returns-2
-returns_2 c n = passing n c.if1.false
+returns_2 : tie.Need-returns
+returns_2 c n = passing n c.if-bad.false
 
 pub tested_spec : {M : Type 1} → statement M
 tested_spec = tie.close (tie.spec returns returns_2)

@@ -10,29 +10,26 @@ use Rattle.call_holds.proofs.HoldSerials.{any_here, any_next, any_end}
 use Rattle.call_holds.proofs.again.Statement.{statement}
 use Rattle.call_holds.proofs.again.Tie as tie
 
-abbrev invariant-loop : tie.invariant-loop
+abbrev invariant-loop : tie.invariant-loop-k
 invariant-loop serials count from n k₀ k =
     any_of (eqb n) (drop from (take count serials)) ≡ any_of (eqb n) (drop k (take count serials))
 
-abbrev decreases_loop : tie.decreases_loop
+abbrev decreases_loop : tie.decreases-loop-k
 decreases_loop serials count from n k₀ k = count - k
 
-returns : tie.Need-returns invariant-loop decreases_loop
+returns : tie.Need-returns-then-n-serials invariant-loop decreases_loop
 returns c =
-    let at = c.before.before.before in
-    sym (at.loop.invariant ∙ any_here at.before.requires (eqb _) _ c.before.before.loop-test.true
-    (eq-eqb _ _ c.if1.true))
+    sym (c.loop-k.invariant ∙ any_here c.requires (eqb _) _ c.loop-k-test.true
+    (eq-eqb _ _ c.if-n-serials.true))
 
-loop-again : tie.Need-loop-preserved invariant-loop decreases_loop
+loop-again : tie.Need-loop-k-preserved invariant-loop decreases_loop
 loop-again c =
-    let at = c.before.before.before in
-    at.loop.invariant ∙ any_next at.before.requires (eqb _) _ c.before.before.loop-test.true
-    (ne_eqb _ _ c.if1.false)
+    c.loop-k.invariant ∙ any_next c.requires (eqb _) _ c.loop-k-test.true
+    (ne_eqb _ _ c.if-n-serials.false)
 
-returns_2 : tie.Need-returns-2 invariant-loop decreases_loop
+returns_2 : tie.Need-returns invariant-loop decreases_loop
 returns_2 c =
-    let at = c.before in
-    sym (at.loop.invariant ∙ any_end at.before.requires (eqb _) _ c.loop-test.false)
+    sym (c.loop-k.invariant ∙ any_end c.requires (eqb _) _ c.loop-k-test.false)
 
 pub again_spec : {M : Type 1} → statement M
 again_spec =

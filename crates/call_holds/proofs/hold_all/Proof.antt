@@ -13,54 +13,39 @@ use Rattle.call_holds.proofs.Holding.{Holding, first_hold, dead_hold, next_hold,
 use Rattle.call_holds.proofs.hold_all.Statement.{statement}
 use Rattle.call_holds.proofs.hold_all.Tie as tie
 
-abbrev invariant-loop : tie.invariant-loop
+abbrev invariant-loop : tie.invariant-loop-k
 invariant-loop store serials count table₀ unrestricted₀ linear₀ linears₀ k₀ table unrestricted linear linears k =
     (k ≤ count) × Holding (ledger_of store) (take count serials) table₀ k unrestricted linear linears table
 
-abbrev decreases_loop : tie.decreases_loop
+abbrev decreases_loop : tie.decreases-loop-k
 decreases_loop store serials count table₀ unrestricted₀ linear₀ linears₀ k₀ table unrestricted linear linears k = count - k
 
-loop-holds : tie.Need-loop-init invariant-loop decreases_loop
+loop-holds : tie.Need-loop-k-init invariant-loop decreases_loop
 loop-holds c = (omega arith, first_hold _ _ _)
 
-returns : tie.Need-returns invariant-loop decreases_loop
+returns : tie.Need-returns-in_default invariant-loop decreases_loop
 returns c =
-    let look = c.before.before in
-    let turn = look.before.before in
-    let at = turn.before in
-    dead_hold _ _ _ at.loop.invariant.1 (next_serial_holds at.before.requires.1 _ turn.loop-test.true)
-    (is_dead at.before.requires.0 (looked_up_as look.locate.ensures c.enum_told.given.1))
+    dead_hold _ _ _ c.loop-k.invariant.1 (next_serial_holds c.requires.1 _ c.loop-k-test.true)
+    (is_dead c.requires.0 (looked_up_as c.locate-found.ensures c.in_default.is))
 
-credential-at-requires : tie.Need-credential-at-requires invariant-loop decreases_loop
+credential-at-requires : tie.Need-credential_at-c-requires invariant-loop decreases_loop
 credential-at-requires c κs =
-    let found = c.before in
-    let look = found.before.before in
-    let g = look.before.before.before.before.requires.0 in
-    (g, (occupied g (looked_up_as look.locate.ensures found.found.given.1)).0)
+    let g = c.requires.0 in
+    (g, (occupied g (looked_up_as c.locate-found.ensures c.in-At.is)).0)
 
-returns_2 : tie.Need-returns-2 invariant-loop decreases_loop
+returns_2 : tie.Need-returns invariant-loop decreases_loop
 returns_2 c =
-    let at = c.before in
-    live_holds _ _ _ at.loop.invariant.1 (no_serial at.before.requires.1 _ c.loop-test.false)
+    live_holds _ _ _ c.loop-k.invariant.1 (no_serial c.requires.1 _ c.loop-k-test.false)
 
-loop-again : tie.Need-loop-preserved invariant-loop decreases_loop
+loop-again : tie.Need-loop-k-preserved invariant-loop decreases_loop
 loop-again c =
-    let linear = c.before in
-    let unrestricted = linear.before in
-    let put = unrestricted.before in
-    let hypothesis = put.before in
-    let read = hypothesis.before.before in
-    let found = read.before.before in
-    let look = found.before.before in
-    let turn = look.before.before in
-    let at = turn.before in
-    let h = looked_up_as look.locate.ensures found.found.given.1 in (
-      omega (arith, turn.loop-test.true),
-      next_hold _ _ _ at.loop.invariant.1 (next_serial_holds at.before.requires.1 _ turn.loop-test.true)
-          (one_found at.before.requires.0 h ∙ ap some (sym read.credential-at.ensures))
-          unrestricted.unrestricted-with.ensures linear.linear-with.ensures
-          c.one-linear.ensures.0 c.one-linear.ensures.1
-          (put.put-label.ensures ∙ ap (put_label at.loop.table at.loop.k) hypothesis.hypothesis.ensures),
+    let h = looked_up_as c.locate-found.ensures c.in-At.is in (
+      omega (arith, c.loop-k-test.true),
+      next_hold _ _ _ c.loop-k.invariant.1 (next_serial_holds c.requires.1 _ c.loop-k-test.true)
+          (one_found c.requires.0 h ∙ ap some (sym c.credential_at-c.ensures))
+          c.unrestricted_with-unrestricted.ensures c.linear_with-linear.ensures
+          c.one_linear-linears.ensures.0 c.one_linear-linears.ensures.1
+          (c.put_label.ensures ∙ ap (put_label c.loop-k.table c.loop-k.k) c.hypothesis.ensures),
     )
 
 pub hold_all_spec : {M : Type 1} → statement M

@@ -10,5 +10,5 @@ linear_with_spec =
     (λ c. search rules)
     (λ c κs. search rules)
     (λ c. search rules)
-    (λ c. simp c.before.enum_told.given.1 c.insert.ensures)
+    (λ c. simp c.in-Linear.is c.insert.ensures)
     (λ c. search rules))

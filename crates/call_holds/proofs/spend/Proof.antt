@@ -9,28 +9,26 @@ use Rattle.call_holds.proofs.Spending.{Spending, first_spent, next_spent, last_s
 use Rattle.call_holds.proofs.spend.Statement.{statement}
 use Rattle.call_holds.proofs.spend.Tie as tie
 
-abbrev invariant-loop : tie.invariant-loop
+abbrev invariant-loop : tie.invariant-loop-k
 invariant-loop till₀ serials count k₀ store k = Spending (ledger_of till₀) (take count serials) k store
 
-abbrev decreases_loop : tie.decreases_loop
+abbrev decreases_loop : tie.decreases-loop-k
 decreases_loop till₀ serials count k₀ store k = count - k
 
-loop-holds : tie.Need-loop-init invariant-loop decreases_loop
+loop-holds : tie.Need-loop-k-init invariant-loop decreases_loop
 loop-holds c = first_spent _ _ _ c.requires.good refl c.requires.alive c.requires.apart
 
-spend-one-requires : tie.Need-spend-one-requires invariant-loop decreases_loop
-spend-one-requires c κs = c.before.before.before.loop.invariant.stands.good
+spend-one-requires : tie.Need-spend_one-requires invariant-loop decreases_loop
+spend-one-requires c κs = c.loop-k.invariant.stands.good
 
-loop-again : tie.Need-loop-preserved invariant-loop decreases_loop
+loop-again : tie.Need-loop-k-preserved invariant-loop decreases_loop
 loop-again c =
-    let at = c.before.before.before.before in
-    next_spent _ _ at.loop.invariant
-    (next_serial_holds at.before.requires.held _ c.before.before.before.loop-test.true) c.spend-one.ensures
+    next_spent _ _ c.loop-k.invariant
+    (next_serial_holds c.requires.held _ c.loop-k-test.true) c.spend_one.ensures
 
 returns : tie.Need-returns invariant-loop decreases_loop
 returns c =
-    let at = c.before in
-    last_spent _ _ at.loop.invariant (no_serial at.before.requires.held _ c.loop-test.false)
+    last_spent _ _ c.loop-k.invariant (no_serial c.requires.held _ c.loop-k-test.false)
 
 pub spend_spec : {M : Type 1} → statement M
 spend_spec =

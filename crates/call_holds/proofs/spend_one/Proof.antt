@@ -6,39 +6,29 @@ use Rattle.call_holds.proofs.Spending.{spent_nothing, spent_linear, spent_unrest
 use Rattle.call_holds.proofs.spend_one.Statement.{statement}
 use Rattle.call_holds.proofs.spend_one.Tie as tie
 
-returns : tie.Need-returns
+returns : tie.Need-returns-in_default
 returns c =
-    let look = c.before.before in
-    spent_nothing look.before.before.requires (looked_up_as look.locate.ensures c.enum_told.given.1)
+    spent_nothing c.requires (looked_up_as c.locate-found.ensures c.in_default.is)
 
-linear-at-requires : tie.Need-linear-at-requires
+linear-at-requires : tie.Need-linear_at-requires
 linear-at-requires c κs =
-    let found = c.before.before in
-    let look = found.before.before in
-    let g = look.before.before.requires in
-    (g, (occupied g (looked_up_as look.locate.ensures found.found.given.1)).0)
+    let g = c.requires in
+    (g, (occupied g (looked_up_as c.locate-found.ensures c.in-At.is)).0)
 
 remove-requires : tie.Need-remove-requires
 remove-requires c κs =
-    let found = c.before.before.before.before.before in
-    let look = found.before.before in
-    let g = look.before.before.requires in
-    (g, occupied g (looked_up_as look.locate.ensures found.found.given.1))
+    let g = c.requires in
+    (g, occupied g (looked_up_as c.locate-found.ensures c.in-At.is))
 
-returns_2 : tie.Need-returns-2
+returns_2 : tie.Need-returns-then-linear_at
 returns_2 c =
-    let test = c.before.before in
-    let found = test.before.before.before.before in
-    let look = found.before.before in
-    spent_linear look.before.before.requires (looked_up_as look.locate.ensures found.found.given.1)
-    (sym test.before.linear-at.ensures ∙ test.if1.true) c.remove.ensures
+    spent_linear c.requires (looked_up_as c.locate-found.ensures c.in-At.is)
+    (sym c.linear_at.ensures ∙ c.if-linear_at.true) c.remove.ensures
 
-returns_3 : tie.Need-returns-3
+returns_3 : tie.Need-returns-else-linear_at
 returns_3 c =
-    let found = c.before.before.before.before in
-    let look = found.before.before in
-    spent_unrestricted look.before.before.requires (looked_up_as look.locate.ensures found.found.given.1)
-    (sym c.before.linear-at.ensures ∙ c.if1.false)
+    spent_unrestricted c.requires (looked_up_as c.locate-found.ensures c.in-At.is)
+    (sym c.linear_at.ensures ∙ c.if-linear_at.false)
 
 pub spend_one_spec : {M : Type 1} → statement M
 spend_one_spec =

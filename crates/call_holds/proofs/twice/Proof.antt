@@ -8,28 +8,25 @@ use Rattle.call_holds.proofs.HoldSerials.{twice_here, twice_next, twice_end}
 use Rattle.call_holds.proofs.twice.Statement.{statement}
 use Rattle.call_holds.proofs.twice.Tie as tie
 
-abbrev invariant-loop : tie.invariant-loop
+abbrev invariant-loop : tie.invariant-loop-k
 invariant-loop serials count k₀ k = twice (take count serials) ≡ twice (drop k (take count serials))
 
-abbrev decreases_loop : tie.decreases_loop
+abbrev decreases_loop : tie.decreases-loop-k
 decreases_loop serials count k₀ k = count - k
 
-returns : tie.Need-returns invariant-loop decreases_loop
+returns : tie.Need-returns-then-again invariant-loop decreases_loop
 returns c =
-    let at = c.before.before.before.before in
-    sym (at.loop.invariant ∙ twice_here at.before.requires _ c.before.before.before.loop-test.true
-    (sym c.before.again.ensures ∙ c.if1.true))
+    sym (c.loop-k.invariant ∙ twice_here c.requires _ c.loop-k-test.true
+    (sym c.again.ensures ∙ c.if-again.true))
 
-loop-again : tie.Need-loop-preserved invariant-loop decreases_loop
+loop-again : tie.Need-loop-k-preserved invariant-loop decreases_loop
 loop-again c =
-    let at = c.before.before.before.before in
-    at.loop.invariant ∙ twice_next at.before.requires _ c.before.before.before.loop-test.true
-    (sym c.before.again.ensures ∙ c.if1.false)
+    c.loop-k.invariant ∙ twice_next c.requires _ c.loop-k-test.true
+    (sym c.again.ensures ∙ c.if-again.false)
 
-returns_2 : tie.Need-returns-2 invariant-loop decreases_loop
+returns_2 : tie.Need-returns invariant-loop decreases_loop
 returns_2 c =
-    let at = c.before in
-    sym (at.loop.invariant ∙ twice_end at.before.requires _ c.loop-test.false)
+    sym (c.loop-k.invariant ∙ twice_end c.requires _ c.loop-k-test.false)
 
 pub twice_spec : {M : Type 1} → statement M
 twice_spec =

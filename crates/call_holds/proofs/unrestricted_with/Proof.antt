@@ -11,4 +11,4 @@ unrestricted_with_spec =
     (λ c. search rules)
     (λ c κs. search rules)
     (λ c. search rules)
-    (λ c. simp c.before.enum-told2.given.1 c.insert.ensures))
+    (λ c. simp c.in-Unrestricted.is c.insert.ensures))

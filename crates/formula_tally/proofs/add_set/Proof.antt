@@ -14,84 +14,75 @@ use Rattle.formula_tally.proofs.Tallied.{left_small, no_singles}
 use Rattle.formula_tally.proofs.add_set.Statement.{statement}
 use Rattle.formula_tally.proofs.add_set.Tie as tie
 
-abbrev invariant-loop : tie.invariant-loop
+abbrev invariant-loop : tie.invariant-loop-rest
 invariant-loop store base bits session minute rest₀ open₀ seats₀ places₀ rest «open» seats places =
     Left (ledger_of store) session minute base bits rest «open» seats places
 
-abbrev decreases_loop : tie.decreases_loop
+abbrev decreases_loop : tie.decreases-loop-rest
 decreases_loop store base bits session minute rest₀ open₀ seats₀ places₀ rest «open» seats places = rest
 
 -- the bits left are those of a number that fits
-wide : (c : tie.In-loop invariant-loop decreases_loop) → c.before.loop.rest < 2 ^ set_lines
+wide : (c : tie.In-loop-rest invariant-loop decreases_loop) → c.loop-rest.rest < 2 ^ set_lines
 wide c =
-    let fits : c.before.before.args.bits < 2 ^ set_lines = search rules in
-    omega (arith, c.before.loop.invariant.within)
+    let fits : c.args.bits < 2 ^ set_lines = search rules in
+    omega (arith, c.loop-rest.invariant.within)
 
 -- the next formula is there
-there : (c : tie.In-loop invariant-loop decreases_loop)
-    → c.before.before.args.base + count_trailing_zeros set_lines c.before.loop.rest
-    < length (ledger_of c.before.before.args.store.now).lines
+there : (c : tie.In-loop-rest invariant-loop decreases_loop)
+    → c.args.base + count_trailing_zeros set_lines c.loop-rest.rest
+    < length (ledger_of c.args.store.now).lines
 there c =
-    let s = c.before.before in
-    next (ledger_of s.args.store.now) s.args.session s.args.minute s.args.base s.args.bits
-    c.before.loop.invariant c.loop-test.true (wide c)
+    next (ledger_of c.args.store.now) c.args.session c.args.minute c.args.base c.args.bits
+    c.loop-rest.invariant c.loop-rest-test.true (wide c)
 
 -- the sums fit
-record Small (c : tie.After-given-by invariant-loop decreases_loop) : Type 0 where
-  opens : c.before.before.before.before.loop.«open» + c.given_by.result.«open» ≤ set_lines * most_given
-  seats : c.before.before.before.before.loop.seats + c.given_by.result.seats ≤ set_lines * most_given
-  places : c.before.before.before.before.loop.places + c.given_by.result.places ≤ set_lines * most_given
+record Small (c : tie.After-given_by-more invariant-loop decreases_loop) : Type 0 where
+  opens : c.before.before.before.before.loop-rest.«open» + c.given_by-more.result.«open» ≤ set_lines * most_given
+  seats : c.before.before.before.before.loop-rest.seats + c.given_by-more.result.seats ≤ set_lines * most_given
+  places : c.before.before.before.before.loop-rest.places + c.given_by-more.result.places ≤ set_lines * most_given
 
-small : (c : tie.After-given-by invariant-loop decreases_loop) → Small c
+small : (c : tie.After-given_by-more invariant-loop decreases_loop) → Small c
 small c =
-    let k = c.before.before.before in
-    let s = k.before.before in
-    let f = left_small (ledger_of s.args.store.now) s.args.session s.args.minute s.args.base
-    s.args.bits k.before.loop.invariant k.loop-test.true (wide k) c.given_by.ensures
-    s.requires.0.bounded in
+    let f = left_small (ledger_of c.args.store.now) c.args.session c.args.minute c.args.base
+    c.args.bits c.loop-rest.invariant c.loop-rest-test.true (wide c.before.before.before) c.given_by-more.ensures
+    c.requires.0.bounded in
     record { opens = f.0; seats = f.1; places = f.2 }
 
-loop-holds : tie.Need-loop-init invariant-loop decreases_loop
+loop-holds : tie.Need-loop-rest-init invariant-loop decreases_loop
 loop-holds c =
     left_start (ledger_of c.args.store.now) c.args.session c.args.minute c.args.base c.args.bits
     c.requires.1
 
 -- a bit less is left
-less : (c : tie.In-loop invariant-loop decreases_loop)
-    → bit_and c.before.loop.rest (c.before.loop.rest - 1) < c.before.loop.rest
+less : (c : tie.In-loop-rest invariant-loop decreases_loop)
+    → bit_and c.loop-rest.rest (c.loop-rest.rest - 1) < c.loop-rest.rest
 less c =
-    let h = c.loop-test.true in
-    omega (arith, and_le_r c.before.loop.rest (c.before.loop.rest - 1))
+    let h = c.loop-rest-test.true in
+    omega (arith, and_le_r c.loop-rest.rest (c.loop-rest.rest - 1))
 
-loop-again : tie.Need-loop-preserved invariant-loop decreases_loop
+loop-again : tie.Need-loop-rest-preserved-then-last_row-ne0 invariant-loop decreases_loop
 loop-again c =
-    let v = c.before.before.before in
-    let k = v.before.before.before in
-    let s = k.before.before in
-    left_next (ledger_of s.args.store.now) s.args.session s.args.minute s.args.base s.args.bits
-    k.before.loop.invariant k.loop-test.true (wide k) v.given_by.ensures
+    left_next (ledger_of c.args.store.now) c.args.session c.args.minute c.args.base c.args.bits
+    c.loop-rest.invariant c.loop-rest-test.true (wide c.before.before.before.before.before.before) c.given_by-more.ensures
 
 -- one that has no coupon
-loop-again-2 : tie.Need-loop-preserved-2 invariant-loop decreases_loop
+loop-again-2 : tie.Need-loop-rest-preserved invariant-loop decreases_loop
 loop-again-2 c =
-    let k = c.before.before in
-    let s = k.before.before in
-    let l = s.args.store.now in
-    let m = s.args.minute in
-    let n = s.args.base + count_trailing_zeros set_lines k.before.loop.rest in
-    let w = walk_start l m n c.before.last_row.ensures in
-    let z = c.if1.false in
-    left_pass (ledger_of l) s.args.session m s.args.base s.args.bits k.before.loop.invariant
-    k.loop-test.true (wide k)
-    (no_singles (ledger_of l) s.args.session m n (with_all l m n z w) (without_all l m n z w))
+    let l = c.args.store.now in
+    let m = c.args.minute in
+    let n = c.args.base + count_trailing_zeros set_lines c.loop-rest.rest in
+    let w = walk_start l m n c.last_row.ensures in
+    let z = c.if-last_row-ne0.false in
+    left_pass (ledger_of l) c.args.session m c.args.base c.args.bits c.loop-rest.invariant
+    c.loop-rest-test.true (wide c.before.before)
+    (no_singles (ledger_of l) c.args.session m n (with_all l m n z w) (without_all l m n z w))
 
 returns : tie.Need-returns invariant-loop decreases_loop
 returns c =
-    let s = c.before.before in
-    let h = c.loop-test.false in
-    let e : c.before.loop.rest ≡ 0 = omega arith in
-    left_end (ledger_of s.args.store.now) s.args.session s.args.minute s.args.base s.args.bits
-    c.before.loop.invariant e
+    let h = c.loop-rest-test.false in
+    let e : c.loop-rest.rest ≡ 0 = omega arith in
+    left_end (ledger_of c.args.store.now) c.args.session c.args.minute c.args.base c.args.bits
+    c.loop-rest.invariant e
 
 pub add_set_spec : {M : Type 1} → statement M
 add_set_spec =
@@ -100,10 +91,10 @@ add_set_spec =
     invariant-loop
     decreases_loop
     loop-holds
-    (λ c. omega (arith, there c, c.before.before.requires.0.bounded.lines))
-    (λ c. let h = c.loop-test.true in omega arith)
-    (λ c κs. let g = c.before.before.requires.0 in (g, omega (arith, there c, g.bounded.lines)))
-    (λ c κs. let k = c.before.before in (k.before.before.requires.0, there k))
+    (λ c. omega (arith, there c, c.requires.0.bounded.lines))
+    (λ c. let h = c.loop-rest-test.true in omega arith)
+    (λ c κs. let g = c.requires.0 in (g, omega (arith, there c, g.bounded.lines)))
+    (λ c κs. (c.requires.0, there c.before.before))
     (λ c. omega (arith, (small c.before).opens))
     (λ c. omega (arith, (small c.before.before).seats))
     (λ c. omega (arith, (small c.before.before.before).places))

@@ -12,99 +12,83 @@ use Rattle.formula_tally.proofs.Walks.{outside_one, only_le, one_at_most}
 use Rattle.formula_tally.proofs.count_singles.Statement.{statement}
 use Rattle.formula_tally.proofs.count_singles.Tie as tie
 
-abbrev invariant-loop : tie.invariant-loop
+abbrev invariant-loop : tie.invariant-loop-next
 invariant-loop store formula minute inside₀ all₀ next₀ inside all next =
     (inside ≤ all) × Walked store minute formula next inside (all - inside)
 
-abbrev decreases_loop : tie.decreases_loop
+abbrev decreases_loop : tie.decreases-loop-next
 decreases_loop store formula minute inside₀ all₀ next₀ inside all next = next
 
-loop-holds : tie.Need-loop-init invariant-loop decreases_loop
+loop-holds : tie.Need-loop-next-init invariant-loop decreases_loop
 loop-holds c =
-    let s = c.before in
-    (omega arith, walk_start s.args.store.now s.args.minute s.args.formula c.last_row.ensures)
+    (omega arith, walk_start c.args.store.now c.args.minute c.args.formula c.last_row-next.ensures)
 
-credential-at-requires : tie.Need-credential-at-requires invariant-loop decreases_loop
+credential-at-requires : tie.Need-credential_at-c-requires invariant-loop decreases_loop
 credential-at-requires c κs =
-    let h = c.loop-test.true in
-    let at = c.before in
-    (at.before.before.requires.0, omega (arith, at.loop.invariant.1.few))
+    let h = c.loop-next-test.true in
+    (c.requires.0, omega (arith, c.loop-next.invariant.1.few))
 
 -- one credential is at most one, in all
-record One (c : tie.After-when-has invariant-loop decreases_loop) : Type 0 where
-  part : c.when-has.result ≤ c.before.when-linear.result
-  all : c.before.when-linear.result ≤ 1
-  rows : c.before.before.before.before.loop.all ≤ max_rows
-  inside : c.before.before.before.before.loop.inside ≤ c.before.before.before.before.loop.all
+record One (c : tie.After-when_has-one invariant-loop decreases_loop) : Type 0 where
+  part : c.when_has-one.result ≤ c.before.when_linear-linear.result
+  all : c.before.when_linear-linear.result ≤ 1
+  rows : c.before.before.before.before.loop-next.all ≤ max_rows
+  inside : c.before.before.before.before.loop-next.inside ≤ c.before.before.before.before.loop-next.all
 
-one : (c : tie.After-when-has invariant-loop decreases_loop) → One c
+one : (c : tie.After-when_has-one invariant-loop decreases_loop) → One c
 one c =
-    let l = c.before in
-    let d = l.before.credential-at.result in
-    let at = l.before.before.before in
-    let s = at.before.before in
+    let d = c.credential_at-c.result in
     record {
       part = omega (
         arith,
-        c.when-has.ensures,
-        only_le (has d.interval s.args.minute) l.when-linear.result,
+        c.when_has-one.ensures,
+        only_le (has d.interval c.args.minute) c.when_linear-linear.result,
       );
-      all = one_at_most d.kind l.when-linear.ensures;
-      rows = omega (arith, at.loop.invariant.1.few, at.loop.invariant.0, s.requires.0.ordered.few);
-      inside = at.loop.invariant.0;
+      all = one_at_most d.kind c.when_linear-linear.ensures;
+      rows = omega (arith, c.loop-next.invariant.1.few, c.loop-next.invariant.0, c.requires.0.ordered.few);
+      inside = c.loop-next.invariant.0;
     }
 
-row-before-requires : tie.Need-row-before-requires invariant-loop decreases_loop
+row-before-requires : tie.Need-row_before-next-requires invariant-loop decreases_loop
 row-before-requires c κs =
-    let t = c.before.before.before in
-    let h = t.loop-test.true in
-    let at = t.before in
-    (at.before.before.requires.0, omega arith, omega (arith, at.loop.invariant.1.few))
+    let h = c.loop-next-test.true in
+    (c.requires.0, omega arith, omega (arith, c.loop-next.invariant.1.few))
 
-loop-less : tie.Need-loop-smaller invariant-loop decreases_loop
+loop-less : tie.Need-loop-next-smaller invariant-loop decreases_loop
 loop-less c =
-    let t = c.before.before.before.before in
-    let h = t.loop-test.true in
-    let i = t.before.loop.next - 1 in
-    let f = of_at t.before.before.before.args.store.now in
-    omega (arith, c.row_before.ensures, last_le f (f i) i)
+    let h = c.loop-next-test.true in
+    let i = c.loop-next.next - 1 in
+    let f = of_at c.args.store.now in
+    omega (arith, c.row_before-next.ensures, last_le f (f i) i)
 
-loop-again : tie.Need-loop-preserved invariant-loop decreases_loop
+loop-again : tie.Need-loop-next-preserved invariant-loop decreases_loop
 loop-again c =
-    let w = c.before in
-    let l = w.before in
-    let a = l.before in
-    let t = a.before in
-    let h = t.loop-test.true in
-    let at = t.before in
-    let s = at.before.before in
-    let d = a.credential-at.result in
-    let b = has d.interval s.args.minute in
-    let e = w.when-has.ensures ∙ ap (only b) l.when-linear.ensures in
-    let p : at.loop.next ≡ suc (at.loop.next - 1) = omega arith in
-    let x = w.when-has.result in
-    let y = l.when-linear.result in
-    let o : at.loop.all + y - (at.loop.inside + x) ≡ at.loop.all - at.loop.inside + (y - x) =
-    omega (arith, (one w).part, (one w).inside) in (
-      omega (arith, (one w).part, (one w).inside),
-      subst (Walked _ _ _ _ (at.loop.inside + x)) (sym o)
-          (walk_next s.args.store.now s.args.minute s.args.formula (at.loop.next - 1) d
-          at.loop.invariant.1 p a.credential-at.ensures (e ∙ inside_one d.kind b)
-          (ap₂ ◌-◌ l.when-linear.ensures e ∙ outside_one d.kind b) (omega (arith, (one w).part, (one w).all))
-          c.row_before.ensures),
+    let h = c.loop-next-test.true in
+    let d = c.credential_at-c.result in
+    let b = has d.interval c.args.minute in
+    let e = c.when_has-one.ensures ∙ ap (only b) c.when_linear-linear.ensures in
+    let p : c.loop-next.next ≡ suc (c.loop-next.next - 1) = omega arith in
+    let x = c.when_has-one.result in
+    let y = c.when_linear-linear.result in
+    let o : c.loop-next.all + y - (c.loop-next.inside + x) ≡ c.loop-next.all - c.loop-next.inside + (y - x) =
+    omega (arith, (one c.before).part, (one c.before).inside) in (
+      omega (arith, (one c.before).part, (one c.before).inside),
+      subst (Walked _ _ _ _ (c.loop-next.inside + x)) (sym o)
+          (walk_next c.args.store.now c.args.minute c.args.formula (c.loop-next.next - 1) d
+          c.loop-next.invariant.1 p c.credential_at-c.ensures (e ∙ inside_one d.kind b)
+          (ap₂ ◌-◌ c.when_linear-linear.ensures e ∙ outside_one d.kind b) (omega (arith, (one c.before).part, (one c.before).all))
+          c.row_before-next.ensures),
     )
 
 returns : tie.Need-returns invariant-loop decreases_loop
 returns c =
-    let at = c.before in
-    let s = at.before.before in
-    let l = s.args.store.now in
-    let h = c.loop-test.false in
-    let e : at.loop.next ≡ 0 = omega arith in (
-      with_all l s.args.minute s.args.formula e at.loop.invariant.1,
+    let l = c.args.store.now in
+    let h = c.loop-next-test.false in
+    let e : c.loop-next.next ≡ 0 = omega arith in (
+      with_all l c.args.minute c.args.formula e c.loop-next.invariant.1,
       (
-        without_all l s.args.minute s.args.formula e at.loop.invariant.1,
-        omega (arith, at.loop.invariant.1.few, s.requires.0.ordered.few),
+        without_all l c.args.minute c.args.formula e c.loop-next.invariant.1,
+        omega (arith, c.loop-next.invariant.1.few, c.requires.0.ordered.few),
       ),
     )
 
@@ -116,7 +100,7 @@ count_singles_spec =
     decreases_loop
     (λ c κs. c.requires)
     loop-holds
-    (λ c. let h = c.loop-test.true in omega arith)
+    (λ c. let h = c.loop-next-test.true in omega arith)
     credential-at-requires
     (λ c κs. search rules)
     (λ c κs. search rules)
@@ -125,5 +109,5 @@ count_singles_spec =
     row-before-requires
     loop-less
     loop-again
-    (λ c. omega (arith, c.before.loop.invariant.0))
+    (λ c. omega (arith, c.loop-next.invariant.0))
     returns)

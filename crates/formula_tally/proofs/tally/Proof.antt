@@ -8,10 +8,9 @@ use Rattle.formula_tally.proofs.tally.Tie as tie
 
 returns : tie.Need-returns
 returns c =
-    let a = c.before.add-up.ensures in
-    let s = c.before.before in
-    let l = s.args.store.now in
-    let law = by_formula (ledger_of l) s.args.session s.args.minute in
+    let a = c.add_up-sums.ensures in
+    let l = c.args.store.now in
+    let law = by_formula (ledger_of l) c.args.session c.args.minute in
     record {
       «open» = a.opens ∙ sym law.opens;
       shut = omega (arith, a.seats, a.opens, law.shuts);
@@ -23,5 +22,5 @@ tally_spec =
     tie.close
     (tie.spec
     (λ c κs. c.requires)
-    (λ c. omega (arith, c.before.add-up.ensures.seats, c.before.add-up.ensures.opens))
+    (λ c. omega (arith, c.add_up-sums.ensures.seats, c.add_up-sums.ensures.opens))
     returns)

@@ -9,5 +9,5 @@ when_has_spec =
     tie.close
     (tie.spec
     (λ c κs. search rules)
-    (λ c. simp (sym c.before.has.ensures ∙ c.if1.true))
-    (λ c. simp (sym c.before.has.ensures ∙ c.if1.false)))
+    (λ c. simp (sym c.has.ensures ∙ c.if-has.true))
+    (λ c. simp (sym c.has.ensures ∙ c.if-has.false)))

@@ -9,5 +9,5 @@ when_linear_spec =
     (tie.spec
     (λ c. search rules)
     (λ c. search rules)
-    (λ c. rw c.enum_told.given.1)
-    (λ c. rw c.enum-told2.given.1))
+    (λ c. rw c.in-Linear.is)
+    (λ c. rw c.in-Unrestricted.is))

@@ -44,64 +44,51 @@ within_with t = (
 )
 
 -- what is known of the parts in each arm
-parts : (t : ℕ) (c : within_lts.After-parts-of (within_with t) (within_at t) within.Post) {q : Parts}
-    → c.parts-of.result ≡ q → Parted c.before.args.store.now c.before.args.part t (numbers q)
-parts t c = parted _ _ c.parts-of.ensures _ c.before.requires.1.1 c.before.requires.0
+parts : (t : ℕ) (c : within_lts.After-parts_of (within_with t) (within_at t) within.Post) {q : Parts}
+    → c.parts_of.result ≡ q → Parted c.args.store.now c.args.part t (numbers q)
+parts t c = parted _ _ c.parts_of.ensures _ c.requires.1.1 c.requires.0
 
-within_returns_2 : (t : ℕ) → within_lts.Need-returns-2 (within_with t) (within_at t) within.Post
+within_returns_2 : (t : ℕ) → within_lts.Need-returns-then-not-left (within_with t) (within_at t) within.Post
 within_returns_2 t c =
-    let x = c.before.before in
-    let i = x.before.before.before in
-    let p = parts t i.before.before i.i2.given.1 in
+    let p = parts t c.before.before.before.before.before c.in-Two.is in
     tries_at _ p.sessions
-    (tries_left _ _ _ (part_tries p.each.0 x.before.line-at2.ensures _ x.neutral-within2.ensures)
-    (c.if2.true))
+    (tries_left _ _ _ (part_tries p.each.0 c.line_at-in-Two.ensures _ c.neutral_within-left.ensures)
+    (not-true _ c.if-not-left.true))
 
-within_returns_5 : (t : ℕ) → within_lts.Need-returns-5 (within_with t) (within_at t) within.Post
+within_returns_5 : (t : ℕ) → within_lts.Need-returns-else-not-left (within_with t) (within_at t) within.Post
 within_returns_5 t c =
-    let x = c.before.before.before.before in
-    let i = x.before.before.before in
-    let p = parts t i.before.before i.i2.given.1 in
+    let p = parts t c.before.before.before.before.before.before.before c.in-Two.is in
     tries_at _ p.sessions
-    (tries_right _ _ _ (part_tries p.each.0 x.before.line-at2.ensures _ x.neutral-within2.ensures)
-    (c.before.before.if2.false)
-    (part_tries p.each.1.0 c.before.line-at3.ensures _ c.neutral-within3.ensures))
+    (tries_right _ _ _ (part_tries p.each.0 c.line_at-in-Two.ensures _ c.neutral_within-left.ensures)
+    (not-false _ c.if-not-left.false)
+    (part_tries p.each.1.0 c.line_at-in-Two-2.ensures _ c.neutral_within-in-Two.ensures))
 
-pub +neutral-within-spec : {M : Type 1} → statement M
-+neutral-within-spec =
+pub +neutral_within_spec : {M : Type 1} → statement M
++neutral_within_spec =
     close μ-within
     (λ t. within_lts.spec (within_with t) (within_at t) within.Post
     (λ c κs. search rules) (λ c. search rules)
-    (λ c κs. let s = c.before.before.before.before.before.before.requires.1 in (s.0, s.2))
-    (λ c. let e = c.before.before.before.before in
-    tries_at _ (parts t e.before.before e.enum_told.given.1).sessions
-    (tries_atom _ e.before.before.before.args.part c.before.if1.true c.neutral-for.ensures))
+    (λ c κs. let s = c.requires.1 in (s.0, s.2))
+    (λ c. tries_at _ (parts t c.before.before.before.before.before c.in-Nothing.is).sessions
+    (tries_atom _ c.args.part c.if-part.true c.neutral_for.ensures))
     (λ c. search rules)
-    (λ c κs. (parts t c.before.before.before c.before.i.given.1).each.0.there)
-    (λ c κs. let i = c.before.before in
-    let s = i.before.before.before.requires.1 in
-    let a = part_asked (parts t i.before.before i.i.given.1).each.0 c.line_at_lem.ensures in
+    (λ c κs. (parts t c.before c.in-One.is).each.0.there)
+    (λ c κs. let s = c.requires.1 in
+    let a = part_asked (parts t c.before.before c.in-One.is).each.0 c.line_at.ensures in
     (a.0, (s.0, a.1, s.2)))
     (λ c. search rules)
-    (λ c κs. (parts t c.before.before.before c.before.i2.given.1).each.0.there)
-    (λ c κs. let i = c.before.before in
-    let s = i.before.before.before.requires.1 in
-    let a = part_asked (parts t i.before.before i.i2.given.1).each.0 c.line-at2.ensures in
+    (λ c κs. (parts t c.before c.in-Two.is).each.0.there)
+    (λ c κs. let s = c.requires.1 in
+    let a = part_asked (parts t c.before.before c.in-Two.is).each.0 c.line_at-in-Two.ensures in
     (a.0, (s.0, a.1, s.2)))
     (within_returns_2 t)
-    (λ c κs. let i = c.before.before.before.before.before in
-    (parts t i.before.before i.i2.given.1).each.1.0.there)
-    (λ c κs. let x = c.before.before.before in
-    let i = x.before.before.before in
-    let s = i.before.before.before.requires.1 in
-    let a = part_asked (parts t i.before.before i.i2.given.1).each.1.0 c.line-at3.ensures in
-    (a.0, (s.0, a.1, x.neutral-within2.ensures.sure)))
-    (λ c. let e = c.before.before.before in
-    let s = e.before.before.before in
-    tries_at _ (parts t e.before.before e.enum_told.given.1).sessions
-    (tries_other _ s.args.part s.args.last c.if1.false s.requires.1.2))
-    (λ c. let i = c.before.before.before in
-    let p = parts t i.before.before i.i.given.1 in
+    (λ c κs. (parts t c.before.before.before.before.before c.in-Two.is).each.1.0.there)
+    (λ c κs. let s = c.requires.1 in
+    let a = part_asked (parts t c.before.before.before.before.before.before c.in-Two.is).each.1.0 c.line_at-in-Two-2.ensures in
+    (a.0, (s.0, a.1, c.neutral_within-left.ensures.sure)))
+    (λ c. tries_at _ (parts t c.before.before.before.before c.in-Nothing.is).sessions
+    (tries_other _ c.args.part c.args.last c.if-part.false c.requires.1.2))
+    (λ c. let p = parts t c.before.before.before c.in-One.is in
     tries_at _ p.sessions
-    (part_tries p.each.0 c.before.line_at_lem.ensures _ c.neutral-within.ensures))
+    (part_tries p.each.0 c.line_at.ensures _ c.neutral_within.ensures))
     (within_returns_5 t))

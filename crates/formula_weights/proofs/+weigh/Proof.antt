@@ -49,46 +49,37 @@ weigh_with t = (
 )
 
 -- what is known of the parts in each arm
-parts : (t : ℕ) (c : weigh_lts.After-parts-of (weigh_with t) (weigh_at t) weigh.Post) {q : Parts}
-    → c.parts-of.result ≡ q → Parted c.before.args.store.now c.before.args.row t (numbers q)
-parts t c = parted _ _ c.parts-of.ensures _ c.before.requires.1 c.before.requires.0
+parts : (t : ℕ) (c : weigh_lts.After-parts_of (weigh_with t) (weigh_at t) weigh.Post) {q : Parts}
+    → c.parts_of.result ≡ q → Parted c.args.store.now c.args.row t (numbers q)
+parts t c = parted _ _ c.parts_of.ensures _ c.requires.1 c.requires.0
 
-weigh_returns_3 : (t : ℕ) → weigh_lts.Need-returns-3 (weigh_with t) (weigh_at t) weigh.Post
+weigh_returns_3 : (t : ℕ) → weigh_lts.Need-returns-in-Two (weigh_with t) (weigh_at t) weigh.Post
 weigh_returns_3 t c =
-    let x = c.before.before.before in
-    let i = x.before.before.before in
-    let p = parts t i.before.before i.i2.given.1 in
+    let p = parts t c.before.before.before.before.before.before c.in-Two.is in
     c.joined.ensures
-    ∙ ap₂ (joined_weight _) (part_weight p.each.0 x.before.line-at2.ensures _ x.weigh2.ensures)
-    (part_weight p.each.1.0 c.before.before.line-at3.ensures _ c.before.weigh3.ensures)
+    ∙ ap₂ (joined_weight _) (part_weight p.each.0 c.line_at-left.ensures _ c.weigh-x-in-Two.ensures)
+    (part_weight p.each.1.0 c.line_at-right.ensures _ c.weigh-y.ensures)
     ∙ p.weight _
 
-pub +weigh-spec : {M : Type 1} → statement M
-+weigh-spec =
+pub +weigh_spec : {M : Type 1} → statement M
++weigh_spec =
     close μ-weigh
     (λ t. weigh_lts.spec (weigh_with t) (weigh_at t) weigh.Post
     (λ c κs. search rules) (λ c. search rules) (λ c κs. search rules) (λ c. search rules)
-    (λ c κs. (parts t c.before.before.before c.before.i.given.1).each.0.there)
-    (λ c κs. let i = c.before.before in
-    part_asked (parts t i.before.before i.i.given.1).each.0 c.line_at_lem.ensures)
+    (λ c κs. (parts t c.before c.in-One.is).each.0.there)
+    (λ c κs. part_asked (parts t c.before.before c.in-One.is).each.0 c.line_at-part.ensures)
     (λ c κs. search rules) (λ c. search rules)
-    (λ c κs. (parts t c.before.before.before c.before.i2.given.1).each.0.there)
-    (λ c κs. let i = c.before.before in
-    part_asked (parts t i.before.before i.i2.given.1).each.0 c.line-at2.ensures)
-    (λ c κs. let i = c.before.before.before in
-    (parts t i.before.before i.i2.given.1).each.1.0.there)
-    (λ c κs. let i = c.before.before.before.before in
-    part_asked (parts t i.before.before i.i2.given.1).each.1.0 c.line-at3.ensures)
-    (λ c κs. let x = c.before.before in
-    let i = x.before.before.before in
-    let p = parts t i.before.before i.i2.given.1 in (
-      part_light p.each.0 x.before.line-at2.ensures _ x.weigh2.ensures,
-      part_light p.each.1.0 c.before.line-at3.ensures _ c.weigh3.ensures,
+    (λ c κs. (parts t c.before c.in-Two.is).each.0.there)
+    (λ c κs. part_asked (parts t c.before.before c.in-Two.is).each.0 c.line_at-left.ensures)
+    (λ c κs. (parts t c.before.before.before c.in-Two.is).each.1.0.there)
+    (λ c κs. part_asked (parts t c.before.before.before.before c.in-Two.is).each.1.0 c.line_at-right.ensures)
+    (λ c κs. let p = parts t c.before.before.before.before.before c.in-Two.is in (
+      part_light p.each.0 c.line_at-left.ensures _ c.weigh-x-in-Two.ensures,
+      part_light p.each.1.0 c.line_at-right.ensures _ c.weigh-y.ensures,
     ))
-    (λ c. c.alone.ensures ∙ (parts t c.before.before.before c.before.enum_told.given.1).weight _)
-    (λ c. let i = c.before.before.before.before in
-    let p = parts t i.before.before i.i.given.1 in
+    (λ c. c.alone.ensures ∙ (parts t c.before.before c.in-Nothing.is).weight _)
+    (λ c. let p = parts t c.before.before.before.before c.in-One.is in
     c.under.ensures
-    ∙ ap (under_weight _) (part_weight p.each.0 c.before.before.line_at_lem.ensures _ c.before.weigh.ensures)
+    ∙ ap (under_weight _) (part_weight p.each.0 c.line_at-part.ensures _ c.weigh-x.ensures)
     ∙ p.weight _)
     (weigh_returns_3 t))

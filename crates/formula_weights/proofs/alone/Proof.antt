@@ -4,14 +4,14 @@ use Rattle.formula_weights.specs.RowWeights.{alone_weight}
 use Rattle.formula_weights.proofs.alone.Statement.{statement}
 use Rattle.formula_weights.proofs.alone.Tie as tie
 
-returns : tie.Need-returns
+returns : tie.Need-returns-then-row
 unfolding alone_weight
 returns c =
-    simp (c.before.if1.true, c.atom-weight.ensures)
+    simp (c.if-row.true, c.atom_weight.ensures)
 
-returns_2 : tie.Need-returns-2
+returns_2 : tie.Need-returns
 unfolding alone_weight
-returns_2 c = simp c.if1.false
+returns_2 c = simp c.if-row.false
 
 pub alone_spec : {M : Type 1} → statement M
 alone_spec = tie.close (tie.spec (λ c κs. search rules) returns returns_2)

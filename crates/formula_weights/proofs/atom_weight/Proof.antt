@@ -8,9 +8,7 @@ pub atom_weight_spec : {M : Type 1} → statement M
 atom_weight_spec =
     tie.close
     (tie.spec
-    (λ c. simp (eq-eqb _ _ c.before.if1.true, eq-eqb _ _ c.if2.true))
-    (λ c. let b = c.before in
-    simp (eq-eqb _ _ b.before.if1.true, ne_eqb _ _ b.if2.false, eq-eqb _ _ c.if3.true))
-    (λ c. let b = c.before in
-    simp (eq-eqb _ _ b.before.if1.true, ne_eqb _ _ b.if2.false, ne_eqb _ _ c.if3.false))
-    (λ c. simp (ne_eqb _ _ c.if1.false, and-false)))
+    (λ c. simp (eq-eqb _ _ c.if-of-session.true, eq-eqb _ _ c.if-predicate-eq-SEAT.true))
+    (λ c. simp (eq-eqb _ _ c.if-of-session.true, ne_eqb _ _ c.if-predicate-eq-SEAT.false, eq-eqb _ _ c.if-predicate-eq-PLACE.true))
+    (λ c. simp (eq-eqb _ _ c.if-of-session.true, ne_eqb _ _ c.if-predicate-eq-SEAT.false, ne_eqb _ _ c.if-predicate-eq-PLACE.false))
+    (λ c. simp (ne_eqb _ _ c.if-of-session.false, and-false)))

@@ -5,22 +5,22 @@ use Rattle.formula_weights.specs.RowWeights.{joined_weight}
 use Rattle.formula_weights.proofs.joined.Statement.{statement}
 use Rattle.formula_weights.proofs.joined.Tie as tie
 
-returns : tie.Need-returns
+returns : tie.Need-returns-in-116
 unfolding joined_weight
-returns c = rw c.before.before.before.before.before.before.match.keys1
+returns c = rw c.in-116.is
 
-returns_2 : tie.Need-returns-2
+returns_2 : tie.Need-returns-in-108
 unfolding joined_weight
-returns_2 c = rw c.before.before.before.before.before.before.match.keys2
+returns_2 c = rw c.in-108.is
 
-returns_3 : tie.Need-returns-3
+returns_3 : tie.Need-returns-in-117
 unfolding joined_weight
-returns_3 c = rw c.before.before.before.match.keys3
+returns_3 c = rw c.in-117.is
 
-returns_4 : tie.Need-returns-4
+returns_4 : tie.Need-returns-in_default
 unfolding joined_weight
 returns_4 c =
-    let m = c.before.before.before.before.before.before.match.rest in
+    let m = c.in_default.in_default-own.rest in
     simp (ne_eqb _ _ m.1, ne_eqb _ _ m.0.1, ne_eqb _ _ m.0.0.1)
 
 pub joined_spec : {M : Type 1} → statement M

@@ -3,18 +3,17 @@ use Rattle.formula_weights.proofs.Weighing.{tries_known, tries_new}
 use Rattle.formula_weights.proofs.neutral_for.Statement.{statement}
 use Rattle.formula_weights.proofs.neutral_for.Tie as tie
 
-returns : tie.Need-returns
+returns : tie.Need-returns-then-last-session
 returns c =
-    let s = c.before.before.before in
-    tries_known _ s.args.last s.args.session s.requires.1 c.if1.true
+    tries_known _ c.args.last c.args.session c.requires.1 c.if-last-session.true
 
-neutral-requires : tie.Need-neutral-requires
+neutral-requires : tie.Need-neutral-all-requires
 neutral-requires c κs =
-    c.before.before.before.requires.0
+    c.requires.0
 
-returns_2 : tie.Need-returns-2
+returns_2 : tie.Need-returns
 returns_2 c =
-    tries_new _ _ c.neutral.ensures
+    tries_new _ _ c.neutral-all.ensures
 
 pub neutral_for_spec : {M : Type 1} → statement M
 neutral_for_spec =

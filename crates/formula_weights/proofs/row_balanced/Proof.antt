@@ -7,24 +7,22 @@ use Rattle.formula_weights.proofs.Weighing.{parted}
 use Rattle.formula_weights.proofs.row_balanced.Statement.{statement}
 use Rattle.formula_weights.proofs.row_balanced.Tie as tie
 
-balanced-at-requires : tie.Need-balanced-at-requires
+balanced-at-requires : tie.Need-balanced_at-requires
 balanced-at-requires c κs =
-    let p = c.before.before.before in
-    (parted _ _ p.parts-of.ensures _ p.before.requires refl c.before.i.given.1).each.0.there
+    (parted _ _ c.parts_of.ensures _ c.requires refl c.in-One.is).each.0.there
 
-returns : tie.Need-returns
+returns : tie.Need-returns-in-One
 returns c =
-    let p = c.before.before.before.before in
-    c.balanced-at.ensures
-    ∙ (parted _ _ p.parts-of.ensures _ p.before.requires refl c.before.before.i.given.1).balance
+    c.balanced_at.ensures
+    ∙ (parted _ _ c.parts_of.ensures _ c.requires refl c.in-One.is).balance
 
-returns_2 : tie.Need-returns-2
+returns_2 : tie.Need-returns
 unfolding balanced
-returns_2 c = c.neutral-within.ensures.all
+returns_2 c = c.neutral_within-tried.ensures.all
 
-neutral-within-requires : tie.Need-neutral-within-requires
+neutral-within-requires : tie.Need-neutral_within-tried-requires
 neutral-within-requires c κs =
-    let p = c.before.before.requires in (p, p, λ e. absurd (no_truth e))
+    let p = c.requires in (p, p, λ e. absurd (no_truth e))
 
 pub row_balanced_spec : {M : Type 1} → statement M
 row_balanced_spec =

@@ -103,8 +103,8 @@ step_returns_8 t c =
     e.before.before.begin2.ensures d.first.given.1 d.before.before.check-premise2.ensures
     a.q22.given.1 a.before.before.begin3.ensures c.check-premise3.ensures
 
-pub +check-premise-check-step-spec : {M : Type 1} → statement M
-+check-premise-check-step-spec =
+pub +check_premise_check_step_spec : {M : Type 1} → statement M
++check_premise_check_step_spec =
     close μ-premise μ-step
     (λ t. premise_lts.spec (premise_with t) (premise_at t) premise.Post (λ c. search rules)
     (premise_returns t) (λ c. search rules) (λ c κs. search rules) (λ c. search rules) (λ c κs. search rules)

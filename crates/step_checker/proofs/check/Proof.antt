@@ -5,23 +5,20 @@ use borrow.Author.Rules.{rules}
 use Rattle.step_checker.proofs.check.Statement.{statement}
 use Rattle.step_checker.proofs.check.Tie as tie
 
-returns : tie.Need-returns
+returns : tie.Need-returns-then-left-eq0
 returns c =
-    let a = c.before.before in
-    whole_closes a.before.before.check-premise.ensures a.o2.given.1 c.if1.true
+    whole_closes c.check_premise-o.ensures c.in-Done.is c.if-left-eq0.true
 
-sub_t14 : tie.Need-overflow-sub-t14
+sub_t14 : tie.Need-overflow_sub-result
 sub_t14 c =
-    let a = c.before.before in
-    omega (arith, (premise_is a.o2.given.1 a.before.before.check-premise.ensures).fewer)
+    omega (arith, (premise_is c.in-Done.is c.check_premise-o.ensures).fewer)
 
-returns_2 : tie.Need-returns-2
-returns_2 c = whole_stops c.before.before.before.check-premise.ensures c.before.o.given.1
+returns_2 : tie.Need-returns-in-Stopped
+returns_2 c = whole_stops c.check_premise-o.ensures c.in-Stopped.is
 
-returns_3 : tie.Need-returns-3
+returns_3 : tie.Need-returns-else-left-eq0
 returns_3 c =
-    let a = c.before.before in
-    whole_follows a.before.before.check-premise.ensures a.o2.given.1 c.if1.false
+    whole_follows c.check_premise-o.ensures c.in-Done.is c.if-left-eq0.false
 
 pub check_spec : {M : Type 1} → statement M
 check_spec =

@@ -33,27 +33,20 @@ pub +put_digits_spec : {M : Type 1} → statement M
     (λ c. search rules)
     (λ c. search rules)
     (λ c κs.
-    let start = c.before.before.before in
-    let e = ap length (digits_one start.args.n c.before.if1.true) in
-    omega (arith, e, start.requires.1))
+    let e = ap length (digits_one c.args.n c.if-n-lt10.true) in
+    omega (arith, e, c.requires.1))
     (λ c. search rules)
     (λ c.
-    let put = c.before.before in
-    wrote_as (sym (digits_one _ put.before.before.if1.true)) put.put_byte.ensures)
+    wrote_as (sym (digits_one _ c.if-n-lt10.true)) c.put_byte.ensures)
     (λ c κs.
-    let start = c.before.before.before in
-    let h = digits_room start.args.n c.before.if1.false in
-    (omega (arith, start.requires.0, c.before.if1.false), omega (arith, h, start.requires.1)))
+    let h = digits_room c.args.n c.if-n-lt10.false in
+    (omega (arith, c.requires.0, c.if-n-lt10.false), omega (arith, h, c.requires.1)))
     (λ c. search rules)
     (λ c. search rules)
     (λ c κs.
-    let put = c.before.before.before in
-    let start = put.before.before.before.before in
-    let h = digits_room start.args.n put.before.before.if1.false in
-    omega (arith, h, start.requires.1, put.put_digits.ensures.long, put.put_digits.ensures.end))
+    let h = digits_room c.args.n c.if-n-lt10.false in
+    omega (arith, h, c.requires.1, c.put_digits-i.ensures.long, c.put_digits-i.ensures.end))
     (λ c. search rules)
     (λ c.
-    let last = c.before.before in
-    let put = last.before.before.before.before in
-    wrote_as (sym (digits_high _ put.before.before.if1.false))
-    (wrote_then put.put_digits.ensures last.put-byte2.ensures)))
+    wrote_as (sym (digits_high _ c.if-n-lt10.false))
+    (wrote_then c.put_digits-i.ensures c.put_byte-2.ensures)))

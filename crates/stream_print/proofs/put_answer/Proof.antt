@@ -13,53 +13,42 @@ use Rattle.stream_print.proofs.put_answer.Tie as tie
 by_case : {a e : Answer} → a ≡ e → line (told e) ≡ line (told a)
 by_case q = ap (λ (z : Answer). line (told z)) (sym q)
 
-returns : tie.Need-returns
+returns : tie.Need-returns-in-Accepted
 returns c =
-    let last = c.before.before in
-    let field = last.before.before.before.before in
-    let word = field.before.before.before.before in (
-      wrote_as (line_accepted _ ∙ by_case word.before.before.before.a.given.1)
-          (wrote_then (wrote_then word.put_word.ensures field.put-field.ensures.0) last.put_byte.ensures),
-      omega (arith, last.put_byte.ensures.end, field.put-field.ensures.1, word.put_word.ensures.end),
+    (
+      wrote_as (line_accepted _ ∙ by_case c.in-Accepted.is)
+          (wrote_then (wrote_then c.put_word-i.ensures c.put_field-j.ensures.0) c.put_byte.ensures),
+      omega (arith, c.put_byte.ensures.end, c.put_field-j.ensures.1, c.put_word-i.ensures.end),
     )
 
-returns_2 : tie.Need-returns-2
+returns_2 : tie.Need-returns-in-Counted
 returns_2 c =
-    let last = c.before.before in
-    let third = last.before.before.before.before in
-    let second = third.before.before.before.before in
-    let first = second.before.before.before.before in
-    let word = first.before.before.before.before in
-    let begun = wrote_then word.put-word2.ensures first.put-field2.ensures.0 in (
-      wrote_as (line_counted _ _ _ ∙ by_case word.before.before.before.a2.given.1)
+    let begun = wrote_then c.put_word-i-in-Counted.ensures c.put_field-j-in-Counted.ensures.0 in (
+      wrote_as (line_counted _ _ _ ∙ by_case c.in-Counted.is)
           (wrote_then
-          (wrote_then (wrote_then begun second.put-field3.ensures.0) third.put-field4.ensures.0)
-          last.put-byte2.ensures),
+          (wrote_then (wrote_then begun c.put_field-k.ensures.0) c.put_field-m.ensures.0)
+          c.put_byte-in-Counted.ensures),
       omega (
         arith,
-        last.put-byte2.ensures.end,
-        third.put-field4.ensures.1,
-        second.put-field3.ensures.1,
-        first.put-field2.ensures.1,
-        word.put-word2.ensures.end,
+        c.put_byte-in-Counted.ensures.end,
+        c.put_field-m.ensures.1,
+        c.put_field-k.ensures.1,
+        c.put_field-j-in-Counted.ensures.1,
+        c.put_word-i-in-Counted.ensures.end,
       ),
     )
 
-returns_3 : tie.Need-returns-3
+returns_3 : tie.Need-returns-in-Refused
 returns_3 c =
-    let last = c.before.before in
-    let second = last.before.before.before.before in
-    let first = second.before.before.before.before in
-    let word = first.before.before.before.before in
-    let begun = wrote_then word.put-word3.ensures first.put-field5.ensures.0 in (
-      wrote_as (line_refused _ _ ∙ by_case word.before.before.before.a3.given.1)
-          (wrote_then (wrote_then begun second.put-field6.ensures.0) last.put-byte3.ensures),
+    let begun = wrote_then c.put_word-i-in-Refused.ensures c.put_field-j-in-Refused.ensures.0 in (
+      wrote_as (line_refused _ _ ∙ by_case c.in-Refused.is)
+          (wrote_then (wrote_then begun c.put_field-k-in-Refused.ensures.0) c.put_byte-in-Refused.ensures),
       omega (
         arith,
-        last.put-byte3.ensures.end,
-        second.put-field6.ensures.1,
-        first.put-field5.ensures.1,
-        word.put-word3.ensures.end,
+        c.put_byte-in-Refused.ensures.end,
+        c.put_field-k-in-Refused.ensures.1,
+        c.put_field-j-in-Refused.ensures.1,
+        c.put_word-i-in-Refused.ensures.end,
       ),
     )
 

@@ -7,15 +7,13 @@ use Rattle.stream_print.proofs.put_field.Tie as tie
 
 returns : tie.Need-returns
 returns c =
-    let last = c.before.before in
-    let put = last.before.before.before.before in
-    let start = put.before.before.before in (
-      wrote_then put.put_byte.ensures last.put-digits.ensures,
+    (
+      wrote_then c.put_byte-i.ensures c.put_digits.ensures,
       omega (
         arith,
-        digits_few start.args.n start.ranges.n.fits,
-        last.put-digits.ensures.end,
-        put.put_byte.ensures.end,
+        digits_few c.args.n c.ranges.n.fits,
+        c.put_digits.ensures.end,
+        c.put_byte-i.ensures.end,
       ),
     )
 
@@ -25,14 +23,12 @@ put_field_spec =
     (tie.spec
     (λ c κs. search rules)
     (λ c κs.
-    let put = c.before.before.before in
-    let start = put.before.before.before in
     omega (
       arith,
-      digits_few start.args.n start.ranges.n.fits,
-      put.put_byte.ensures.long,
-      put.put_byte.ensures.end,
-      start.requires,
+      digits_few c.args.n c.ranges.n.fits,
+      c.put_byte-i.ensures.long,
+      c.put_byte-i.ensures.end,
+      c.requires,
     ))
     (λ c. search rules)
     returns)

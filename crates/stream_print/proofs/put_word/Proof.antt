@@ -6,8 +6,7 @@ use Rattle.stream_print.proofs.put_word.Tie as tie
 
 returns : tie.Need-returns
 returns c =
-    let last = c.before.before in
-    wrote_then last.before.before.before.before.put_byte.ensures last.put-byte2.ensures
+    wrote_then c.put_byte-i.ensures c.put_byte.ensures
 
 pub put_word_spec : {M : Type 1} → statement M
 put_word_spec =

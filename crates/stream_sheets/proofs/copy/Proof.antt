@@ -9,31 +9,30 @@ use Rattle.stream_sheets.proofs.Keeping.{copy_none, copy_next, copied}
 use Rattle.stream_sheets.proofs.copy.Statement.{statement}
 use Rattle.stream_sheets.proofs.copy.Tie as tie
 
-abbrev invariant-loop : tie.invariant-loop
+abbrev invariant-loop : tie.invariant-loop-i
 invariant-loop begun₀ filled bytes i₀ begun i =
     (i ≤ length bytes) × ((length begun ≡ most) × (take (filled + i) begun ≡ take filled begun₀ ++ take i bytes))
 
-abbrev decreases_loop : tie.decreases_loop
+abbrev decreases_loop : tie.decreases-loop-i
 decreases_loop begun₀ filled bytes i₀ begun i = length bytes - i
 
-loop-again : tie.Need-loop-preserved invariant-loop decreases_loop
+loop-again : tie.Need-loop-i-preserved invariant-loop decreases_loop
 loop-again c =
-    let test = c.before in
-    let inv = test.before.loop.invariant in
-    let pre = test.before.before.requires in (
-      omega (arith, test.loop-test.true),
+    let inv = c.loop-i.invariant in
+    let pre = c.requires in (
+      omega (arith, c.loop-i-test.true),
       (
         rw length-set inv.1.0,
-        copy_next _ _ _ _ _ inv.1.0 (omega (arith, test.loop-test.true, pre.1)) test.loop-test.true
+        copy_next _ _ _ _ _ inv.1.0 (omega (arith, c.loop-i-test.true, pre.1)) c.loop-i-test.true
             inv.1.1,
       ),
     )
 
 returns : tie.Need-returns invariant-loop decreases_loop
 returns c =
-    let inv = c.before.loop.invariant in
-    let pre = c.before.before.requires in
-    copied _ _ _ _ _ pre.0 inv.1.0 pre.1 (omega (arith, inv.0, c.loop-test.false)) inv.1.1
+    let inv = c.loop-i.invariant in
+    let pre = c.requires in
+    copied _ _ _ _ _ pre.0 inv.1.0 pre.1 (omega (arith, inv.0, c.loop-i-test.false)) inv.1.1
 
 pub copy_spec : {M : Type 1} → statement M
 copy_spec =
@@ -49,5 +48,5 @@ copy_spec =
     (λ c. omega arith)
     loop-again
     (λ c. omega arith)
-    (λ c. c.before.loop.invariant.1.0 ∙ sym c.before.before.requires.0)
+    (λ c. c.loop-i.invariant.1.0 ∙ sym c.requires.0)
     returns)

@@ -10,42 +10,39 @@ use Rattle.stream_sheets.proofs.EmptyLines.{any_before, end_first, end_at, end_o
 use Rattle.stream_sheets.proofs.sheet_end.Statement.{statement}
 use Rattle.stream_sheets.proofs.sheet_end.Tie as tie
 
-abbrev invariant-loop : tie.invariant-loop
+abbrev invariant-loop : tie.invariant-loop-i
 invariant-loop piece fresh i₀ i = (i < length piece) × (empty_line fresh (take (i + 1) piece) ≡ false)
 
-abbrev decreases_loop : tie.decreases_loop
+abbrev decreases_loop : tie.decreases-loop-i
 decreases_loop piece fresh i₀ i = length piece - i
 
-returns : tie.Need-returns invariant-loop decreases_loop
+returns : tie.Need-returns-then-fresh-piece invariant-loop decreases_loop
 returns c =
-    let start = c.before.before.before in
-    end_first start.args.piece.now start.args.fresh start.requires c.if1.true
+    end_first c.args.piece.now c.args.fresh c.requires c.if-fresh-piece.true
 
-loop-holds : tie.Need-loop-init invariant-loop decreases_loop
+loop-holds : tie.Need-loop-i-init invariant-loop decreases_loop
 loop-holds c =
-    let start = c.before.before.before.before in
-    let skipped = c.skip.ensures in (
+    let skipped = c.skip-i.ensures in (
       skipped.inside,
-      any_before start.args.fresh start.args.piece.now c.skip.result start.requires c.before.if1.false
+      any_before c.args.fresh c.args.piece.now c.skip-i.result c.requires c.if-fresh-piece.false
           skipped.none,
     )
 
-returns_2 : tie.Need-returns-2 invariant-loop decreases_loop
+returns_2 : tie.Need-returns-then-piece-i invariant-loop decreases_loop
 returns_2 c =
-    let test = c.before.before.before in
-    end_at _ _ _ test.loop-test.true test.before.loop.invariant.1 c.if2.true
+    end_at _ _ _ c.loop-i-test.true c.loop-i.invariant.1 c.if-piece-i.true
 
-loop-again : tie.Need-loop-preserved invariant-loop decreases_loop
+loop-again : tie.Need-loop-i-preserved invariant-loop decreases_loop
 loop-again c =
-    let test = c.before.before.before in (
-      test.loop-test.true,
-      end_on _ _ _ test.loop-test.true test.before.loop.invariant.1 c.if2.false,
+    (
+      c.loop-i-test.true,
+      end_on _ _ _ c.loop-i-test.true c.loop-i.invariant.1 c.if-piece-i.false,
     )
 
-returns_3 : tie.Need-returns-3 invariant-loop decreases_loop
+returns_3 : tie.Need-returns invariant-loop decreases_loop
 returns_3 c =
-    let loop = c.before.before.loop in
-    no_end _ _ _ loop.invariant.0 c.before.loop-test.false loop.invariant.1
+    let loop = c.loop-i in
+    no_end _ _ _ loop.invariant.0 c.loop-i-test.false loop.invariant.1
 
 pub sheet_end_spec : {M : Type 1} → statement M
 sheet_end_spec =

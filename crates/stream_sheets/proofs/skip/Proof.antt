@@ -12,34 +12,32 @@ use Rattle.stream_sheets.proofs.EmptyLines.{empty_first, skip_on}
 use Rattle.stream_sheets.proofs.skip.Statement.{statement}
 use Rattle.stream_sheets.proofs.skip.Tie as tie
 
-abbrev invariant-loop : tie.invariant-loop
+abbrev invariant-loop : tie.invariant-loop-i
 invariant-loop piece i₀ i = Skipped piece i
 
-abbrev decreases_loop : tie.decreases_loop
+abbrev decreases_loop : tie.decreases-loop-i
 decreases_loop piece i₀ i = length piece - i
 
-has-end-requires : tie.Need-has-end-requires invariant-loop decreases_loop
+has-end-requires : tie.Need-has_end-requires invariant-loop decreases_loop
 has-end-requires c κs =
-    let test = c.before in
-    let x = test.before.before.before.args.piece.now in
-    let i = test.before.loop.i in
+    let x = c.args.piece.now in
+    let i = c.loop-i.i in
     let s : i + 65 - i ≡ 65 = omega arith in
     let n : length (take (i + 65 - i) (drop i x)) ≡ 65 =
-    rw s (length-take-le 65 (drop i x) (omega (arith, length-drop i x, test.loop-test.true))) in
+    rw s (length-take-le 65 (drop i x) (omega (arith, length-drop i x, c.loop-i-test.true))) in
     (omega arith, omega arith)
 
-loop-again : tie.Need-loop-preserved invariant-loop decreases_loop
+loop-again : tie.Need-loop-i-preserved invariant-loop decreases_loop
 loop-again c =
-    let test = c.before.before.before in
-    let x = test.before.before.before.args.piece.now in
-    let i = test.before.loop.i in
-    let inv = test.before.loop.invariant in
+    let x = c.args.piece.now in
+    let i = c.loop-i.i in
+    let inv = c.loop-i.invariant in
     let s : 65 ≡ i + 65 - i = omega arith in
     record {
-      inside = test.loop-test.true;
+      inside = c.loop-i-test.true;
       none =
           skip_on x i 64 inv.inside inv.none
-          (ap (λ (k : ℕ). empty_line false (take k (drop i x))) s ∙ sym c.before.has-end.ensures ∙ c.if1.false);
+          (ap (λ (k : ℕ). empty_line false (take k (drop i x))) s ∙ sym c.has_end.ensures ∙ c.if-has_end.false);
     }
 
 pub skip_spec : {M : Type 1} → statement M
@@ -48,15 +46,15 @@ skip_spec =
     (tie.spec
     invariant-loop
     decreases_loop
-    (λ c. record { inside = c.before.requires; none = empty_first c.before.args.piece.now c.before.requires })
+    (λ c. record { inside = c.requires; none = empty_first c.args.piece.now c.requires })
     (λ c. omega arith)
     (λ c. omega arith)
     (λ c. search rules)
     (λ c. search rules)
     (λ c. search rules)
     has-end-requires
-    (λ c. c.before.before.before.before.loop.invariant)
+    (λ c. c.loop-i.invariant)
     (λ c. omega arith)
     (λ c. omega arith)
     loop-again
-    (λ c. c.before.loop.invariant))
+    (λ c. c.loop-i.invariant))

@@ -30,7 +30,7 @@ loop-again c =
     let at = c.before.before.before in (
       omega (arith, c.before.before.loop-test.true),
       measured_within (omega arith) (measured_next (formula_lines_holds _) _ at.loop.invariant.1
-          (measured_as (formula_as _ _ c.before.line_at_lem.ensures) c.formula-length.ensures)),
+          (measured_as (formula_as _ _ c.before.line_at.ensures) c.formula-length.ensures)),
     )
 
 returns : tie.Need-returns invariant-loop decreases_loop

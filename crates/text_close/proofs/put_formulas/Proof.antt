@@ -40,7 +40,7 @@ loop-again c =
     let turn = line.before in (
       omega (arith, turn.loop-test.true),
       wrote_parts (room turn) turn.before.loop.invariant.1
-          (wrote_as (formula_as _ _ line.line_at_lem.ensures) c.before.before.put-formula.ensures),
+          (wrote_as (formula_as _ _ line.line_at.ensures) c.before.before.put-formula.ensures),
     )
 
 returns : tie.Need-returns invariant-loop decreases_loop
@@ -66,14 +66,14 @@ put_formulas_spec =
     (λ c. search rules)
     (λ c κs.
     let line = c.before in
-    room_as (sym (formula_as _ _ line.line_at_lem.ensures))
+    room_as (sym (formula_as _ _ line.line_at.ensures))
     (part_room (room line.before) line.before.before.loop.invariant.1))
     (λ c.
     let line = c.before.before.before.before in
     let turn = line.before in
     let start = turn.before.before.before.before in
     sum_fits (room turn) turn.before.loop.invariant.1
-    (wrote_as (formula_as _ _ line.line_at_lem.ensures) c.before.before.put-formula.ensures) start.well-formed.0.0)
+    (wrote_as (formula_as _ _ line.line_at.ensures) c.before.before.put-formula.ensures) start.well-formed.0.0)
     (λ c. search rules)
     (λ c. search rules)
     loop-again

@@ -8,6 +8,6 @@ pub edition_by_spec : {M : Type 1} → statement M
 edition_by_spec =
     tie.close
     (tie.spec
-    (λ c. let a = c.before.args in with_holders a.holders a.live c.if1.true)
-    (λ c. let a = c.before.before.args in many_live a.holders a.live c.before.if1.false c.if2.true)
-    (λ c. let a = c.before.before.args in few_live a.holders a.live c.before.if1.false c.if2.false))
+    (λ c. let a = c.args in with_holders a.holders a.live c.if-holders.true)
+    (λ c. let a = c.args in many_live a.holders a.live c.if-holders.false c.if-live-gt-MOST_OF_FIRST.true)
+    (λ c. let a = c.args in few_live a.holders a.live c.if-holders.false c.if-live-gt-MOST_OF_FIRST.false))

@@ -8,8 +8,7 @@ use Rattle.text_edition.proofs.edition_of.Tie as tie
 returns : tie.Need-returns
 unfolding edition_of
 returns c =
-    let live = c.before in
-    c.edition-by.ensures ∙ ap₂ edition_by live.before.has-holders.ensures live.live-count.ensures
+    c.edition_by.ensures ∙ ap₂ edition_by c.has_holders-holders.ensures c.live_count-live.ensures
 
 pub edition_of_spec : {M : Type 1} → statement M
 edition_of_spec =

@@ -13,55 +13,48 @@ use Rattle.store_formulas.proofs.Found.{has_at, has_none}
 use Rattle.text_edition.proofs.has_holders.Statement.{statement}
 use Rattle.text_edition.proofs.has_holders.Tie as tie
 
-abbrev invariant-loop : tie.invariant-loop
+abbrev invariant-loop : tie.invariant-loop-i
 invariant-loop store n i₀ i =
     (n ≡ line_count store) × ((i ≤ n) × ((k : ℕ) → k < i → holder_letter (row_at store k).letter ≡ false))
 
-abbrev decreases_loop : tie.decreases_loop
+abbrev decreases_loop : tie.decreases-loop-i
 decreases_loop store n i₀ i = n - i
 
-loop-holds : tie.Need-loop-init invariant-loop decreases_loop
+loop-holds : tie.Need-loop-i-init invariant-loop decreases_loop
 loop-holds c = (
-  c.formula-count.ensures ∙ lines_length c.before.args.store.now,
+  c.formula_count-n.ensures ∙ lines_length c.args.store.now,
   (search rules, λ k h. absurd (omega arith)),
 )
 
 -- the test of a turn, said of the row in the store
-tested : (c : tie.After-holder-letter invariant-loop decreases_loop)
-    → holder_letter (row_at c.before.before.before.before.before.args.store.now
-    c.before.before.before.loop.i).letter ≡ c.holder-letter.result
+tested : (c : tie.After-holder_letter invariant-loop decreases_loop)
+    → holder_letter (row_at c.args.store.now
+    c.loop-i.i).letter ≡ c.holder_letter.result
 tested c =
-    ap (λ (x : Row). holder_letter x.letter) (sym c.before.line_at_lem.ensures) ∙ sym c.holder-letter.ensures
+    ap (λ (x : Row). holder_letter x.letter) (sym c.line_at-row.ensures) ∙ sym c.holder_letter.ensures
 
-line-at-requires : tie.Need-line-at-requires invariant-loop decreases_loop
+line-at-requires : tie.Need-line_at-row-requires invariant-loop decreases_loop
 line-at-requires c κs =
-    let at = c.before in
-    let s = at.before.before in
-    let h = c.loop-test.true in
-    (s.requires, omega (arith, at.loop.invariant.0, lines_length s.args.store.now))
+    let h = c.loop-i-test.true in
+    (c.requires, omega (arith, c.loop-i.invariant.0, lines_length c.args.store.now))
 
-returns : tie.Need-returns invariant-loop decreases_loop
+returns : tie.Need-returns-then-holder_letter invariant-loop decreases_loop
 unfolding holder_line
 returns c =
-    let at = c.before.before.before.before in
-    let h = c.before.before.before.loop-test.true in
-    let s = at.before.before in
-    sym (has_at s.args.store.now s.requires (λ (x : Row). holder_letter x.letter) at.loop.i (omega arith)
-    (tested c.before ∙ c.if1.true))
+    let h = c.loop-i-test.true in
+    sym (has_at c.args.store.now c.requires (λ (x : Row). holder_letter x.letter) c.loop-i.i (omega arith)
+    (tested c.before ∙ c.if-holder_letter.true))
 
-loop-again : tie.Need-loop-preserved invariant-loop decreases_loop
+loop-again : tie.Need-loop-i-preserved invariant-loop decreases_loop
 loop-again c =
-    let at = c.before.before.before.before in
-    let h = c.before.before.before.loop-test.true in
-    (at.loop.invariant.0, (search rules, below_more _ _ at.loop.invariant.1.1 (tested c.before ∙ c.if1.false)))
+    let h = c.loop-i-test.true in
+    (c.loop-i.invariant.0, (search rules, below_more _ _ c.loop-i.invariant.1.1 (tested c.before ∙ c.if-holder_letter.false)))
 
-returns_2 : tie.Need-returns-2 invariant-loop decreases_loop
+returns_2 : tie.Need-returns invariant-loop decreases_loop
 unfolding holder_line
 returns_2 c =
-    let at = c.before in
-    let s = at.before.before in
-    sym (has_none s.args.store.now s.requires (λ (x : Row). holder_letter x.letter)
-    (λ k h. at.loop.invariant.1.1 k (omega arith)))
+    sym (has_none c.args.store.now c.requires (λ (x : Row). holder_letter x.letter)
+    (λ k h. c.loop-i.invariant.1.1 k (omega arith)))
 
 pub has_holders_spec : {M : Type 1} → statement M
 has_holders_spec =

@@ -6,8 +6,8 @@ use Rattle.text_write.proofs.credential_length.Tie as tie
 
 returns : tie.Need-returns
 returns c =
-    credential_measured _ c.before.before.digits_length.ensures c.before.digits-length2.ensures
-    c.interval-length.ensures
+    credential_measured _ c.digits_length.ensures c.digits_length-2.ensures
+    c.interval_length.ensures
 
 pub credential_length_spec : {M : Type 1} → statement M
 credential_length_spec =

@@ -13,5 +13,5 @@ edition_digit_spec =
     (tie.spec
     (λ c. search rules)
     (λ c. search rules)
-    (λ c. sym (ap edition_field c.enum_told.given.1))
-    (λ c. sym (ap edition_field c.enum-told2.given.1)))
+    (λ c. sym (ap edition_field c.in-First.is))
+    (λ c. sym (ap edition_field c.in-Second.is)))

@@ -14,11 +14,10 @@ use Rattle.text_write.proofs.formula_length.Tie as tie
 text : {r s : Shape} {fs : List (List ℕ)} → shape_fields r ≡ fs → r ≡ s → ended 10 (shape_fields s) ≡ ended 10 fs
 text e q = ap (ended 10) (ap shape_fields (sym q) ∙ e)
 
-returns_3 : tie.Need-returns-3
+returns_3 : tie.Need-returns-in-Pair
 returns_3 c =
-    let told = c.before.before.before in
-    measured_as (text told.before.before.shape_of.ensures told.shape2.given.1)
-    (pair_measured _ _ _ c.before.digits-length2.ensures c.digits-length3.ensures)
+    measured_as (text c.shape_of-shape.ensures c.in-Pair.is)
+    (pair_measured _ _ _ c.digits_length-in-Pair.ensures c.digits_length-in-Pair-2.ensures)
 
 pub formula_length_spec : {M : Type 1} → statement M
 formula_length_spec =
@@ -51,22 +50,18 @@ formula_length_spec =
     (λ c κs. search rules)
     (λ c. search rules)
     (λ c. search rules)
-    (λ c. measured_as (text c.before.before.shape_of.ensures c.enum_told.given.1) one_measured)
+    (λ c. measured_as (text c.shape_of-shape.ensures c.in-One.is) one_measured)
     (λ c.
-    let told = c.before.before in
-    measured_as (text told.before.before.shape_of.ensures told.shape.given.1)
+    measured_as (text c.shape_of-shape.ensures c.in-Single.is)
     (single_measured _ _ c.digits_length.ensures))
     returns_3
     (λ c.
-    let told = c.before.before.before in
-    measured_as (text told.before.before.shape_of.ensures told.shape3.given.1)
-    (at_measured _ _ c.before.digits-length4.ensures c.interval-length.ensures))
+    measured_as (text c.shape_of-shape.ensures c.in-At.is)
+    (at_measured _ _ c.digits_length-in-At.ensures c.interval_length.ensures))
     (λ c.
-    let told = c.before.before.before in
-    measured_as (text told.before.before.shape_of.ensures told.shape4.given.1)
-    (superset_measured _ _ c.before.interval-length2.ensures c.interval-length3.ensures))
+    measured_as (text c.shape_of-shape.ensures c.in-Superset.is)
+    (superset_measured _ _ c.interval_length-in-Superset.ensures c.interval_length-in-Superset-2.ensures))
     (λ c.
-    let told = c.before.before.before.before in
-    measured_as (text told.before.before.shape_of.ensures told.shape5.given.1)
-    (triple_measured _ _ _ c.before.before.digits-length5.ensures c.before.digits-length6.ensures
-    c.digits-length7.ensures)))
+    measured_as (text c.shape_of-shape.ensures c.in-Triple.is)
+    (triple_measured _ _ _ c.digits_length-in-Triple.ensures c.digits_length-in-Triple-2.ensures
+    c.digits_length-in-Triple-3.ensures)))

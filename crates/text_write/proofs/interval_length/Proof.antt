@@ -17,5 +17,5 @@ interval_length_spec =
     (λ c. search rules)
     (λ c. search rules)
     (λ c.
-    interval_measured _ c.before.before.before.digits_length.ensures c.before.before.digits-length2.ensures
-    c.before.digits-length3.ensures c.digits-length4.ensures))
+    interval_measured _ c.digits_length.ensures c.digits_length-2.ensures
+    c.digits_length-3.ensures c.digits_length-4.ensures))

@@ -13,23 +13,20 @@ parts : (c : tie.Start)
 unfolding credential_fields
 parts c = in_fields _ _ _ tt tt c.requires
 
-put-serial-requires : tie.Need-put-serial-requires
+put-serial-requires : tie.Need-put_serial-i-requires
 unfolding credential_fields
 put-serial-requires c κs =
     first_room (parts c.before.before.before)
 
-put-of-requires : tie.Need-put-of-requires
+put-of-requires : tie.Need-put_of-j-requires
 unfolding credential_fields
 put-of-requires c κs =
-    let start = c.before.before.before.before.before.before.before in
-    part_room (parts start) c.before.before.before.put-serial.ensures
+    part_room (parts c.before.before.before.before.before.before.before) c.put_serial-i.ensures
 
 returns : tie.Need-returns
 unfolding credential_fields
 returns c =
-    let put = c.before.before.before.before.before.before in
-    let start = put.before.before.before.before in
-    wrote_parts (parts start) put.put-serial.ensures c.before.before.Put-of.ensures
+    wrote_parts (parts c.before.before.before.before.before.before.before.before.before.before) c.put_serial-i.ensures c.put_of-j.ensures
 
 pub put_credential_spec : {M : Type 1} → statement M
 unfolding credential_fields
@@ -38,14 +35,12 @@ put_credential_spec =
     (tie.spec
     put-serial-requires
     (λ c.
-    part_start (parts c.before.before.before.before.before.before) c.before.before.put-serial.ensures)
+    part_start (parts c.before.before.before.before.before.before) c.put_serial-i.ensures)
     (λ c.
-    part_start (parts c.before.before.before.before.before.before) c.before.before.put-serial.ensures)
+    part_start (parts c.before.before.before.before.before.before) c.put_serial-i.ensures)
     (λ c. search rules)
     put-of-requires
     (λ c.
-    let put = c.before.before.before.before.before.before in
-    let start = put.before.before.before.before in
-    sum_fits (parts start) put.put-serial.ensures c.before.before.Put-of.ensures start.well-formed.0.0)
+    sum_fits (parts c.before.before.before.before.before.before.before.before.before.before) c.put_serial-i.ensures c.put_of-j.ensures c.well_formed.0.0)
     (λ c. search rules)
     returns)

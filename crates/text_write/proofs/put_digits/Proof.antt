@@ -7,49 +7,46 @@ use Rattle.text_write.proofs.Puts.{Writing, writing_all, writing_on, writing_two
 use Rattle.text_write.proofs.put_digits.Statement.{statement}
 use Rattle.text_write.proofs.put_digits.Tie as tie
 
-abbrev invariant-loop : tie.invariant-loop
+abbrev invariant-loop : tie.invariant-loop-at
 invariant-loop rest₀ n k at₀ v₀ rest at v = Writing rest₀ n rest at v
 
-abbrev decreases_loop : tie.decreases_loop
+abbrev decreases_loop : tie.decreases-loop-at
 decreases_loop rest₀ n k at₀ v₀ rest at v = at
 
-loop-holds : tie.Need-loop-init invariant-loop decreases_loop
-loop-holds c = writing_all c.before.before.requires c.digits_length.ensures
+loop-holds : tie.Need-loop-at-init invariant-loop decreases_loop
+loop-holds c = writing_all c.requires c.digits_length-k.ensures
 
-put-two-requires : tie.Need-put-two-requires invariant-loop decreases_loop
+put-two-requires : tie.Need-put_two-requires invariant-loop decreases_loop
 put-two-requires c κs =
-    let inv = c.before.before.loop.invariant in
-    (omega arith, omega (arith, c.before.loop-test.true, inv.room, inv.long))
+    let inv = c.loop-at.invariant in
+    (omega arith, omega (arith, c.loop-at-test.true, inv.room, inv.long))
 
-loop-again : tie.Need-loop-preserved invariant-loop decreases_loop
+loop-again : tie.Need-loop-at-preserved invariant-loop decreases_loop
 loop-again c =
-    let at = c.before.before.before.before.before in
-    rw c.before.before.put_two.ensures
-    (writing_on c.before.before.before.before.loop-test.true at.loop.invariant)
+    rw c.put_two.ensures
+    (writing_on c.loop-at-test.true c.loop-at.invariant)
 
-put_two_requires_2 : tie.Need-put-two-requires-2 invariant-loop decreases_loop
+put_two_requires_2 : tie.Need-put_two-requires-then-at-eq2 invariant-loop decreases_loop
 put_two_requires_2 c κs =
-    let inv = c.before.before.before.loop.invariant in
-    let b = two_digits c.before.before.before.loop.v (omega (arith, c.before.if1.true, inv.left)) in
-    (b.1, omega (arith, c.before.if1.true, inv.room, inv.long))
+    let inv = c.loop-at.invariant in
+    let b = two_digits c.loop-at.v (omega (arith, c.if-at-eq2.true, inv.left)) in
+    (b.1, omega (arith, c.if-at-eq2.true, inv.room, inv.long))
 
-returns : tie.Need-returns invariant-loop decreases_loop
+returns : tie.Need-returns-then-at-eq2 invariant-loop decreases_loop
 returns c =
-    let at = c.before.before.before.before.before.before in
-    rw c.before.before.put-two2.ensures
-    (writing_two c.before.before.before.before.if1.true at.before.digits_length.ensures at.loop.invariant)
+    rw c.put_two-then-at-eq2.ensures
+    (writing_two c.if-at-eq2.true c.digits_length-k.ensures c.loop-at.invariant)
 
-last_digit : (c : tie.Else1 invariant-loop decreases_loop) → c.before.before.loop.v < 10
+last_digit : (c : tie.Else-at-eq2 invariant-loop decreases_loop) → c.loop-at.v < 10
 last_digit c =
-    let inv = c.before.before.loop.invariant in
-    one_digit c.before.before.loop.v
-    (omega (arith, c.if1.false, c.before.loop-test.false, inv.left))
+    let inv = c.loop-at.invariant in
+    one_digit c.loop-at.v
+    (omega (arith, c.if-at-eq2.false, c.loop-at-test.false, inv.left))
 
-returns_2 : tie.Need-returns-2 invariant-loop decreases_loop
+returns_2 : tie.Need-returns invariant-loop decreases_loop
 returns_2 c =
-    let at = c.before.before in
-    writing_one (omega (arith, c.if1.false, c.before.loop-test.false)) at.before.digits_length.ensures
-    at.loop.invariant
+    writing_one (omega (arith, c.if-at-eq2.false, c.loop-at-test.false)) c.digits_length-k.ensures
+    c.loop-at.invariant
 
 pub put_digits_spec : {M : Type 1} → statement M
 put_digits_spec =
@@ -69,7 +66,7 @@ put_digits_spec =
     (λ c. Fits-under _ _ 10 (last_digit c) tt)
     (λ c. Fits-under _ _ 58 (omega (arith, last_digit c)) tt)
     (λ c.
-    let inv = c.before.before.loop.invariant in
-    omega (arith, inv.room, inv.long, inv.left, digits_some c.before.before.loop.v))
+    let inv = c.loop-at.invariant in
+    omega (arith, inv.room, inv.long, inv.left, digits_some c.loop-at.v))
     (λ c. search rules)
     returns_2)

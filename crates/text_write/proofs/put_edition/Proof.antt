@@ -31,7 +31,7 @@ returns : tie.Need-returns
 unfolding ended joined bytes
 returns c =
     let r = seven c.before.before in
-    wrote_as (ap titled c.edition-digit.ensures) (
+    wrote_as (ap titled c.edition_digit-d.ensures) (
     wrote_more _ r
     (wrote_more _ (omega (arith, r))
     (wrote_more _ (omega (arith, r))

@@ -17,18 +17,13 @@ put_field_spec =
     tie.close
     (tie.spec
     (λ c κs. first_room (parts c.before.before))
-    (λ c. part_start (parts c.before.before.before.before.before) c.before.before.put-digits.ensures)
-    (λ c. part_start (parts c.before.before.before.before.before) c.before.before.put-digits.ensures)
+    (λ c. part_start (parts c.before.before.before.before.before) c.put_digits-i.ensures)
+    (λ c. part_start (parts c.before.before.before.before.before) c.put_digits-i.ensures)
     (λ c. search rules)
     (λ c κs.
-    let start = c.before.before.before.before.before.before in
-    part_room (parts start) c.before.before.before.put-digits.ensures)
+    part_room (parts c.before.before.before.before.before.before) c.put_digits-i.ensures)
     (λ c.
-    let put = c.before.before.before.before.before.before in
-    let start = put.before.before.before in
-    sum_fits (parts start) put.put-digits.ensures c.before.before.put_byte.ensures start.well-formed.0.0)
+    sum_fits (parts c.before.before.before.before.before.before.before.before.before) c.put_digits-i.ensures c.put_byte-j.ensures c.well_formed.0.0)
     (λ c. search rules)
     (λ c.
-    let put = c.before.before.before.before.before.before in
-    let start = put.before.before.before in
-    wrote_parts (parts start) put.put-digits.ensures c.before.before.put_byte.ensures))
+    wrote_parts (parts c.before.before.before.before.before.before.before.before.before) c.put_digits-i.ensures c.put_byte-j.ensures))

@@ -13,40 +13,32 @@ use Rattle.text_write.proofs.put_formula.Tie as tie
 text : {r s : Shape} {fs : List (List ℕ)} → shape_fields r ≡ fs → r ≡ s → ended 10 (shape_fields s) ≡ ended 10 fs
 text e q = ap (ended 10) (ap shape_fields (sym q) ∙ e)
 
-put-pair-requires : tie.Need-put-pair-requires
+put-pair-requires : tie.Need-put_pair-requires
 unfolding shape_fields
 put-pair-requires c κs =
-    let told = c.before.before in
-    let shape = told.before.before in
-    room_as (sym (text shape.shape_of.ensures told.shape2.given.1)) shape.before.before.requires
+    room_as (sym (text c.shape_of-shape.ensures c.in-Pair.is)) c.requires
 
-put-superset-requires : tie.Need-put-superset-requires
+put-superset-requires : tie.Need-put_superset-requires
 unfolding shape_fields
 put-superset-requires c κs =
-    let told = c.before.before in
-    let shape = told.before.before in
-    room_as (sym (text shape.shape_of.ensures told.shape4.given.1)) shape.before.before.requires
+    room_as (sym (text c.shape_of-shape.ensures c.in-Superset.is)) c.requires
 
-put-triple-requires : tie.Need-put-triple-requires
+put-triple-requires : tie.Need-put_triple-requires
 unfolding shape_fields
 put-triple-requires c κs =
-    let told = c.before.before in
-    let shape = told.before.before in
-    room_as (sym (text shape.shape_of.ensures told.shape5.given.1)) shape.before.before.requires
+    room_as (sym (text c.shape_of-shape.ensures c.in-Triple.is)) c.requires
 
-returns_3 : tie.Need-returns-3
+returns_3 : tie.Need-returns-in-Pair
 unfolding shape_fields
 returns_3 c =
-    let told = c.before.before.before.before.before in
-    wrote_as (text told.before.before.shape_of.ensures told.shape2.given.1)
-    c.before.before.put-pair.ensures
+    wrote_as (text c.shape_of-shape.ensures c.in-Pair.is)
+    c.put_pair.ensures
 
-returns_5 : tie.Need-returns-5
+returns_5 : tie.Need-returns-in-Superset
 unfolding shape_fields
 returns_5 c =
-    let told = c.before.before.before.before.before in
-    wrote_as (text told.before.before.shape_of.ensures told.shape4.given.1)
-    c.before.before.put-superset.ensures
+    wrote_as (text c.shape_of-shape.ensures c.in-Superset.is)
+    c.put_superset.ensures
 
 pub put_formula_spec : {M : Type 1} → statement M
 unfolding shape_fields
@@ -56,46 +48,36 @@ put_formula_spec =
     (λ c κs. search rules)
     (λ c. search rules)
     (λ c κs.
-    let told = c.before in
-    let shape = told.before.before in
-    room_as (sym (text shape.shape_of.ensures told.enum_told.given.1)) shape.before.before.requires)
+    room_as (sym (text c.shape_of-shape.ensures c.in-One.is)) c.requires)
     (λ c. search rules)
     (λ c κs.
-    let told = c.before.before in
-    let shape = told.before.before in
-    room_as (sym (text shape.shape_of.ensures told.shape.given.1)) shape.before.before.requires)
+    room_as (sym (text c.shape_of-shape.ensures c.in-Single.is)) c.requires)
     (λ c. search rules)
     put-pair-requires
     (λ c. search rules)
     (λ c κs.
-    let told = c.before.before in
-    let shape = told.before.before in
-    room_as (sym (text shape.shape_of.ensures told.shape3.given.1)) shape.before.before.requires)
+    room_as (sym (text c.shape_of-shape.ensures c.in-At.is)) c.requires)
     (λ c. search rules)
     put-superset-requires
     (λ c. search rules)
     put-triple-requires
     (λ c. search rules)
     (λ c.
-    let told = c.before.before.before.before in
-    wrote_as (text told.before.before.shape_of.ensures told.enum_told.given.1)
-    c.before.before.put-letter.ensures)
+    wrote_as (text c.shape_of-shape.ensures c.in-One.is)
+    c.put_letter.ensures)
     (λ c. search rules)
     (λ c.
-    let told = c.before.before.before.before.before in
-    wrote_as (text told.before.before.shape_of.ensures told.shape.given.1)
-    c.before.before.put-single.ensures)
+    wrote_as (text c.shape_of-shape.ensures c.in-Single.is)
+    c.put_single.ensures)
     (λ c. search rules)
     returns_3
     (λ c. search rules)
     (λ c.
-    let told = c.before.before.before.before.before in
-    wrote_as (text told.before.before.shape_of.ensures told.shape3.given.1)
-    c.before.before.put-at.ensures)
+    wrote_as (text c.shape_of-shape.ensures c.in-At.is)
+    c.put_at.ensures)
     (λ c. search rules)
     returns_5
     (λ c. search rules)
     (λ c.
-    let told = c.before.before.before.before.before in
-    wrote_as (text told.before.before.shape_of.ensures told.shape5.given.1)
-    c.before.before.put-triple.ensures))
+    wrote_as (text c.shape_of-shape.ensures c.in-Triple.is)
+    c.put_triple.ensures))

@@ -12,18 +12,15 @@ parts : (c : tie.Start)
 unfolding minutes
 parts c = in_fields _ _ _ tt tt c.requires
 
-put_fields_requires_2 : tie.Need-put-fields-requires-2
+put_fields_requires_2 : tie.Need-put_fields-j-requires
 unfolding minutes
 put_fields_requires_2 c κs =
-    let start = c.before.before.before.before.before.before in
-    part_room (parts start) c.before.before.before.put-fields.ensures
+    part_room (parts c.before.before.before.before.before.before) c.put_fields-i.ensures
 
 returns : tie.Need-returns
 unfolding minutes
 returns c =
-    let put = c.before.before.before.before.before.before in
-    let start = put.before.before.before in
-    wrote_parts (parts start) put.put-fields.ensures c.before.before.put-fields2.ensures
+    wrote_parts (parts c.before.before.before.before.before.before.before.before.before) c.put_fields-i.ensures c.put_fields-j.ensures
 
 pub put_interval_spec : {M : Type 1} → statement M
 unfolding minutes
@@ -31,13 +28,11 @@ put_interval_spec =
     tie.close
     (tie.spec
     (λ c κs. first_room (parts c.before.before))
-    (λ c. part_start (parts c.before.before.before.before.before) c.before.before.put-fields.ensures)
-    (λ c. part_start (parts c.before.before.before.before.before) c.before.before.put-fields.ensures)
+    (λ c. part_start (parts c.before.before.before.before.before) c.put_fields-i.ensures)
+    (λ c. part_start (parts c.before.before.before.before.before) c.put_fields-i.ensures)
     (λ c. search rules)
     put_fields_requires_2
     (λ c.
-    let put = c.before.before.before.before.before.before in
-    let start = put.before.before.before in
-    sum_fits (parts start) put.put-fields.ensures c.before.before.put-fields2.ensures start.well-formed.0.0)
+    sum_fits (parts c.before.before.before.before.before.before.before.before.before) c.put_fields-i.ensures c.put_fields-j.ensures c.well_formed.0.0)
     (λ c. search rules)
     returns)

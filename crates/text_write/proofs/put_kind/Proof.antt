@@ -19,14 +19,14 @@ put_kind_spec =
     tie.close
     (tie.spec
     (λ c. search rules)
-    (λ c κs. room_as (text c.before.enum_told.given.1) c.before.before.before.before.requires)
+    (λ c κs. room_as (text c.in-Linear.is) c.requires)
     (λ c. search rules)
-    (λ c κs. room_as (text c.before.enum-told2.given.1) c.before.before.before.before.requires)
-    (λ c. search rules)
-    (λ c.
-    wrote_as (sym (text c.before.before.before.before.enum_told.given.1))
-    c.before.before.put-letter.ensures)
+    (λ c κs. room_as (text c.in-Unrestricted.is) c.requires)
     (λ c. search rules)
     (λ c.
-    wrote_as (sym (text c.before.before.before.before.enum-told2.given.1))
-    c.before.before.put-letter2.ensures))
+    wrote_as (sym (text c.in-Linear.is))
+    c.put_letter.ensures)
+    (λ c. search rules)
+    (λ c.
+    wrote_as (sym (text c.in-Unrestricted.is))
+    c.put_letter-in-Unrestricted.ensures))

@@ -13,18 +13,15 @@ parts : (c : tie.Start)
 unfolding shape_fields
 parts c = in_fields _ _ _ tt tt c.requires
 
-put-fields-requires : tie.Need-put-fields-requires
+put-fields-requires : tie.Need-put_fields-j-requires
 unfolding shape_fields
 put-fields-requires c κs =
-    let start = c.before.before.before.before.before.before in
-    part_room (parts start) c.before.before.before.put-letter.ensures
+    part_room (parts c.before.before.before.before.before.before) c.put_letter-i.ensures
 
 returns : tie.Need-returns
 unfolding shape_fields
 returns c =
-    let put = c.before.before.before.before.before.before in
-    let start = put.before.before.before in
-    wrote_parts (parts start) put.put-letter.ensures c.before.before.put-fields.ensures
+    wrote_parts (parts c.before.before.before.before.before.before.before.before.before) c.put_letter-i.ensures c.put_fields-j.ensures
 
 pub put_pair_spec : {M : Type 1} → statement M
 unfolding shape_fields
@@ -32,13 +29,11 @@ put_pair_spec =
     tie.close
     (tie.spec
     (λ c κs. first_room (parts c.before.before))
-    (λ c. part_start (parts c.before.before.before.before.before) c.before.before.put-letter.ensures)
-    (λ c. part_start (parts c.before.before.before.before.before) c.before.before.put-letter.ensures)
+    (λ c. part_start (parts c.before.before.before.before.before) c.put_letter-i.ensures)
+    (λ c. part_start (parts c.before.before.before.before.before) c.put_letter-i.ensures)
     (λ c. search rules)
     put-fields-requires
     (λ c.
-    let put = c.before.before.before.before.before.before in
-    let start = put.before.before.before in
-    sum_fits (parts start) put.put-letter.ensures c.before.before.put-fields.ensures start.well-formed.0.0)
+    sum_fits (parts c.before.before.before.before.before.before.before.before.before) c.put_letter-i.ensures c.put_fields-j.ensures c.well_formed.0.0)
     (λ c. search rules)
     returns)

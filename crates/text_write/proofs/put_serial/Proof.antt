@@ -14,18 +14,13 @@ put_serial_spec =
     tie.close
     (tie.spec
     (λ c κs. first_room (parts c.before.before))
-    (λ c. part_start (parts c.before.before.before.before.before) c.before.before.put-field.ensures)
-    (λ c. part_start (parts c.before.before.before.before.before) c.before.before.put-field.ensures)
+    (λ c. part_start (parts c.before.before.before.before.before) c.put_field-i.ensures)
+    (λ c. part_start (parts c.before.before.before.before.before) c.put_field-i.ensures)
     (λ c. search rules)
     (λ c κs.
-    let start = c.before.before.before.before.before.before in
-    part_room (parts start) c.before.before.before.put-field.ensures)
+    part_room (parts c.before.before.before.before.before.before) c.put_field-i.ensures)
     (λ c.
-    let put = c.before.before.before.before.before.before in
-    let start = put.before.before.before in
-    sum_fits (parts start) put.put-field.ensures c.before.before.put-kind.ensures start.well-formed.0.0)
+    sum_fits (parts c.before.before.before.before.before.before.before.before.before) c.put_field-i.ensures c.put_kind-j.ensures c.well_formed.0.0)
     (λ c. search rules)
     (λ c.
-    let put = c.before.before.before.before.before.before in
-    let start = put.before.before.before in
-    wrote_parts (parts start) put.put-field.ensures c.before.before.put-kind.ensures))
+    wrote_parts (parts c.before.before.before.before.before.before.before.before.before) c.put_field-i.ensures c.put_kind-j.ensures))

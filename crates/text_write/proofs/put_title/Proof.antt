@@ -14,18 +14,15 @@ parts : (c : tie.Start)
 unfolding title_fields edition_fields
 parts c = in_fields _ _ _ tt tt c.requires
 
-put-counts-requires : tie.Need-put-counts-requires
+put-counts-requires : tie.Need-put_counts-j-requires
 unfolding title_fields edition_fields
 put-counts-requires c κs =
-    let start = c.before.before.before.before.before.before in
-    part_room (parts start) c.before.before.before.put-edition.ensures
+    part_room (parts c.before.before.before.before.before.before) c.put_edition-i.ensures
 
 returns : tie.Need-returns
 unfolding title_fields edition_fields
 returns c =
-    let put = c.before.before.before.before.before.before in
-    let start = put.before.before.before in
-    wrote_parts (parts start) put.put-edition.ensures c.before.before.put-counts.ensures
+    wrote_parts (parts c.before.before.before.before.before.before.before.before.before) c.put_edition-i.ensures c.put_counts-j.ensures
 
 pub put_title_spec : {M : Type 1} → statement M
 unfolding title_fields edition_fields
@@ -33,13 +30,11 @@ put_title_spec =
     tie.close
     (tie.spec
     (λ c κs. first_room (parts c.before.before))
-    (λ c. part_start (parts c.before.before.before.before.before) c.before.before.put-edition.ensures)
-    (λ c. part_start (parts c.before.before.before.before.before) c.before.before.put-edition.ensures)
+    (λ c. part_start (parts c.before.before.before.before.before) c.put_edition-i.ensures)
+    (λ c. part_start (parts c.before.before.before.before.before) c.put_edition-i.ensures)
     (λ c. search rules)
     put-counts-requires
     (λ c.
-    let put = c.before.before.before.before.before.before in
-    let start = put.before.before.before in
-    sum_fits (parts start) put.put-edition.ensures c.before.before.put-counts.ensures start.well-formed.0.0)
+    sum_fits (parts c.before.before.before.before.before.before.before.before.before) c.put_edition-i.ensures c.put_counts-j.ensures c.well_formed.0.0)
     (λ c. search rules)
     returns)

@@ -6,8 +6,8 @@ use Rattle.text_write.proofs.title_length.Tie as tie
 
 returns : tie.Need-returns
 returns c =
-    title_measured _ _ _ _ c.before.before.digits_length.ensures c.before.digits-length2.ensures
-    c.digits-length3.ensures
+    title_measured _ _ _ _ c.digits_length.ensures c.digits_length-2.ensures
+    c.digits_length-3.ensures
 
 pub title_length_spec : {M : Type 1} → statement M
 title_length_spec =

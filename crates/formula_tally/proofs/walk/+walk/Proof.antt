@@ -46,30 +46,27 @@ walk_with t = (
 )
 
 -- what is known of the parts in each arm
-parts : (t : ℕ) (c : walk_lts.After-parts-of (walk_with t) (walk_at t) walk.Post) {q : Parts}
-    → c.parts-of.result ≡ q
-    → (let s = c.before.before.before.args in
+parts : (t : ℕ) (c : walk_lts.After-parts_of (walk_with t) (walk_at t) walk.Post) {q : Parts}
+    → c.parts_of.result ≡ q
+    → (let s = c.args in
     Parted s.store.now t s.formula s.under s.session
-    (atom_gives s.under s.session c.before.before.line_at_lem.result) c.before.nearest.result (numbers q))
+    (atom_gives s.under s.session c.line_at-row.result) c.nearest-above.result (numbers q))
 parts t c =
-    let s = c.before.before.before in
-    parted _ s.requires.1.0 s.args.formula s.args.under s.args.session _
-    c.before.before.line_at_lem.ensures s.requires.0 c.before.nearest.ensures c.parts-of.ensures
+    parted _ c.requires.1.0 c.args.formula c.args.under c.args.session _
+    c.line_at-row.ensures c.requires.0 c.nearest-above.ensures c.parts_of.ensures
 
-pub +walk-spec : {M : Type 1} → statement M
-+walk-spec =
+pub +walk_spec : {M : Type 1} → statement M
++walk_spec =
     close μ-walk
     (λ t. walk_lts.spec (walk_with t) (walk_at t) walk.Post
     (λ c κs. c.requires.1) (λ c κs. search rules) (λ c κs. search rules) (λ c. search rules) (λ c κs. search rules)
     (λ c. search rules)
-    (λ c κs. let i = c.before in (parts t i.before.before i.i.given.1).each.0)
+    (λ c κs. (parts t c.before c.in-One.is).each.0)
     (λ c. search rules)
-    (λ c κs. let i = c.before in (parts t i.before.before i.i2.given.1).each.0)
-    (λ c κs. let i = c.before.before in (parts t i.before.before i.i2.given.1).each.1.0)
-    (λ c. let i = c.before.before.before in
-    let p = parts t i.before.before i.i2.given.1 in
-    omega (arith, c.before.walk2.ensures, c.walk3.ensures, p.gives, p.small))
-    (λ c. c.atom.ensures ∙ (parts t c.before.before.before c.before.enum_told.given.1).gives)
-    (λ c. let i = c.before.before in c.walk.ensures ∙ (parts t i.before.before i.i.given.1).gives)
-    (λ c. let i = c.before.before.before in
-    ap₂ ◌+◌ c.before.walk2.ensures c.walk3.ensures ∙ (parts t i.before.before i.i2.given.1).gives))
+    (λ c κs. (parts t c.before c.in-Two.is).each.0)
+    (λ c κs. (parts t c.before.before c.in-Two.is).each.1.0)
+    (λ c. let p = parts t c.before.before.before c.in-Two.is in
+    omega (arith, c.walk-in-Two.ensures, c.walk-in-Two-2.ensures, p.gives, p.small))
+    (λ c. c.atom.ensures ∙ (parts t c.before.before c.in-Nothing.is).gives)
+    (λ c. c.walk.ensures ∙ (parts t c.before.before c.in-One.is).gives)
+    (λ c. ap₂ ◌+◌ c.walk-in-Two.ensures c.walk-in-Two-2.ensures ∙ (parts t c.before.before.before c.in-Two.is).gives))

@@ -5,38 +5,30 @@ use Rattle.formula_tally.proofs.walk.atom.Statement.{statement}
 use Rattle.formula_tally.proofs.walk.atom.Tie as tie
 
 -- a seat, under the house's ⟨K⟩ or not
-returns : tie.Need-returns
+returns : tie.Need-returns-then-under
 returns c =
-    let a = c.before in
-    let b = a.before.before in
-    simp (b.before.before.if1.true, eq-eqb _ _ b.if2.true, eq-eqb _ _ a.if3.true, c.if4.true)
+    simp (c.if-row.true, eq-eqb _ _ c.if-row-session.true, eq-eqb _ _ c.if-row-eq-SEAT.true, c.if-under.true)
 
-returns_2 : tie.Need-returns-2
+returns_2 : tie.Need-returns-then-row-eq-SEAT
 returns_2 c =
-    let a = c.before in
-    let b = a.before.before in
-    simp (b.before.before.if1.true, eq-eqb _ _ b.if2.true, eq-eqb _ _ a.if3.true, c.if4.false)
+    simp (c.if-row.true, eq-eqb _ _ c.if-row-session.true, eq-eqb _ _ c.if-row-eq-SEAT.true, c.if-under.false)
 
-returns_3 : tie.Need-returns-3
+returns_3 : tie.Need-returns-then-row-eq-PLACE
 returns_3 c =
-    let a = c.before.before in
-    let b = a.before.before in
     simp (
-      b.before.before.if1.true,
-      eq-eqb _ _ b.if2.true,
-      ne_eqb _ _ a.if3.false,
-      eq-eqb _ _ c.if5.true,
+      c.if-row.true,
+      eq-eqb _ _ c.if-row-session.true,
+      ne_eqb _ _ c.if-row-eq-SEAT.false,
+      eq-eqb _ _ c.if-row-eq-PLACE.true,
     )
 
-returns_4 : tie.Need-returns-4
+returns_4 : tie.Need-returns-else-row-eq-PLACE
 returns_4 c =
-    let a = c.before.before in
-    let b = a.before.before in
     simp (
-      b.before.before.if1.true,
-      eq-eqb _ _ b.if2.true,
-      ne_eqb _ _ a.if3.false,
-      ne_eqb _ _ c.if5.false,
+      c.if-row.true,
+      eq-eqb _ _ c.if-row-session.true,
+      ne_eqb _ _ c.if-row-eq-SEAT.false,
+      ne_eqb _ _ c.if-row-eq-PLACE.false,
     )
 
 pub atom_spec : {M : Type 1} → statement M
@@ -48,5 +40,5 @@ atom_spec =
     returns_2
     returns_3
     returns_4
-    (λ c. simp (c.before.before.if1.true, ne_eqb _ _ c.if2.false))
-    (λ c. simp c.if1.false))
+    (λ c. simp (c.if-row.true, ne_eqb _ _ c.if-row-session.false))
+    (λ c. simp c.if-row.false))

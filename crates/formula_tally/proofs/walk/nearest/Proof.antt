@@ -7,5 +7,5 @@ pub nearest_spec : {M : Type 1} → statement M
 nearest_spec =
     tie.close
     (tie.spec
-    (λ c. simp (eq-eqb _ _ c.before.if1.true))
-    (λ c. simp (ne_eqb _ _ c.if1.false)))
+    (λ c. simp (eq-eqb _ _ c.if-row-eq-SAYS.true))
+    (λ c. simp (ne_eqb _ _ c.if-row-eq-SAYS.false)))
