@@ -13,131 +13,121 @@ use Rattle.call_credentials.proofs.issue.Statement.{statement}
 use Rattle.call_credentials.proofs.issue.Tie as tie
 
 -- the way back to the start from where the interval is well formed, and where the formula is there
-abbrev formed : tie.After-enum-told3 → tie.Start
-formed c = c.before.before.before.before.before.before
+abbrev formed : tie.In-Passed-unbroken → tie.Start
+formed c = c.before.before.before.before
 
-abbrev present : tie.After-enum-told5 → tie.Start
+abbrev present : tie.In-Passed-present → tie.Start
 present c = formed c.before.before.before.before
 
-returns : tie.Need-returns
+returns : tie.Need-returns-in_default
 returns c =
-    issue_reversed c.before.before.before.requires c.before.before.check-ordered.ensures
-    c.enum-told2.given.1
+    issue_reversed c.requires c.check_ordered-ordered.ensures
+    c.in_default.is
 
-returns_2 : tie.Need-returns-2
+returns_2 : tie.Need-returns-in_default-unbroken
 returns_2 c =
-    let ordered = c.before.before.before in
-    issue_broken ordered.before.before.before.requires
-    (past_3 _ _ _ _ ordered.before.before.check-ordered.ensures ordered.enum_told.given.1)
-    c.before.before.check-unbroken.ensures c.enum-told4.given.1
+    issue_broken c.requires
+    (past_3 _ _ _ _ c.check_ordered-ordered.ensures c.in-Passed.is)
+    c.check_unbroken-unbroken.ensures c.in_default-unbroken.is
 
 -- 3 and 43 have passed
-abbrev past_intervals : (c : tie.After-enum-told3) →
+abbrev past_intervals : (c : tie.In-Passed-unbroken) →
     let a = (formed c).args in
     (rest : List Check) × Past a.store.now a.kind a.formula a.interval rest
 past_intervals c =
     let ordered = c.before.before.before in (
       _,
       past_43 _ _ _ _
-          (past_3 _ _ _ _ ordered.before.before.check-ordered.ensures ordered.enum_told.given.1)
-          c.before.before.check-unbroken.ensures c.enum-told3.given.1,
+          (past_3 _ _ _ _ ordered.check_ordered-ordered.ensures ordered.in-Passed.is)
+          c.before.before.check_unbroken-unbroken.ensures c.in-Passed-unbroken.is,
     )
 
-returns_3 : tie.Need-returns-3
+returns_3 : tie.Need-returns-in_default-present
 returns_3 c =
-    let unbroken = c.before.before.before.before in
-    refused (formed unbroken).requires (past_intervals unbroken).1
-    (shown c.before.before.check-present.ensures c.enum-told6.given.1)
+    refused (formed c).requires (past_intervals c).1
+    (shown c.check_present-present.ensures c.in_default-present.is)
 
-check-bound-requires : tie.Need-check-bound-requires
+check-bound-requires : tie.Need-check_bound-bound-requires
 check-bound-requires c κs =
-    let there = c.before in
-    let found = by_verdict there.before.before.check-present.ensures there.enum-told5.given.1 in
-    ((present there).requires, leb-false _ _ found)
+    let found = by_verdict c.check_present-present.ensures c.in-Passed-present.is in
+    ((present c).requires, leb-false _ _ found)
 
 -- and 10
-abbrev past_10 : (c : tie.After-enum-told5) →
+abbrev past_10 : (c : tie.In-Passed-present) →
     let a = (present c).args in
     (rest : List Check) × Past a.store.now a.kind a.formula a.interval rest
 past_10 c = (
   _,
   (past_intervals c.before.before.before.before).1
-      ▸ shown c.before.before.check-present.ensures c.enum-told5.given.1,
+      ▸ shown c.before.before.check_present-present.ensures c.in-Passed-present.is,
 )
 
-returns_4 : tie.Need-returns-4
+returns_4 : tie.Need-returns-in_default-bound
 returns_4 c =
-    let there = c.before.before.before.before in
-    refused (present there).requires (past_10 there).1
-    (shown c.before.before.check-bound.ensures c.enum-told8.given.1)
+    refused (present c).requires (past_10 c).1
+    (shown c.check_bound-bound.ensures c.in_default-bound.is)
 
 -- where the formula has no unbound holder, the way back to where it is there
-abbrev bound : tie.After-enum-told7 → tie.After-enum-told5
+abbrev bound : tie.In-Passed-bound → tie.In-Passed-present
 bound c = c.before.before.before.before
 
-check-issuable-requires : tie.Need-check-issuable-requires
+check-issuable-requires : tie.Need-check_issuable-issuable-requires
 check-issuable-requires c κs =
     let there = bound c.before in
-    let found = by_verdict there.before.before.check-present.ensures there.enum-told5.given.1 in
+    let found = by_verdict there.before.before.check_present-present.ensures there.in-Passed-present.is in
     ((present there).pre, leb-false _ _ found)
 
 -- and 53
-abbrev past_53 : (c : tie.After-enum-told7) →
+abbrev past_53 : (c : tie.In-Passed-bound) →
     let a = (present (bound c)).args in
     (rest : List Check) × Past a.store.now a.kind a.formula a.interval rest
 past_53 c = (
   _,
-  (past_10 (bound c)).1 ▸ shown c.before.before.check-bound.ensures c.enum-told7.given.1,
+  (past_10 (bound c)).1 ▸ shown c.before.before.check_bound-bound.ensures c.in-Passed-bound.is,
 )
 
-returns_5 : tie.Need-returns-5
+returns_5 : tie.Need-returns-in_default-issuable
 returns_5 c =
-    let unissuable = c.before in
-    let closed = unissuable.before.before.before.before in
-    issue_unissuable c.unissuable-number.ensures (refused (present (bound closed)).requires (past_53 closed).1
-    (shown unissuable.before.before.check-issuable.ensures unissuable.enum-told10.given.1))
+    issue_unissuable c.unissuable_number.ensures (refused (present (bound c)).requires (past_53 c).1
+    (shown c.check_issuable-issuable.ensures c.in_default-issuable.is))
 
 -- and 20 or 21
-issuable : (c : tie.After-enum-told9) →
+issuable : (c : tie.In-Passed-issuable) →
     let a = (present (bound c.before.before.before.before)).args in
     Issuable a.store.now a.kind a.formula a.interval
 issuable c =
-    let closed = c.before.before.before.before in
-    let there = bound closed in
+    let there = bound c in
     record {
       good = (present there).pre;
-      there = by_verdict there.before.before.check-present.ensures there.enum-told5.given.1;
-      so_far = (past_53 closed).1 ▸ shown c.before.before.check-issuable.ensures c.enum-told9.given.1;
+      there = by_verdict there.before.before.check_present-present.ensures there.in-Passed-present.is;
+      so_far = (past_53 c).1 ▸ shown c.check_issuable-issuable.ensures c.in-Passed-issuable.is;
     }
 
-returns_6 : tie.Need-returns-6
+returns_6 : tie.Need-returns-in_default-room
 returns_6 c =
-    let p = issuable c.before.before.before.before in
-    refused p.good p.so_far (shown c.before.before.check-room.ensures c.enum-told12.given.1)
+    let p = issuable c.before.before in
+    refused p.good p.so_far (shown c.check_room-room.ensures c.in_default-room.is)
 
-returns_7 : tie.Need-returns-7
+returns_7 : tie.Need-returns-in_default-unused
 returns_7 c =
-    let room = c.before.before.before.before in
-    let p = issuable room.before.before.before.before in
-    refused p.good (p.so_far ▸ shown room.before.before.check-room.ensures room.enum-told11.given.1)
-    (shown c.before.before.check-unused.ensures c.enum-told14.given.1)
+    let p = issuable c.before.before.before.before in
+    refused p.good (p.so_far ▸ shown c.check_room-room.ensures c.in-Passed-room.is)
+    (shown c.check_unused-unused.ensures c.in_default-unused.is)
 
 -- and 22 and 23
-given : (c : tie.After-enum-told13) →
-    let issued = c.before.before.before.before.before.before.before.before in
-    let a = (present (bound issued.before.before.before.before)).args in
+given : (c : tie.In-Passed-unused) →
+    let a = (present (bound c.before.before.before.before)).args in
     Given a.store.now a.kind a.formula a.interval
 given c =
-    let room = c.before.before.before.before in
     record {
-      before = issuable room.before.before.before.before;
-      room = by_verdict room.before.before.check-room.ensures room.enum-told11.given.1;
-      unused = by_verdict c.before.before.check-unused.ensures c.enum-told13.given.1;
+      before = issuable c.before.before.before.before;
+      room = by_verdict c.check_room-room.ensures c.in-Passed-room.is;
+      unused = by_verdict c.check_unused-unused.ensures c.in-Passed-unused.is;
     }
 
-returns_8 : tie.Need-returns-8
+returns_8 : tie.Need-returns
 returns_8 c =
-    issue_done (given c.before.before.before.before) c.before.before.next_serial.ensures c.give.ensures
+    issue_done (given c.before.before.before) c.next_serial-serial.ensures c.give.ensures
 
 pub issue_spec : {M : Type 1} → statement M
 issue_spec =
@@ -164,14 +154,14 @@ issue_spec =
     (λ c. search rules)
     (λ c κs. search rules)
     returns_5
-    (λ c κs. (issuable c.before).good)
+    (λ c κs. (issuable c).good)
     (λ c. search rules)
     (λ c. search rules)
     returns_6
-    (λ c κs. (issuable c.before.before.before.before.before).good)
+    (λ c κs. (issuable c.before.before).good)
     (λ c. search rules)
     (λ c. search rules)
     returns_7
     (λ c κs. search rules)
-    (λ c κs. issue_gives (given c.before.before.before))
+    (λ c κs. issue_gives (given c.before.before))
     returns_8)

@@ -6,9 +6,8 @@ use Rattle.call_credentials.proofs.tally.Tie as tie
 
 returns : tie.Need-returns
 returns c =
-    let start = c.before in
-    tally_done start.args.store.now start.args.session start.args.minute _ start.requires
-    c.tally.ensures
+    tally_done c.args.store.now c.args.session c.args.minute _ c.requires
+    c.tally-f.ensures
 
 pub tally_spec : {M : Type 1} → statement M
 tally_spec = tie.close (tie.spec (λ c κs. search rules) returns)

@@ -10,50 +10,46 @@ use Rattle.call_word.proofs.WordOutcomes.{past_3, past_43, word_reversed, word_b
 use Rattle.call_word.proofs.word.Statement.{statement}
 use Rattle.call_word.proofs.word.Tie as tie
 
-returns : tie.Need-returns
+returns : tie.Need-returns-in_default
 returns c =
-    word_reversed _ _ c.before.before.before.requires.0 c.before.before.check-line-ordered.ensures
-    c.enum-told2.given.1
+    word_reversed _ _ c.requires.0 c.check_line_ordered-ordered.ensures
+    c.in_default.is
 
-returns_2 : tie.Need-returns-2
+returns_2 : tie.Need-returns-in_default-unbroken
 returns_2 c =
-    let ordered = c.before.before.before in
-    word_broken _ _ ordered.before.before.before.requires.0
-    (past_3 _ _ ordered.before.before.check-line-ordered.ensures ordered.enum_told.given.1)
-    c.before.before.check-line-unbroken.ensures c.enum-told4.given.1
+    word_broken _ _ c.requires.0
+    (past_3 _ _ c.check_line_ordered-ordered.ensures c.in-Passed.is)
+    c.check_line_unbroken-unbroken.ensures c.in_default-unbroken.is
 
 -- the way back to the start from where the intervals are well formed
-abbrev formed : tie.After-enum-told3 → tie.Start
-formed c = c.before.before.before.before.before.before
+abbrev formed : tie.In-Passed-unbroken → tie.Start
+formed c = c.before.before.before.before
 
 -- 3 and 43 have passed
-abbrev past_intervals : (c : tie.After-enum-told3) →
+abbrev past_intervals : (c : tie.In-Passed-unbroken) →
     let a = (formed c).args in
     (rest : List Check) × Past a.store.now a.row rest
 past_intervals c =
     let ordered = c.before.before.before in (
       _,
-      past_43 _ _ (past_3 _ _ ordered.before.before.check-line-ordered.ensures ordered.enum_told.given.1)
-          c.before.before.check-line-unbroken.ensures c.enum-told3.given.1,
+      past_43 _ _ (past_3 _ _ ordered.check_line_ordered-ordered.ensures ordered.in-Passed.is)
+          c.before.before.check_line_unbroken-unbroken.ensures c.in-Passed-unbroken.is,
     )
 
-returns_3 : tie.Need-returns-3
+returns_3 : tie.Need-returns-in_default-present
 returns_3 c =
-    let unbroken = c.before.before.before.before in
-    refused (formed unbroken).requires.0 (past_intervals unbroken).1
-    (shown c.before.before.check-names-present.ensures c.enum-told6.given.1)
+    refused (formed c).requires.0 (past_intervals c).1
+    (shown c.check_names_present-present.ensures c.in_default-present.is)
 
-word-named-requires : tie.Need-word-named-requires
+word-named-requires : tie.Need-word_named-requires
 word-named-requires c κs =
-    let present = c.before in
-    let unbroken = present.before.before.before.before in
-    let start = formed unbroken in
+    let start = formed c in
     record {
       good = start.pre.0;
       canonical = start.pre.1;
-      there = by_verdict present.before.before.check-names-present.ensures present.enum-told5.given.1;
-      so_far = (past_intervals unbroken).1
-          ▸ shown present.before.before.check-names-present.ensures present.enum-told5.given.1;
+      there = by_verdict c.check_names_present-present.ensures c.in-Passed-present.is;
+      so_far = (past_intervals c).1
+          ▸ shown c.check_names_present-present.ensures c.in-Passed-present.is;
     }
 
 pub word_spec : {M : Type 1} → statement M
@@ -73,4 +69,4 @@ word_spec =
     (λ c. search rules)
     returns_3
     word-named-requires
-    (λ c. c.word-named.ensures))
+    (λ c. c.word_named.ensures))

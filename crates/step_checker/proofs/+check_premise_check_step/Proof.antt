@@ -42,66 +42,57 @@ premise_with t = (rule_reads.Asked, rule_reads.Learnt, step_below t, step.Post)
 abbrev step_with : ℕ → step_lts.Claims
 step_with t = (begin_reads.Asked, begin_reads.Learnt, premise_below t, premise.Post)
 
-premise_returns : (t : ℕ) → premise_lts.Need-returns (premise_with t) (premise_at t) premise.Post
-premise_returns t c = none_left c.if1.true
+premise_returns : (t : ℕ) → premise_lts.Need-returns-then-left-eq0 (premise_with t) (premise_at t) premise.Post
+premise_returns t c = none_left c.if-left-eq0.true
 
-premise_returns_2 : (t : ℕ) → premise_lts.Need-returns-2 (premise_with t) (premise_at t) premise.Post
+premise_returns_2 : (t : ℕ) → premise_lts.Need-returns (premise_with t) (premise_at t) premise.Post
 premise_returns_2 t c =
-    let a = c.before.before in
-    goes_on a.before.before.before.requires.1.among a.before.before.if1.false a.rule.ensures
-    c.check-step.ensures
+    goes_on c.requires.1.among c.if-left-eq0.false c.rule-plan.ensures
+    c.check_step.ensures
 
-step_returns : (t : ℕ) → step_lts.Need-returns (step_with t) (step_at_holds t) step.Post
+step_returns : (t : ℕ) → step_lts.Need-returns-in_default (step_with t) (step_at_holds t) step.Post
 step_returns t c =
-    one_full _ c.before.before.before.before.before.plan.given.1 c.enum-told3.given.1
-    c.before.before.begin.ensures
+    one_full _ c.in-One.is c.in_default.is
+    c.begin.ensures
 
-step_returns_2 : (t : ℕ) → step_lts.Need-returns-2 (step_with t) (step_at_holds t) step.Post
+step_returns_2 : (t : ℕ) → step_lts.Need-returns-in_default-begin (step_with t) (step_at_holds t) step.Post
 step_returns_2 t c =
-    first_full _ c.before.before.before.before.before.plan2.given.1 c.enum-told4.given.1
-    c.before.before.begin2.ensures
+    first_full _ c.in-Two.is c.in_default-begin.is
+    c.begin-in-Two.ensures
 
-step_returns_3 : (t : ℕ) → step_lts.Need-returns-3 (step_with t) (step_at_holds t) step.Post
+step_returns_3 : (t : ℕ) → step_lts.Need-returns-in_default-first (step_with t) (step_at_holds t) step.Post
 step_returns_3 t c =
-    let a = c.before.before.before.before.before in
-    first_stops a.before.before.before.before.before.plan2.given.1 a.q2.given.1
-    a.before.before.begin2.ensures c.enum-told5.given.1 c.before.before.check-premise2.ensures
+    first_stops c.in-Two.is c.in-Begins-begin.is
+    c.begin-in-Two.ensures c.in_default-first.is c.check_premise-first.ensures
 
-step_returns_4 : (t : ℕ) → step_lts.Need-returns-4 (step_with t) (step_at_holds t) step.Post
+step_returns_4 : (t : ℕ) → step_lts.Need-returns-in_default-begin-2 (step_with t) (step_at_holds t) step.Post
 step_returns_4 t c =
-    let a = c.before.before.before.before.before in
-    let d = a.before.before.before.before.before in
-    second_full d.before.before.before.before.before.plan2.given.1 d.q2.given.1
-    d.before.before.begin2.ensures a.first.given.1 a.before.before.check-premise2.ensures _
-    c.enum-told6.given.1 c.before.before.begin3.ensures
+    second_full c.in-Two.is c.in-Begins-begin.is
+    c.begin-in-Two.ensures c.in-Done.is c.check_premise-first.ensures _
+    c.in_default-begin-2.is c.begin-in-Two-2.ensures
 
-step_premise_requires_3 : (t : ℕ) → step_lts.Need-check-premise-requires-3 (step_with t) (step_at_holds t) step.Post
+step_premise_requires_3 : (t : ℕ) → step_lts.Need-check_premise-requires-in-Two (step_with t) (step_at_holds t) step.Post
 step_premise_requires_3 t c κs =
-    let a = c.before.before.before.before.before.before.before in
-    let m = premise_is a.first.given.1 a.before.before.check-premise2.ensures in
-    let pre = a.before.before.before.before.before.before.before.before.before.before.before.before.requires in
+    let m = premise_is c.in-Done.is c.check_premise-first.ensures in
+    let pre = c.requires in
     (omega (arith, m.fewer, pre.0), record { among = omega (arith, m.fewer, pre.1.among); few = pre.1.few })
 
-step_returns_5 : (t : ℕ) → step_lts.Need-returns-5 (step_with t) (step_at_holds t) step.Post
-step_returns_5 t c = is_refused c.enum_told.given.1
+step_returns_5 : (t : ℕ) → step_lts.Need-returns-in-Refused (step_with t) (step_at_holds t) step.Post
+step_returns_5 t c = is_refused c.in-Refused.is
 
-step_returns_6 : (t : ℕ) → step_lts.Need-returns-6 (step_with t) (step_at_holds t) step.Post
-step_returns_6 t c = is_closed c.enum-told2.given.1
+step_returns_6 : (t : ℕ) → step_lts.Need-returns-in-Closed (step_with t) (step_at_holds t) step.Post
+step_returns_6 t c = is_closed c.in-Closed.is
 
-step_returns_7 : (t : ℕ) → step_lts.Need-returns-7 (step_with t) (step_at_holds t) step.Post
+step_returns_7 : (t : ℕ) → step_lts.Need-returns-in-Begins (step_with t) (step_at_holds t) step.Post
 step_returns_7 t c =
-    let a = c.before.before.before in
-    one a.before.before.before.before.before.plan.given.1 a.q.given.1
-    a.before.before.begin.ensures c.check-premise.ensures
+    one c.in-One.is c.in-Begins.is
+    c.begin.ensures c.check_premise.ensures
 
-step_returns_8 : (t : ℕ) → step_lts.Need-returns-8 (step_with t) (step_at_holds t) step.Post
+step_returns_8 : (t : ℕ) → step_lts.Need-returns-in-Begins-begin-2 (step_with t) (step_at_holds t) step.Post
 step_returns_8 t c =
-    let a = c.before.before.before in
-    let d = a.before.before.before.before.before in
-    let e = d.before.before.before.before.before in
-    both e.before.before.before.before.before.plan2.given.1 e.q2.given.1
-    e.before.before.begin2.ensures d.first.given.1 d.before.before.check-premise2.ensures
-    a.q22.given.1 a.before.before.begin3.ensures c.check-premise3.ensures
+    both c.in-Two.is c.in-Begins-begin.is
+    c.begin-in-Two.ensures c.in-Done.is c.check_premise-first.ensures
+    c.in-Begins-begin-2.is c.begin-in-Two-2.ensures c.check_premise-in-Two.ensures
 
 pub +check_premise_check_step_spec : {M : Type 1} → statement M
 +check_premise_check_step_spec =

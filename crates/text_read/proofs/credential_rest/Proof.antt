@@ -8,12 +8,11 @@ use Rattle.text_read.proofs.TextLines.{kind_line}
 use Rattle.text_read.proofs.credential_rest.Statement.{statement}
 use Rattle.text_read.proofs.credential_rest.Tie as tie
 
-returns_3 : tie.Need-returns-3
+returns_3 : tie.Need-returns
 returns_3 c =
-    let d = c.before.before.before.before in
-    sym (kind_line _ _ _ ∙ then_some _ (seen (decimal_of _) d.before.before.before.number.ensures
-    d.before.f.given.1)
-    ∙ then_some _ (seen (span_of _) c.before.before.before.interval.ensures c.before.g.given.1))
+    sym (kind_line _ _ _ ∙ then_some _ (seen (decimal_of _) c.number-f.ensures
+    c.in-Number.is)
+    ∙ then_some _ (seen (span_of _) c.interval-g.ensures c.in-Minutes.is))
 
 pub credential_rest_spec : {M : Type 1} → statement M
 credential_rest_spec =
@@ -22,12 +21,11 @@ credential_rest_spec =
     (λ c κs. search rules)
     (λ c. search rules)
     (λ c. search rules)
-    (λ c. sym (kind_line _ _ _ ∙ then_no _ (seen (decimal_of _) c.before.before.number.ensures
-    c.enum_told.given.1)))
+    (λ c. sym (kind_line _ _ _ ∙ then_no _ (seen (decimal_of _) c.number-f.ensures
+    c.in_default.is)))
     (λ c κs. search rules)
     (λ c. search rules)
     (λ c. search rules)
-    (λ c. let d = c.before.before.before.before in
-    sym (kind_line _ _ _ ∙ then_some _ (seen (decimal_of _) d.before.before.number.ensures d.f.given.1)
-    ∙ then_no _ (seen (span_of _) c.before.before.interval.ensures c.enum-told2.given.1)))
+    (λ c. sym (kind_line _ _ _ ∙ then_some _ (seen (decimal_of _) c.number-f.ensures c.in-Number.is)
+    ∙ then_no _ (seen (span_of _) c.interval-g.ensures c.in_default-g.is)))
     returns_3)

@@ -14,48 +14,42 @@ use Rattle.text_read.proofs.PastLines.{holders_start, holders_turn, holders_here
 use Rattle.text_read.proofs.holders_in.Statement.{statement}
 use Rattle.text_read.proofs.holders_in.Tie as tie
 
-abbrev invariant-loop : tie.invariant-loop
+abbrev invariant-loop : tie.invariant-loop-k
 invariant-loop s at count i₀ k₀ i k =
     holders_in count (drop at s) ≡ holders_in (count - k) (drop i s)
 
-abbrev decreases_loop : tie.decreases_loop
+abbrev decreases_loop : tie.decreases-loop-k
 decreases_loop s at count i₀ k₀ i k = count - k
 
 -- the line of a turn, and its letter
-turn : (c : tie.After-holder-letter invariant-loop decreases_loop)
-    → Rowed (read_line formula_line (drop c.before.before.before.before.before.before.loop.i
-    c.before.before.before.before.before.before.before.before.args.s.now))
-    c.before.before.line.given.0.0 (drop c.before.before.line.given.0.1.0
-    c.before.before.before.before.before.before.before.before.args.s.now)
+turn : (c : tie.After-holder_letter invariant-loop decreases_loop)
+    → Rowed (read_line formula_line (drop c.loop-k.i
+    c.args.s.now))
+    c.in-Formula.row (drop c.in-Formula.j
+    c.args.s.now)
 turn c =
-    let f = c.before.before in
-    row_line _ (seen (formula_of _) f.before.before.formula_line.ensures f.line.given.1)
+    row_line _ (seen (formula_of _) c.formula_line-line.ensures c.in-Formula.is)
 
-told : (c : tie.After-holder-letter invariant-loop decreases_loop) → holder_line (turn c).line ≡ c.holder-letter.result
+told : (c : tie.After-holder_letter invariant-loop decreases_loop) → holder_line (turn c).line-1 ≡ c.holder_letter.result
 unfolding holder_line
-told c = ap (λ (x : Row). holder_letter x.letter) (turn c).row ∙ sym c.holder-letter.ensures
+told c = ap (λ (x : Row). holder_letter x.letter) (turn c).row ∙ sym c.holder_letter.ensures
 
-returns : tie.Need-returns invariant-loop decreases_loop
+returns : tie.Need-returns-in_default invariant-loop decreases_loop
 returns c =
-    let l = c.before.before.before in
-    sym (l.before.loop.invariant ∙ holders_broken _ _ _ l.loop-test.true
-    (row_none _ (seen (formula_of _) c.before.before.formula_line.ensures c.enum_told.given.1)))
+    sym (c.loop-k.invariant ∙ holders_broken _ _ _ c.loop-k-test.true
+    (row_none _ (seen (formula_of _) c.formula_line-line.ensures c.in_default.is)))
 
-returns_2 : tie.Need-returns-2 invariant-loop decreases_loop
+returns_2 : tie.Need-returns-then-holder_letter invariant-loop decreases_loop
 returns_2 c =
-    let t = c.before in
-    let l = t.before.before.before.before.before in
-    sym (l.before.loop.invariant
-    ∙ holders_here _ _ _ l.loop-test.true (turn t).is (told t ∙ c.if1.true))
+    sym (c.loop-k.invariant
+    ∙ holders_here _ _ _ c.loop-k-test.true (turn c.before).is (told c.before ∙ c.if-holder_letter.true))
 
-loop-again : tie.Need-loop-preserved invariant-loop decreases_loop
+loop-again : tie.Need-loop-k-preserved invariant-loop decreases_loop
 loop-again c =
-    let t = c.before in
-    let l = t.before.before.before.before.before in
-    l.before.loop.invariant ∙ holders_turn _ _ _ l.loop-test.true (turn t).is (told t ∙ c.if1.false)
+    c.loop-k.invariant ∙ holders_turn _ _ _ c.loop-k-test.true (turn c.before).is (told c.before ∙ c.if-holder_letter.false)
 
-returns_3 : tie.Need-returns-3 invariant-loop decreases_loop
-returns_3 c = sym (c.before.loop.invariant ∙ holders_end _ _ _ c.loop-test.false)
+returns_3 : tie.Need-returns invariant-loop decreases_loop
+returns_3 c = sym (c.loop-k.invariant ∙ holders_end _ _ _ c.loop-k-test.false)
 
 pub holders_in_spec : {M : Type 1} → statement M
 holders_in_spec =

@@ -10,19 +10,18 @@ use Rattle.text_read.proofs.PastLines.{rising_start, rising_turn, rising_broken,
 use Rattle.text_read.proofs.past_credentials.Statement.{statement}
 use Rattle.text_read.proofs.past_credentials.Tie as tie
 
-abbrev invariant-loop : tie.invariant-loop
+abbrev invariant-loop : tie.invariant-loop-k
 invariant-loop s at count i₀ last₀ k₀ i last k =
     rising_past 0 count (drop at s) ≡ rising_past last (count - k) (drop i s)
 
-abbrev decreases_loop : tie.decreases_loop
+abbrev decreases_loop : tie.decreases-loop-k
 decreases_loop s at count i₀ last₀ k₀ i last k = count - k
 
-returns_2 : tie.Need-returns-2 invariant-loop decreases_loop
+returns_2 : tie.Need-returns-then-c-last invariant-loop decreases_loop
 returns_2 c =
-    let l = c.before.before.before.before.before.before in
-    sym (l.before.loop.invariant ∙ rising_falls _ _ _ _ l.loop-test.true
-    (seen (credential_from _) c.before.before.before.before.before.credential_line.ensures
-    c.before.before.before.f.given.1) c.if1.true)
+    sym (c.loop-k.invariant ∙ rising_falls _ _ _ _ c.loop-k-test.true
+    (seen (credential_from _) c.credential_line-f.ensures
+    c.in-Read.is) c.if-c-last.true)
 
 pub past_credentials_spec : {M : Type 1} → statement M
 past_credentials_spec =
@@ -34,14 +33,12 @@ past_credentials_spec =
     (λ c κs. search rules)
     (λ c. search rules)
     (λ c. search rules)
-    (λ c. let l = c.before.before.before in
-    sym (l.before.loop.invariant ∙ rising_broken _ _ _ _ l.loop-test.true
-    (seen (credential_from _) c.before.before.credential_line.ensures c.enum_told.given.1)))
+    (λ c. sym (c.loop-k.invariant ∙ rising_broken _ _ _ _ c.loop-k-test.true
+    (seen (credential_from _) c.credential_line-f.ensures c.in_default.is)))
     returns_2
     (λ c. search rules)
     (λ c. search rules)
-    (λ c. let l = c.before.before.before.before.before.before in
-    l.before.loop.invariant ∙ rising_turn _ _ _ _ l.loop-test.true
-    (seen (credential_from _) c.before.before.before.before.before.credential_line.ensures
-    c.before.before.before.f.given.1) (omega (arith, c.if1.false)))
-    (λ c. sym (c.before.loop.invariant ∙ rising_end _ _ _ _ c.loop-test.false)))
+    (λ c. c.loop-k.invariant ∙ rising_turn _ _ _ _ c.loop-k-test.true
+    (seen (credential_from _) c.credential_line-f.ensures
+    c.in-Read.is) (omega (arith, c.if-c-last.false)))
+    (λ c. sym (c.loop-k.invariant ∙ rising_end _ _ _ _ c.loop-k-test.false)))

@@ -12,18 +12,17 @@ use Rattle.text_read.proofs.PastLines.{past_start, past_turn, past_broken, past_
 use Rattle.text_read.proofs.past_formulas.Statement.{statement}
 use Rattle.text_read.proofs.past_formulas.Tie as tie
 
-abbrev invariant-loop : tie.invariant-loop
+abbrev invariant-loop : tie.invariant-loop-k
 invariant-loop s at count i₀ k₀ i k =
     lines_past count formula_line (drop at s) ≡ lines_past (count - k) formula_line (drop i s)
 
-abbrev decreases_loop : tie.decreases_loop
+abbrev decreases_loop : tie.decreases-loop-k
 decreases_loop s at count i₀ k₀ i k = count - k
 
-returns : tie.Need-returns invariant-loop decreases_loop
+returns : tie.Need-returns-in_default invariant-loop decreases_loop
 returns c =
-    let l = c.before.before.before in
-    sym (l.before.loop.invariant ∙ past_broken _ _ _ _ l.loop-test.true
-    (row_none _ (seen (formula_of _) c.before.before.formula_line.ensures c.enum_told.given.1)))
+    sym (c.loop-k.invariant ∙ past_broken _ _ _ _ c.loop-k-test.true
+    (row_none _ (seen (formula_of _) c.formula_line-f.ensures c.in_default.is)))
 
 pub past_formulas_spec : {M : Type 1} → statement M
 past_formulas_spec =
@@ -38,7 +37,6 @@ past_formulas_spec =
     returns
     (λ c. search rules)
     (λ c. search rules)
-    (λ c. let l = c.before.before.before.before in
-    l.before.loop.invariant ∙ past_turn _ _ _ _ l.loop-test.true
-    (row_line _ (seen (formula_of _) c.before.before.before.formula_line.ensures c.before.f.given.1)).is)
-    (λ c. sym (c.before.loop.invariant ∙ past_end _ _ _ _ c.loop-test.false)))
+    (λ c. c.loop-k.invariant ∙ past_turn _ _ _ _ c.loop-k-test.true
+    (row_line _ (seen (formula_of _) c.formula_line-f.ensures c.in-Formula.is)).is)
+    (λ c. sym (c.loop-k.invariant ∙ past_end _ _ _ _ c.loop-k-test.false)))

@@ -7,33 +7,28 @@ use Rattle.text_read.proofs.TextLines.{counts_line}
 use Rattle.text_read.proofs.read_counts.Statement.{statement}
 use Rattle.text_read.proofs.read_counts.Tie as tie
 
-returns : tie.Need-returns
+returns : tie.Need-returns-in_default
 returns c =
-    sym (counts_line _ _ ∙ then_no _ (seen (decimal_of _) c.before.before.number.ensures
-    c.enum_told.given.1))
+    sym (counts_line _ _ ∙ then_no _ (seen (decimal_of _) c.number-f.ensures
+    c.in_default.is))
 
-returns_2 : tie.Need-returns-2
+returns_2 : tie.Need-returns-in_default-g
 returns_2 c =
-    let d = c.before.before.before.before in
-    sym (counts_line _ _ ∙ then_some _ (seen (decimal_of _) d.before.before.number.ensures d.f.given.1)
-    ∙ then_no _ (seen (decimal_of _) c.before.before.number2.ensures c.enum-told2.given.1))
+    sym (counts_line _ _ ∙ then_some _ (seen (decimal_of _) c.number-f.ensures c.in-Number.is)
+    ∙ then_no _ (seen (decimal_of _) c.number-g.ensures c.in_default-g.is))
 
-returns_3 : tie.Need-returns-3
+returns_3 : tie.Need-returns-in_default-h
 returns_3 c =
-    let d = c.before.before.before.before in
-    let e = d.before.before.before.before in
-    sym (counts_line _ _ ∙ then_some _ (seen (decimal_of _) e.before.before.number.ensures e.f.given.1)
-    ∙ then_some _ (seen (decimal_of _) d.before.before.number2.ensures d.g.given.1)
-    ∙ then_no _ (seen (decimal_of _) c.before.before.number3.ensures c.enum-told3.given.1))
+    sym (counts_line _ _ ∙ then_some _ (seen (decimal_of _) c.number-f.ensures c.in-Number.is)
+    ∙ then_some _ (seen (decimal_of _) c.number-g.ensures c.in-Number-g.is)
+    ∙ then_no _ (seen (decimal_of _) c.number-h.ensures c.in_default-h.is))
 
-returns_4 : tie.Need-returns-4
+returns_4 : tie.Need-returns
 returns_4 c =
-    let d = c.before.before.before.before in
-    let e = d.before.before.before.before in
-    sym (counts_line _ _ ∙ then_some _ (seen (decimal_of _) e.before.before.before.number.ensures
-    e.before.f.given.1)
-    ∙ then_some _ (seen (decimal_of _) d.before.before.before.number2.ensures d.before.g.given.1)
-    ∙ then_some _ (seen (decimal_of _) c.before.before.before.number3.ensures c.before.h.given.1))
+    sym (counts_line _ _ ∙ then_some _ (seen (decimal_of _) c.number-f.ensures
+    c.in-Number.is)
+    ∙ then_some _ (seen (decimal_of _) c.number-g.ensures c.in-Number-g.is)
+    ∙ then_some _ (seen (decimal_of _) c.number-h.ensures c.in-Number-h.is))
 
 pub read_counts_spec : {M : Type 1} → statement M
 read_counts_spec =

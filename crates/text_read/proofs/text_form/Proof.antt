@@ -11,39 +11,31 @@ use Rattle.text_read.proofs.TextForms.{no_formulas, no_credentials, left_over, b
 use Rattle.text_read.proofs.text_form.Statement.{statement}
 use Rattle.text_read.proofs.text_form.Tie as tie
 
-returns_3 : tie.Need-returns-3
+returns_3 : tie.Need-returns-in_default-b
 returns_3 c =
-    let l = c.before.before.before.before in
-    let t = l.before.before.before.before in
-    no_credentials _ t.title.given.0.0 (subst (TitleIs _) t.title.given.1
-    t.before.before.text-title.ensures).reads l.a.given.0.0
-    (seen (past_of _) l.before.before.past-formulas.ensures l.a.given.1)
-    (seen (past_of _) c.before.before.past-credentials.ensures c.enum-told3.given.1)
+    no_credentials _ c.in-Read.h (subst (TitleIs _) c.in-Read.is
+    c.text_title-title.ensures).reads c.in-Past.i
+    (seen (past_of _) c.past_formulas-a.ensures c.in-Past.is)
+    (seen (past_of _) c.past_credentials-b.ensures c.in_default-b.is)
 
-returns_4 : tie.Need-returns-4
+returns_4 : tie.Need-returns-then-j-text
 returns_4 c =
-    let l = c.before.before.before.before.before.before in
-    let t = l.before.before.before.before in
-    left_over _ t.title.given.0.0 (subst (TitleIs _) t.title.given.1 t.before.before.text-title.ensures
-    ).reads l.a.given.0.0
-    (seen (past_of _) l.before.before.past-formulas.ensures l.a.given.1) c.before.before.b.given.0.0
-    (seen (past_of _) c.before.before.before.before.past-credentials.ensures c.before.before.b.given.1)
-    c.if1.true
+    left_over _ c.in-Read.h (subst (TitleIs _) c.in-Read.is c.text_title-title.ensures
+    ).reads c.in-Past.i
+    (seen (past_of _) c.past_formulas-a.ensures c.in-Past.is) c.in-Past-b.j
+    (seen (past_of _) c.past_credentials-b.ensures c.in-Past-b.is)
+    c.if-j-text.true
 
-returns_5 : tie.Need-returns-5
+returns_5 : tie.Need-returns
 returns_5 c =
-    let own = c.before.before in
-    let f = own.before.before in
-    let l = f.before.before.before.before.before.before in
-    let t = l.before.before.before.before in
-    by_edition _ t.title.given.0.0 (subst (TitleIs _) t.title.given.1
-    t.before.before.text-title.ensures).reads l.a.given.0.0
-    (seen (past_of _) l.before.before.past-formulas.ensures l.a.given.1) f.before.before.b.given.0.0
-    (seen (past_of _) f.before.before.before.before.past-credentials.ensures f.before.before.b.given.1)
-    f.if1.false c.before.same.result c.tested.result
-    (own.edition-by.ensures
-    ∙ ap (λ (x : Bool). edition_by x t.title.given.0.0.live) own.before.holders-in.ensures)
-    c.before.same.ensures (c.tested.ensures 50)
+    by_edition _ c.in-Read.h (subst (TitleIs _) c.in-Read.is
+    c.text_title-title.ensures).reads c.in-Past.i
+    (seen (past_of _) c.past_formulas-a.ensures c.in-Past.is) c.in-Past-b.j
+    (seen (past_of _) c.past_credentials-b.ensures c.in-Past-b.is)
+    c.if-j-text.false c.same.result c.tested.result
+    (c.edition_by-own.ensures
+    ∙ ap (λ (x : Bool). edition_by x c.in-Read.h.live) c.holders_in-holders.ensures)
+    c.same.ensures (c.tested.ensures 50)
 
 pub text_form_spec : {M : Type 1} → statement M
 text_form_spec =
@@ -52,27 +44,24 @@ text_form_spec =
     (λ c κs. search rules)
     (λ c. search rules)
     (λ c. search rules)
-    (λ c. subst (TitleIs _) c.enum_told.given.1 c.before.before.text-title.ensures)
+    (λ c. subst (TitleIs _) c.in_default.is c.text_title-title.ensures)
     (λ c κs. omega (
       arith,
-      (subst (TitleIs _) c.before.title.given.1
-          c.before.before.before.text-title.ensures).short,
+      (subst (TitleIs _) c.in-Read.is
+          c.text_title-title.ensures).short,
     ))
     (λ c. search rules)
     (λ c. search rules)
-    (λ c. let t = c.before.before.before.before in
-    no_formulas _ t.title.given.0.0 (subst (TitleIs _) t.title.given.1
-    t.before.before.text-title.ensures).reads
-    (seen (past_of _) c.before.before.past-formulas.ensures c.enum-told2.given.1))
-    (λ c κs. let t = c.before.before.before.before.before in
-    omega (arith, (subst (TitleIs _) t.title.given.1 t.before.before.text-title.ensures).short))
+    (λ c. no_formulas _ c.in-Read.h (subst (TitleIs _) c.in-Read.is
+    c.text_title-title.ensures).reads
+    (seen (past_of _) c.past_formulas-a.ensures c.in_default-a.is))
+    (λ c κs. omega (arith, (subst (TitleIs _) c.in-Read.is c.text_title-title.ensures).short))
     (λ c. search rules)
     (λ c. search rules)
     returns_3
     (λ c. search rules)
     returns_4
-    (λ c κs. let t = c.before.before.before.before.before.before.before.before.before.before in
-    omega (arith, (subst (TitleIs _) t.title.given.1 t.before.before.text-title.ensures).short))
+    (λ c κs. omega (arith, (subst (TitleIs _) c.in-Read.is c.text_title-title.ensures).short))
     (λ c κs. search rules)
     (λ c κs. search rules)
     (λ c κs. search rules)
