@@ -13,12 +13,6 @@ use Rattle.call_credentials.proofs.issue.Statement.{statement}
 use Rattle.call_credentials.proofs.issue.Tie as tie
 
 -- the way back to the start from where the interval is well formed, and where the formula is there
-abbrev formed : tie.In-Passed-unbroken → tie.Start
-formed c = c.before.before.before.before
-
-abbrev present : tie.In-Passed-present → tie.Start
-present c = formed c.before.before.before.before
-
 returns : tie.Need-returns-in_default
 returns c =
     issue_reversed c.requires c.check_ordered-ordered.ensures
@@ -32,75 +26,70 @@ returns_2 c =
 
 -- 3 and 43 have passed
 abbrev past_intervals : (c : tie.In-Passed-unbroken) →
-    let a = (formed c).args in
+    let a = c.args in
     (rest : List Check) × Past a.store.now a.kind a.formula a.interval rest
 past_intervals c =
-    let ordered = c.before.before.before in (
+    (
       _,
       past_43 _ _ _ _
-          (past_3 _ _ _ _ ordered.check_ordered-ordered.ensures ordered.in-Passed.is)
-          c.before.before.check_unbroken-unbroken.ensures c.in-Passed-unbroken.is,
+          (past_3 _ _ _ _ c.check_ordered-ordered.ensures c.in-Passed.is)
+          c.check_unbroken-unbroken.ensures c.in-Passed-unbroken.is,
     )
 
 returns_3 : tie.Need-returns-in_default-present
 returns_3 c =
-    refused (formed c).requires (past_intervals c).1
+    refused c.requires (past_intervals c.before.before).1
     (shown c.check_present-present.ensures c.in_default-present.is)
 
 check-bound-requires : tie.Need-check_bound-bound-requires
 check-bound-requires c κs =
     let found = by_verdict c.check_present-present.ensures c.in-Passed-present.is in
-    ((present c).requires, leb-false _ _ found)
+    (c.requires, leb-false _ _ found)
 
 -- and 10
 abbrev past_10 : (c : tie.In-Passed-present) →
-    let a = (present c).args in
+    let a = c.args in
     (rest : List Check) × Past a.store.now a.kind a.formula a.interval rest
 past_10 c = (
   _,
-  (past_intervals c.before.before.before.before).1
-      ▸ shown c.before.before.check_present-present.ensures c.in-Passed-present.is,
+  (past_intervals c.before.before).1
+      ▸ shown c.check_present-present.ensures c.in-Passed-present.is,
 )
 
 returns_4 : tie.Need-returns-in_default-bound
 returns_4 c =
-    refused (present c).requires (past_10 c).1
+    refused c.requires (past_10 c.before.before).1
     (shown c.check_bound-bound.ensures c.in_default-bound.is)
 
 -- where the formula has no unbound holder, the way back to where it is there
-abbrev bound : tie.In-Passed-bound → tie.In-Passed-present
-bound c = c.before.before.before.before
-
 check-issuable-requires : tie.Need-check_issuable-issuable-requires
 check-issuable-requires c κs =
-    let there = bound c.before in
-    let found = by_verdict there.before.before.check_present-present.ensures there.in-Passed-present.is in
-    ((present there).pre, leb-false _ _ found)
+    let found = by_verdict c.check_present-present.ensures c.in-Passed-present.is in
+    (c.requires, leb-false _ _ found)
 
 -- and 53
 abbrev past_53 : (c : tie.In-Passed-bound) →
-    let a = (present (bound c)).args in
+    let a = c.args in
     (rest : List Check) × Past a.store.now a.kind a.formula a.interval rest
 past_53 c = (
   _,
-  (past_10 (bound c)).1 ▸ shown c.before.before.check_bound-bound.ensures c.in-Passed-bound.is,
+  (past_10 c.before.before).1 ▸ shown c.check_bound-bound.ensures c.in-Passed-bound.is,
 )
 
 returns_5 : tie.Need-returns-in_default-issuable
 returns_5 c =
-    issue_unissuable c.unissuable_number.ensures (refused (present (bound c)).requires (past_53 c).1
+    issue_unissuable c.unissuable_number.ensures (refused c.requires (past_53 c.before.before.before).1
     (shown c.check_issuable-issuable.ensures c.in_default-issuable.is))
 
 -- and 20 or 21
 issuable : (c : tie.In-Passed-issuable) →
-    let a = (present (bound c.before.before.before.before)).args in
+    let a = c.args in
     Issuable a.store.now a.kind a.formula a.interval
 issuable c =
-    let there = bound c in
     record {
-      good = (present there).pre;
-      there = by_verdict there.before.before.check_present-present.ensures there.in-Passed-present.is;
-      so_far = (past_53 c).1 ▸ shown c.check_issuable-issuable.ensures c.in-Passed-issuable.is;
+      good = c.requires;
+      there = by_verdict c.check_present-present.ensures c.in-Passed-present.is;
+      so_far = (past_53 c.before.before).1 ▸ shown c.check_issuable-issuable.ensures c.in-Passed-issuable.is;
     }
 
 returns_6 : tie.Need-returns-in_default-room
@@ -116,7 +105,7 @@ returns_7 c =
 
 -- and 22 and 23
 given : (c : tie.In-Passed-unused) →
-    let a = (present (bound c.before.before.before.before)).args in
+    let a = c.args in
     Given a.store.now a.kind a.formula a.interval
 given c =
     record {

@@ -22,33 +22,29 @@ returns_2 c =
     c.check_line_unbroken-unbroken.ensures c.in_default-unbroken.is
 
 -- the way back to the start from where the intervals are well formed
-abbrev formed : tie.In-Passed-unbroken → tie.Start
-formed c = c.before.before.before.before
-
 -- 3 and 43 have passed
 abbrev past_intervals : (c : tie.In-Passed-unbroken) →
-    let a = (formed c).args in
+    let a = c.args in
     (rest : List Check) × Past a.store.now a.row rest
 past_intervals c =
-    let ordered = c.before.before.before in (
+    (
       _,
-      past_43 _ _ (past_3 _ _ ordered.check_line_ordered-ordered.ensures ordered.in-Passed.is)
-          c.before.before.check_line_unbroken-unbroken.ensures c.in-Passed-unbroken.is,
+      past_43 _ _ (past_3 _ _ c.check_line_ordered-ordered.ensures c.in-Passed.is)
+          c.check_line_unbroken-unbroken.ensures c.in-Passed-unbroken.is,
     )
 
 returns_3 : tie.Need-returns-in_default-present
 returns_3 c =
-    refused (formed c).requires.0 (past_intervals c).1
+    refused c.requires.0 (past_intervals c.before.before).1
     (shown c.check_names_present-present.ensures c.in_default-present.is)
 
 word-named-requires : tie.Need-word_named-requires
 word-named-requires c κs =
-    let start = formed c in
     record {
-      good = start.pre.0;
-      canonical = start.pre.1;
+      good = c.requires.0;
+      canonical = c.requires.1;
       there = by_verdict c.check_names_present-present.ensures c.in-Passed-present.is;
-      so_far = (past_intervals c).1
+      so_far = (past_intervals c.before.before.before).1
           ▸ shown c.check_names_present-present.ensures c.in-Passed-present.is;
     }
 

@@ -11,15 +11,6 @@ use Rattle.call_word.proofs.word_named.Statement.{statement}
 use Rattle.call_word.proofs.word_named.Tie as tie
 
 -- the way back to the start from where no `q` stands within `q`, the line is small, and is new
-abbrev apart : tie.In-Passed → tie.Start
-apart c = c.before.before.before
-
-abbrev small : tie.In-Passed-small → tie.Start
-small c = apart c.before.before.before.before.before
-
-abbrev new : tie.In-Passed-new → tie.Start
-new c = small c.before.before.before.before.before
-
 -- the checks before `rest` have passed
 abbrev PastAt : tie.Start → List Check → Type 0
 PastAt s rest = Past s.args.store.now s.args.row rest
@@ -31,69 +22,62 @@ returns c =
     c.in_default.is)
 
 -- 53 has passed
-abbrev past_53 : (c : tie.In-Passed) → (rest : List Check) × PastAt (apart c) rest
+abbrev past_53 : (c : tie.In-Passed) → (rest : List Check) × PastAt c rest
 past_53 c =
-    let nested = c.before.before.before in (
+    (
       _,
-      (apart c).requires.so_far
-          ▸ shown (reworded (c.before.tested-apart.ensures 53) nested.row_nested.ensures)
+      c.requires.so_far
+          ▸ shown (reworded (c.tested-apart.ensures 53) c.row_nested.ensures)
           c.in-Passed.is,
     )
 
 returns_2 : tie.Need-returns-in_default-small
 returns_2 c =
-    refused (apart c).requires.good (past_53 c).1
+    refused c.requires.good (past_53 c.before.before.before).1
     (shown (sized _ _ c.row_size-size.ensures (c.tested-small.ensures 12))
     c.in_default-small.is)
 
 -- and 12
-abbrev past_12 : (c : tie.In-Passed-small) → (rest : List Check) × PastAt (small c) rest
+abbrev past_12 : (c : tie.In-Passed-small) → (rest : List Check) × PastAt c rest
 past_12 c = (
   _,
-  (past_53 c.before.before.before.before.before).1
-      ▸ shown (sized _ _ c.before.before.before.row_size-size.ensures (c.before.before.tested-small.ensures 12))
+  (past_53 c.before.before.before).1
+      ▸ shown (sized _ _ c.row_size-size.ensures (c.tested-small.ensures 12))
       c.in-Passed-small.is,
 )
 
 returns_3 : tie.Need-returns-in_default-new
 returns_3 c =
-    refused (small c).requires.good (past_12 c).1
-    (shown (known _ _ (small c).requires.canonical c.has_row.ensures
+    refused c.requires.good (past_12 c.before.before.before).1
+    (shown (known _ _ c.requires.canonical c.has_row.ensures
     (c.tested-new.ensures 13)) c.in_default-new.is)
 
 -- and 13
-abbrev past_13 : (c : tie.In-Passed-new) → (rest : List Check) × PastAt (new c) rest
+abbrev past_13 : (c : tie.In-Passed-new) → (rest : List Check) × PastAt c rest
 past_13 c = (
   _,
-  (past_12 c.before.before.before.before.before).1
-      ▸ shown (known _ _ (new c).requires.canonical c.before.before.before.has_row.ensures
-      (c.before.before.tested-new.ensures 13)) c.in-Passed-new.is,
+  (past_12 c.before.before.before).1
+      ▸ shown (known _ _ c.requires.canonical c.has_row.ensures
+      (c.tested-new.ensures 13)) c.in-Passed-new.is,
 )
 
 returns_4 : tie.Need-returns-in_default-free
 returns_4 c =
-    refused (new c).requires.good (past_13 c).1
+    refused c.requires.good (past_13 c.before.before.before).1
     (shown (counted _ c.formula_count-number.ensures (c.tested-free.ensures 14))
     c.in_default-free.is)
 
 -- and 14: all have passed, for the size that was asked
-abbrev free : tie.In-Passed-free → tie.Start
-free c = new c.before.before.before.before.before
-
-abbrev sizing : tie.In-Passed-free → tie.In-Passed-small
-sizing c = c.before.before.before.before.before.before.before.before.before.before
-
 fits : (c : tie.In-Passed-free)
-    → Fitting (free c).args.store.now (free c).args.row (sizing c).before.before.before.row_size-size.result
+    → Fitting c.args.store.now c.args.row c.row_size-size.result
 fits c =
-    let size = sizing c in
     let room = counted _ c.formula_count-number.ensures (c.tested-free.ensures 14) in
     record {
-      named = (free c).requires;
-      sized = size.before.before.before.row_size-size.ensures;
-      small = by_verdict (size.before.before.tested-small.ensures 12) size.in-Passed-small.is;
+      named = c.requires;
+      sized = c.row_size-size.ensures;
+      small = by_verdict (c.tested-small.ensures 12) c.in-Passed-small.is;
       room = by_verdict room c.in-Passed-free.is;
-      so_far = (past_13 c).1 ▸ shown room c.in-Passed-free.is;
+      so_far = (past_13 c.before.before.before).1 ▸ shown room c.in-Passed-free.is;
     }
 
 returns_5 : tie.Need-returns
@@ -108,7 +92,7 @@ word_named_spec =
     (λ c. search rules)
     (λ c. search rules)
     returns
-    (λ c κs. named_formable (apart c.before).requires)
+    (λ c κs. named_formable c.requires)
     (λ c κs. search rules)
     (λ c. search rules)
     (λ c. search rules)
