@@ -32,15 +32,15 @@ use Rattle.text_read.proofs.PastLines.{whatever}
 module _ (b c : List ℕ) where
   pub title_found : strip (then_comma "till") b ≡ some c → read_line title_line b ≡ read_line edition c
   unfolding title_line choose named same_bytes bytes inside
-  title_found e = word_found _ "till" b c refl e
+  title_found e = word_found (("till", edition) ∷ []) "till" b c refl e
 
   pub first_found : strip (then_comma "1") b ≡ some c → read_line edition b ≡ read_line (counts First) c
   unfolding edition choose named same_bytes bytes inside
-  first_found e = word_found _ "1" b c refl e
+  first_found e = word_found (("1", counts First) ∷ ("2", counts Second) ∷ []) "1" b c refl e
 
   pub second_found : strip (then_comma "2") b ≡ some c → read_line edition b ≡ read_line (counts Second) c
   unfolding edition choose named same_bytes bytes inside
-  second_found e = word_found _ "2" b c refl e
+  second_found e = word_found (("1", counts First) ∷ ("2", counts Second) ∷ []) "2" b c refl e
 
 module _ (b : List ℕ) where
   pub no_title : strip (then_comma "till") b ≡ none → read_line title_line b ≡ none

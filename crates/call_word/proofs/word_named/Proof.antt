@@ -10,11 +10,6 @@ use Rattle.call_word.proofs.WordOutcomes.{named_formable, sized, known, counted}
 use Rattle.call_word.proofs.word_named.Statement.{statement}
 use Rattle.call_word.proofs.word_named.Tie as tie
 
--- the way back to the start from where no `q` stands within `q`, the line is small, and is new
--- the checks before `rest` have passed
-abbrev PastAt : tie.Start → List Check → Type 0
-PastAt s rest = Past s.args.store.now s.args.row rest
-
 returns : tie.Need-returns-in_default
 returns c =
     refused c.requires.good c.requires.so_far
@@ -22,7 +17,7 @@ returns c =
     c.in_default.is)
 
 -- 53 has passed
-abbrev past_53 : (c : tie.In-Passed) → (rest : List Check) × PastAt c rest
+abbrev past_53 : (c : tie.In-Passed) → (rest : List Check) × Past c.args.store.now c.args.row rest
 past_53 c =
     (
       _,
@@ -38,7 +33,7 @@ returns_2 c =
     c.in_default-small.is)
 
 -- and 12
-abbrev past_12 : (c : tie.In-Passed-small) → (rest : List Check) × PastAt c rest
+abbrev past_12 : (c : tie.In-Passed-small) → (rest : List Check) × Past c.args.store.now c.args.row rest
 past_12 c = (
   _,
   (past_53 c.before.before.before).1
@@ -53,7 +48,7 @@ returns_3 c =
     (c.tested-new.ensures 13)) c.in_default-new.is)
 
 -- and 13
-abbrev past_13 : (c : tie.In-Passed-new) → (rest : List Check) × PastAt c rest
+abbrev past_13 : (c : tie.In-Passed-new) → (rest : List Check) × Past c.args.store.now c.args.row rest
 past_13 c = (
   _,
   (past_12 c.before.before.before).1

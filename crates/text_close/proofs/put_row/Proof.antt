@@ -11,20 +11,16 @@ pub put_row_spec : {M : Type 1} → statement M
 put_row_spec =
     tie.close
     (tie.spec
-    (λ c κs. let start = c.before in omega (arith, start.requires.1, start.requires.0.ordered.few))
-    (λ c. wrote_none (sym (gap_as _ _ (sym c.before.gap.ensures ∙ c.if1.true))))
-    (λ c κs. let start = c.before.before.before in (start.requires.0, start.requires.1))
+    (λ c κs. omega (arith, c.requires.1, c.requires.0.ordered.few))
+    (λ c. wrote_none (sym (gap_as _ _ (sym c.gap.ensures ∙ c.if-gap.true))))
+    (λ c κs. (c.requires.0, c.requires.1))
     (λ c κs.
-    let tested = c.before.before in
-    let start = tested.before.before.before in
     room_as
     (sym
-    (credential_as _ _ (sym tested.before.gap.ensures ∙ tested.if1.false) c.before.credential-at.ensures))
-    start.requires.2)
+    (credential_as _ _ (sym c.gap.ensures ∙ c.if-gap.false) c.credential_at-c.ensures))
+    c.requires.2)
     (λ c. search rules)
     (λ c.
-    let made = c.before.before.before.before in
-    let tested = made.before in
     wrote_as
-    (credential_as _ _ (sym tested.before.gap.ensures ∙ tested.if1.false) made.credential-at.ensures)
-    c.before.before.put-credential.ensures))
+    (credential_as _ _ (sym c.gap.ensures ∙ c.if-gap.false) c.credential_at-c.ensures)
+    c.put_credential.ensures))

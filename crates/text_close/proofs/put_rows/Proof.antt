@@ -12,36 +12,35 @@ use Rattle.text_close.proofs.Texts.{row_lines_holds, wrote_none, with_next_holds
 use Rattle.text_close.proofs.put_rows.Statement.{statement}
 use Rattle.text_close.proofs.put_rows.Tie as tie
 
-abbrev invariant-loop : tie.invariant-loop
+abbrev invariant-loop : tie.invariant-loop-i
 invariant-loop rest₀ store n at₀ i₀ rest at i = (i ≤ n) × Put rest₀ (row_texts store i) rest at
 
-abbrev decreases_loop : tie.decreases_loop
+abbrev decreases_loop : tie.decreases-loop-i
 decreases_loop rest₀ store n at₀ i₀ rest at i = n - i
 
 -- room for the next line
 abbrev Next : List ℕ → List ℕ → ℕ → Type 0
 Next o l i = Parts o (row_texts l (i + 1)) (row_texts l i) (row_text l i)
 
-room : (c : tie.In-loop invariant-loop decreases_loop)
-    → Next c.before.before.before.before.args.rest.now c.before.before.before.before.args.store.now
-    c.before.loop.i
+room : (c : tie.In-loop-i invariant-loop decreases_loop)
+    → Next c.args.rest.now c.args.store.now
+    c.loop-i.i
 room c =
-    with_next_holds (row_lines_holds _) _ _ _ (omega (arith, c.loop-test.true, c.before.before.row_count.ensures))
-    c.before.before.before.before.requires.1
+    with_next_holds (row_lines_holds _) _ _ _ (omega (arith, c.loop-i-test.true, c.row_count-n.ensures))
+    c.requires.1
 
-loop-again : tie.Need-loop-preserved invariant-loop decreases_loop
+loop-again : tie.Need-loop-i-preserved invariant-loop decreases_loop
 loop-again c =
-    let turn = c.before.before.before.before in (
-      omega (arith, turn.loop-test.true),
-      wrote_parts (room turn) turn.before.loop.invariant.1 c.before.before.put-row.ensures,
+    (
+      omega (arith, c.loop-i-test.true),
+      wrote_parts (room c.before.before.before.before) c.loop-i.invariant.1 c.put_row-k.ensures,
     )
 
 returns : tie.Need-returns invariant-loop decreases_loop
 returns c =
-    let at = c.before in
-    let e : at.loop.i ≡ row_count at.before.before.before.args.store.now =
-    omega (arith, at.before.row_count.ensures, at.loop.invariant.0, c.loop-test.false) in
-    wrote_as (ap (row_texts _) e) at.loop.invariant.1
+    let e : c.loop-i.i ≡ row_count c.args.store.now =
+    omega (arith, c.row_count-n.ensures, c.loop-i.invariant.0, c.loop-i-test.false) in
+    wrote_as (ap (row_texts _) e) c.loop-i.invariant.1
 
 pub put_rows_spec : {M : Type 1} → statement M
 put_rows_spec =
@@ -51,22 +50,19 @@ put_rows_spec =
     decreases_loop
     (λ c κs. search rules)
     (λ c. (omega arith, wrote_none (row_lines_holds _).none))
-    (λ c. part_start (room c) c.before.loop.invariant.1)
-    (λ c. part_start (room c) c.before.loop.invariant.1)
+    (λ c. part_start (room c) c.loop-i.invariant.1)
+    (λ c. part_start (room c) c.loop-i.invariant.1)
     (λ c. search rules)
     (λ c κs.
-    let turn = c.before in
-    let start = turn.before.before.before.before in (
-      start.requires.0,
-      omega (arith, turn.loop-test.true, turn.before.before.row_count.ensures),
-      part_room (room turn) turn.before.loop.invariant.1,
+    (
+      c.requires.0,
+      omega (arith, c.loop-i-test.true, c.row_count-n.ensures),
+      part_room (room c.before) c.loop-i.invariant.1,
     ))
     (λ c.
-    let turn = c.before.before.before.before in
-    let start = turn.before.before.before.before in
-    sum_fits (room turn) turn.before.loop.invariant.1 c.before.before.put-row.ensures start.well-formed.0.0)
+    sum_fits (room c.before.before.before.before) c.loop-i.invariant.1 c.put_row-k.ensures c.well_formed.0.0)
     (λ c. search rules)
     (λ c. search rules)
     loop-again
-    (λ c. c.before.loop.invariant.1.long)
+    (λ c. c.loop-i.invariant.1.long)
     returns)

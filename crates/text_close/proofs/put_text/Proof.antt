@@ -17,19 +17,14 @@ pub put_text_spec : {M : Type 1} → statement M
 put_text_spec =
     tie.close
     (tie.spec
-    (λ c κs. let start = c.before.before in (start.requires.0, first_room (parts start)))
-    (λ c. part_start (parts c.before.before.before.before.before) c.before.before.put-title.ensures)
-    (λ c. part_start (parts c.before.before.before.before.before) c.before.before.put-title.ensures)
+    (λ c κs. (c.requires.0, first_room (parts c.before.before)))
+    (λ c. part_start (parts c.before.before.before.before.before) c.put_title-i.ensures)
+    (λ c. part_start (parts c.before.before.before.before.before) c.put_title-i.ensures)
     (λ c. search rules)
     (λ c κs.
-    let start = c.before.before.before.before.before.before in
-    (start.requires.0, part_room (parts start) c.before.before.before.put-title.ensures))
+    (c.requires.0, part_room (parts c.before.before.before.before.before.before) c.put_title-i.ensures))
     (λ c.
-    let put = c.before.before.before.before.before.before in
-    let start = put.before.before.before in
-    sum_fits (parts start) put.put-title.ensures c.before.before.put-lines.ensures start.well-formed.0.0)
+    sum_fits (parts c.before.before.before.before.before.before.before.before.before) c.put_title-i.ensures c.put_lines-j.ensures c.well_formed.0.0)
     (λ c. search rules)
     (λ c.
-    let put = c.before.before.before.before.before.before in
-    let start = put.before.before.before in
-    wrote_parts (parts start) put.put-title.ensures c.before.before.put-lines.ensures))
+    wrote_parts (parts c.before.before.before.before.before.before.before.before.before) c.put_title-i.ensures c.put_lines-j.ensures))

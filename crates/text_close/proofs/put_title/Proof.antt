@@ -12,18 +12,14 @@ put_title_spec =
     (tie.spec
     (λ c κs. search rules)
     (λ c κs. search rules)
-    (λ c κs. c.before.before.before.requires.0)
-    (λ c κs. c.before.before.before.before.requires.0)
+    (λ c κs. c.requires.0)
+    (λ c κs. c.requires.0)
     (λ c κs.
-    let e = c.before in
-    let live = e.before in
     room_as
-    (sym (title_as _ e.edition-of.ensures live.before.before.next_serial.ensures
-    live.before.formula-count.ensures live.live-count.ensures))
-    live.before.before.before.before.requires.1)
+    (sym (title_as _ c.edition_of-e.ensures c.next_serial-next.ensures
+    c.formula_count-lines.ensures c.live_count-live.ensures))
+    c.requires.1)
     (λ c. search rules)
     (λ c.
-    let e = c.before.before.before.before in
-    let live = e.before in
-    wrote_as (title_as _ e.edition-of.ensures live.before.before.next_serial.ensures
-    live.before.formula-count.ensures live.live-count.ensures) c.before.before.put-title.ensures))
+    wrote_as (title_as _ c.edition_of-e.ensures c.next_serial-next.ensures
+    c.formula_count-lines.ensures c.live_count-live.ensures) c.put_title.ensures))

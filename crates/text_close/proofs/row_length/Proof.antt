@@ -12,11 +12,10 @@ row_length_spec =
     tie.close
     (tie.spec
     (λ c κs. omega (arith, c.requires.1, c.requires.0.ordered.few))
-    (λ c. measured_none (sym (gap_as _ _ (sym c.before.gap.ensures ∙ c.if1.true))))
-    (λ c κs. c.before.before.requires)
+    (λ c. measured_none (sym (gap_as _ _ (sym c.gap.ensures ∙ c.if-gap.true))))
+    (λ c κs. c.requires)
     (λ c κs. search rules)
     (λ c.
-    let tested = c.before.before in
     measured_as
-    (credential_as _ _ (sym tested.before.gap.ensures ∙ tested.if1.false) c.before.credential-at.ensures)
-    c.credential-length.ensures))
+    (credential_as _ _ (sym c.gap.ensures ∙ c.if-gap.false) c.credential_at-c.ensures)
+    c.credential_length.ensures))

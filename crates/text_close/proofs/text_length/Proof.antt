@@ -10,19 +10,18 @@ text_length_spec =
     tie.close
     (tie.spec
     (λ c κs. c.requires)
-    (λ c κs. c.before.requires)
+    (λ c κs. c.requires)
     (λ c.
-    let small = c.before.title-length.ensures.small in
+    let small = c.title_length.ensures.small in
     Fits-under _ _ 18041 (omega (arith, small, c.formulas_length.ensures.small)) tt)
-    (λ c κs. c.before.before.requires)
+    (λ c κs. c.requires)
     (λ c.
-    let formulas = c.before in
     Fits-under _ _ 296569 (omega (
       arith,
-      formulas.before.title-length.ensures.small,
-      formulas.formulas_length.ensures.small,
-      c.rows-length.ensures.small,
+      c.title_length.ensures.small,
+      c.formulas_length.ensures.small,
+      c.rows_length.ensures.small,
     )) tt)
     (λ c.
-    measured_sum (text_parts _) c.before.before.title-length.ensures c.before.formulas_length.ensures
-    c.rows-length.ensures))
+    measured_sum (text_parts _) c.title_length.ensures c.formulas_length.ensures
+    c.rows_length.ensures))

@@ -15,8 +15,6 @@ title_length_spec =
     (λ c κs. search rules)
     (λ c κs. search rules)
     (λ c.
-    let e = c.before in
-    let live = e.before in
     measured_as
-    (title_as _ e.edition-of.ensures live.before.before.next_serial.ensures
-    live.before.formula-count.ensures live.live-count.ensures) c.title-length.ensures))
+    (title_as _ c.edition_of-e.ensures c.next_serial-next.ensures
+    c.formula_count-lines.ensures c.live_count-live.ensures) c.title_length.ensures))

@@ -30,7 +30,7 @@ turn : (c : tie.After-holder_letter invariant-loop decreases_loop)
 turn c =
     row_line _ (seen (formula_of _) c.formula_line-line.ensures c.in-Formula.is)
 
-told : (c : tie.After-holder_letter invariant-loop decreases_loop) → holder_line (turn c).line-1 ≡ c.holder_letter.result
+told : (c : tie.After-holder_letter invariant-loop decreases_loop) → holder_line (turn c).line ≡ c.holder_letter.result
 unfolding holder_line
 told c = ap (λ (x : Row). holder_letter x.letter) (turn c).row ∙ sym c.holder_letter.ensures
 
