@@ -7,9 +7,9 @@ use Rattle.ledger.specs.Statements.{IsAccepted}
 use Rattle.text_open.proofs.accepted.Statement.{statement}
 use Rattle.text_open.proofs.accepted.Tie as tie
 
-returns_3 : tie.Need-returns-3
+returns_3 : tie.Need-returns-in-Refused
 returns_3 c h =
-    subst (λ (a : Answer). IsAccepted (told a)) c.before.a3.given.1 h
+    subst (λ (a : Answer). IsAccepted (told a)) c.in-Refused.is h
 
 pub accepted_spec : {M : Type 1} → statement M
 accepted_spec =
@@ -18,6 +18,6 @@ accepted_spec =
     (λ c. search rules)
     (λ c. search rules)
     (λ c. search rules)
-    (λ c. subst (λ (a : Answer). IsAccepted (told a)) (sym c.before.a.given.1) tt)
-    (λ c. subst (λ (a : Answer). IsAccepted (told a)) (sym c.before.a2.given.1) tt)
+    (λ c. subst (λ (a : Answer). IsAccepted (told a)) (sym c.in-Accepted.is) tt)
+    (λ c. subst (λ (a : Answer). IsAccepted (told a)) (sym c.in-Counted.is) tt)
     returns_3)

@@ -7,13 +7,13 @@ use Rattle.text_open.proofs.Building.{text_short, opened_refused, opened}
 use Rattle.text_open.proofs.open.Statement.{statement}
 use Rattle.text_open.proofs.open.Tie as tie
 
-returns : tie.Need-returns
+returns : tie.Need-returns-in_default
 returns c =
     opened_refused _ _ c.refusal.ensures
 
-returns_2 : tie.Need-returns-2
+returns_2 : tie.Need-returns
 returns_2 c =
-    let x = subst (Built _ _) c.before.enum_told.given.1 c.before.before.before.build.ensures in
+    let x = subst (Built _ _) c.in-Passed.is c.build-v.ensures in
     opened _ _ _ x.0 x.1
 
 pub open_spec : {M : Type 1} → statement M
@@ -23,11 +23,11 @@ open_spec =
     (λ c κs. search rules)
     (λ c. search rules)
     (λ c. search rules)
-    (λ c κs. subst (Built _ _) c.enum-told2.given.1 c.before.before.build.ensures)
+    (λ c κs. subst (Built _ _) c.in_default.is c.build-v.ensures)
     returns
     (λ c. omega (
       arith,
-      text_short _ (subst (Built _ _) c.before.enum_told.given.1
-          c.before.before.before.build.ensures).0,
+      text_short _ (subst (Built _ _) c.in-Passed.is
+          c.build-v.ensures).0,
     ))
     returns_2)

@@ -4,13 +4,12 @@ use Rattle.text_open.proofs.Building.{fails_50, fails_51}
 use Rattle.text_open.proofs.refusal.Statement.{statement}
 use Rattle.text_open.proofs.refusal.Tie as tie
 
-returns : tie.Need-returns
-returns c = fails_50 c.before.before.text-form.ensures c.enum-told2.given.1
+returns : tie.Need-returns-in_default
+returns c = fails_50 c.text_form-form.ensures c.in_default.is
 
-returns_2 : tie.Need-returns-2
+returns_2 : tie.Need-returns
 returns_2 c =
-    let form = c.before.before in
-    fails_51 form.text-form.ensures c.enum_told.given.1 form.before.before.requires
+    fails_51 c.text_form-form.ensures c.in-Passed.is c.requires
 
 pub refusal_spec : {M : Type 1} → statement M
 refusal_spec =

@@ -11,19 +11,19 @@ use Rattle.text_open.proofs.Giving.{credential_asked}
 use Rattle.text_open.proofs.take_credentials.Statement.{statement}
 use Rattle.text_open.proofs.take_credentials.Tie as tie
 
-abbrev invariant-loop : tie.invariant-loop
+abbrev invariant-loop : tie.invariant-loop-k
 invariant-loop spare₀ text at count next i₀ k₀ spare i k =
     Giving (credentials_added next (ledger_of spare₀) count (drop at text)) text count next spare i k
 
-abbrev decreases_loop : tie.decreases_loop
+abbrev decreases_loop : tie.decreases-loop-k
 decreases_loop spare₀ text at count next i₀ k₀ spare i k = count - k
 
-returns : tie.Need-returns invariant-loop decreases_loop
+returns : tie.Need-returns-in_default invariant-loop decreases_loop
 returns c =
-    let l = c.before.before.before in (
-      no_credential l.before.loop.invariant l.loop-test.true
-          (seen (credential_from _) c.before.before.credential_line.ensures c.enum_told.given.1),
-      l.before.loop.invariant.asked.raisable,
+    (
+      no_credential c.loop-k.invariant c.loop-k-test.true
+          (seen (credential_from _) c.credential_line-f.ensures c.in_default.is),
+      c.loop-k.invariant.asked.raisable,
     )
 
 pub take_credentials_spec : {M : Type 1} → statement M
@@ -32,32 +32,29 @@ take_credentials_spec =
     (tie.spec
     invariant-loop
     decreases_loop
-    (λ c. give_start _ c.before.requires)
-    (λ c κs. c.before.loop.invariant.asked.short)
+    (λ c. give_start _ c.requires)
+    (λ c κs. c.loop-k.invariant.asked.short)
     (λ c. search rules)
     (λ c. search rules)
     returns
-    (λ c κs. let l = c.before.before.before.before.before in
-    credential_asked l.before.loop.invariant l.loop-test.true _
-    (seen (credential_from _) c.before.before.before.before.credential_line.ensures
-    c.before.before.f.given.1))
+    (λ c κs. credential_asked c.loop-k.invariant c.loop-k-test.true _
+    (seen (credential_from _) c.credential_line-f.ensures
+    c.in-Read.is))
     (λ c. search rules)
     (λ c. search rules)
-    (λ c. let l = c.before.before.before.before.before.before.before.before in
-    let v = c.before.before.take-credential.ensures in (
-      bad_credential_holds l.before.loop.invariant l.loop-test.true _
+    (λ c. let v = c.take_credential-v.ensures in (
+      bad_credential_holds c.loop-k.invariant c.loop-k-test.true _
           (seen (credential_from _)
-          c.before.before.before.before.before.before.before.credential_line.ensures
-          c.before.before.before.before.before.f.given.1)
-          (seen (left_of _) v.0 c.enum-told3.given.1),
+          c.credential_line-f.ensures
+          c.in-Read.is)
+          (seen (left_of _) v.0 c.in_default-v.is),
       v.1,
     ))
     (λ c. search rules)
     (λ c. search rules)
-    (λ c. let l = c.before.before.before.before.before.before.before.before in
-    let v = c.before.before.take-credential.ensures in
-    give_next l.before.loop.invariant l.loop-test.true _ _
-    (seen (credential_from _) c.before.before.before.before.before.before.before.credential_line.ensures
-    c.before.before.before.before.before.f.given.1)
-    (seen (left_of _) v.0 c.enum-told2.given.1) v.1)
-    (λ c. let h = c.before.loop.invariant in (give_end h c.loop-test.false, h.asked.raisable)))
+    (λ c. let v = c.take_credential-v.ensures in
+    give_next c.loop-k.invariant c.loop-k-test.true _ _
+    (seen (credential_from _) c.credential_line-f.ensures
+    c.in-Read.is)
+    (seen (left_of _) v.0 c.in-Passed.is) v.1)
+    (λ c. let h = c.loop-k.invariant in (give_end h c.loop-k-test.false, h.asked.raisable)))

@@ -8,7 +8,7 @@ pub take_line_spec : {M : Type 1} → statement M
 take_line_spec =
     tie.close
     (tie.spec
-    (λ c κs. let p = c.before.requires in (p.good, p.canonical))
+    (λ c κs. let p = c.requires in (p.good, p.canonical))
     (λ c κs. search rules)
-    (λ c. line_taken c.accepted.result c.before.before.before.requires.room c.before.word.ensures
+    (λ c. line_taken c.accepted.result c.requires.room c.word-a.ensures
     c.accepted.ensures))

@@ -12,19 +12,19 @@ use Rattle.text_open.proofs.Taking.{line_read, row_read}
 use Rattle.text_open.proofs.take_lines.Statement.{statement}
 use Rattle.text_open.proofs.take_lines.Tie as tie
 
-abbrev invariant-loop : tie.invariant-loop
+abbrev invariant-loop : tie.invariant-loop-k
 invariant-loop spare₀ text at count i₀ k₀ spare i k =
     Taking (lines_added (ledger_of spare₀) count (drop at text)) text count spare i k
 
-abbrev decreases_loop : tie.decreases_loop
+abbrev decreases_loop : tie.decreases-loop-k
 decreases_loop spare₀ text at count i₀ k₀ spare i k = count - k
 
-returns : tie.Need-returns invariant-loop decreases_loop
+returns : tie.Need-returns-in_default invariant-loop decreases_loop
 returns c =
-    let l = c.before.before.before in (
-      no_line l.before.loop.invariant l.loop-test.true
-          (row_none _ (seen (formula_of _) c.before.before.formula_line.ensures c.enum_told.given.1)),
-      l.before.loop.invariant.asked.good,
+    (
+      no_line c.loop-k.invariant c.loop-k-test.true
+          (row_none _ (seen (formula_of _) c.formula_line-f.ensures c.in_default.is)),
+      c.loop-k.invariant.asked.good,
     )
 
 pub take_lines_spec : {M : Type 1} → statement M
@@ -33,32 +33,29 @@ take_lines_spec =
     (tie.spec
     invariant-loop
     decreases_loop
-    (λ c. take_start _ c.before.requires)
-    (λ c κs. c.before.loop.invariant.asked.short)
+    (λ c. take_start _ c.requires)
+    (λ c κs. c.loop-k.invariant.asked.short)
     (λ c. search rules)
     (λ c. search rules)
     returns
-    (λ c κs. let l = c.before.before.before.before.before in
-    line_asked l.before.loop.invariant l.loop-test.true _
-    (row_read _ (seen (formula_of _) c.before.before.before.before.formula_line.ensures
-    c.before.before.f.given.1)))
+    (λ c κs. line_asked c.loop-k.invariant c.loop-k-test.true _
+    (row_read _ (seen (formula_of _) c.formula_line-f.ensures
+    c.in-Formula.is)))
     (λ c. search rules)
     (λ c. search rules)
-    (λ c. let l = c.before.before.before.before.before.before.before.before in
-    let v = c.before.before.take-line.ensures in (
-      bad_line l.before.loop.invariant l.loop-test.true _
+    (λ c. let v = c.take_line-v.ensures in (
+      bad_line c.loop-k.invariant c.loop-k-test.true _
           (line_read _ (seen (formula_of _)
-          c.before.before.before.before.before.before.before.formula_line.ensures
-          c.before.before.before.before.before.f.given.1))
-          (seen (left_of _) v.0 c.enum-told3.given.1),
+          c.formula_line-f.ensures
+          c.in-Formula.is))
+          (seen (left_of _) v.0 c.in_default-v.is),
       v.1,
     ))
     (λ c. search rules)
     (λ c. search rules)
-    (λ c. let l = c.before.before.before.before.before.before.before.before in
-    let v = c.before.before.take-line.ensures in
-    take_next l.before.loop.invariant l.loop-test.true _ _
-    (line_read _ (seen (formula_of _) c.before.before.before.before.before.before.before.formula_line.ensures
-    c.before.before.before.before.before.f.given.1))
-    (seen (left_of _) v.0 c.enum-told2.given.1) v.1)
-    (λ c. let h = c.before.loop.invariant in (take_end h c.loop-test.false, h.asked.good)))
+    (λ c. let v = c.take_line-v.ensures in
+    take_next c.loop-k.invariant c.loop-k-test.true _ _
+    (line_read _ (seen (formula_of _) c.formula_line-f.ensures
+    c.in-Formula.is))
+    (seen (left_of _) v.0 c.in-Passed.is) v.1)
+    (λ c. let h = c.loop-k.invariant in (take_end h c.loop-k-test.false, h.asked.good)))
