@@ -43,18 +43,13 @@ module _ {l l' : List ℕ} {r : Request} {a : Answer} where
   answered : {e : Answer} → a ≡ e → Handled l r e l' → Handled l r a l'
   answered q h = subst (λ (a : Answer). Handled l r a l') (sym q) h
 
--- the way back to the start from where the steps are closed, where there is room, where a serial is free
--- the checks before `rest` have passed
-abbrev PastAt : tie.Start → List Check → Type 0
-PastAt s rest = Past s.args.store.now s.args.head s.args.serials.now s.args.rows.now rest
-
 -- all steps are judged, with new labels after those of the holds
 judged : (c : tie.After-check-checked) →
     let a = c.args in
     let h = a.head in
     Answers (check_of (instance_row (row_at a.store.now)) label_at put_label h.steps
     (steps_from a.rows.now 0 h.steps) a.table.now h.holds c.opening.result)
-    c.check-checked.result c.check-checked.new.1.1.0
+    c.check-checked.result c.check-checked.new.table
 judged c = c.check-checked.ensures
 
 check-requires : tie.Need-check-checked-requires
@@ -62,12 +57,12 @@ check-requires c κs = omega (arith, c.requires.before.lines.steps)
 
 returns : tie.Need-returns-in_default
 returns c =
-    let e = c.enum-told2.given.1 in
+    let e = c.in_default.is in
     rw (c.refusal.ensures, e) (refused c.requires.before.lines.good c.requires.so_far
     (steps_told c.requires c.opening.ensures (judged c.before.before) e))
 
 -- 40 to 42 have passed
-abbrev past_42 : (c : tie.In-Closed) → (rest : List Check) × PastAt c rest
+abbrev past_42 : (c : tie.In-Closed) → (rest : List Check) × Past c.args.store.now c.args.head c.args.serials.now c.args.rows.now rest
 past_42 c =
     (
       _,
@@ -100,7 +95,7 @@ returns_2 c =
     (shown (room_less before (room_told c.before)) (no_room_holds c)))
 
 -- and 22
-abbrev past_22 : (c : tie.In-Passed) → (rest : List Check) × PastAt c rest
+abbrev past_22 : (c : tie.In-Passed) → (rest : List Check) × Past c.args.store.now c.args.head c.args.serials.now c.args.rows.now rest
 past_22 c =
     (
       _,
@@ -135,13 +130,13 @@ settled c =
 spent : (c : tie.After-spend) →
     let a = c.args in
     let t = ledger_of a.store.now in
-    StandsFor c.spend.new.0
+    StandsFor c.spend.new.store
     (with_live t (spend t.live (held t.live (take a.head.holds a.serials.now))))
 spent c = c.spend.ensures
 
 gave : (c : tie.After-give) →
     let h = c.args.head in
-    StandsFor c.give.new.0 (with_credential (ledger_of c.spend.new.0) Linear h.formula h.interval)
+    StandsFor c.give.new.store (with_credential (ledger_of c.spend.new.store) Linear h.formula h.interval)
 gave c = c.give.ensures
 
 serial_told : part (λ (x : tie.Need-returns) (y : (c : tie.After-give) →
