@@ -13,87 +13,61 @@ use Rattle.call_book_laws.specs.BookingFound.{Past}
 use Rattle.call_book.proofs.book_read.Statement.{statement}
 use Rattle.call_book.proofs.book_read.Tie as tie
 
--- the way back to the start from where the formula is there, and is plain
-abbrev present : tie.After-enum-told → tie.Start
-present c = c.before.before.before.before
+present-requires : tie.Need-check_present-present-requires
+present-requires c κs = c.requires.good
 
-abbrev bound : tie.After-enum-told3 → tie.After-enum-told
-bound c = c.before.before.before.before
-
-abbrev goal_bound : tie.After-enum-told3 → tie.Start
-goal_bound c = present (bound c)
-
-abbrev goal_plain : tie.After-enum-told5 → tie.Start
-goal_plain c = goal_bound c.before.before.before.before
-
--- the checks before `rest` have passed
-abbrev PastAt : tie.Start → List Check → Type 0
-PastAt s rest = Past s.args.store.now s.args.head s.args.serials.now s.args.rows.now rest
-
-present-requires : tie.Need-check-present-requires
-present-requires c κs = c.before.requires.good
-
-returns : tie.Need-returns
+returns : tie.Need-returns-in_default
 returns c =
-    let start = c.before.before.before.before in
-    refused start.requires.good start.requires.so_far
-    (shown c.before.before.check-present.ensures c.enum-told2.given.1)
+    refused c.requires.good c.requires.so_far
+    (shown c.check_present-present.ensures c.in_default.is)
 
 -- 10 has passed
-abbrev past_10 : (c : tie.After-enum-told) → (rest : List Check) × PastAt (present c) rest
-past_10 c = (_, (present c).requires.so_far ▸ shown c.before.before.check-present.ensures c.enum_told.given.1)
+abbrev past_10 : (c : tie.In-Passed) → (rest : List Check) × Past c.args.store.now c.args.head c.args.serials.now c.args.rows.now rest
+past_10 c = (_, c.requires.so_far ▸ shown c.check_present-present.ensures c.in-Passed.is)
 
-check-bound-requires : tie.Need-check-bound-requires
+check-bound-requires : tie.Need-check_bound-bound-requires
 check-bound-requires c κs =
-    let there = c.before in
-    let found = by_verdict there.before.before.check-present.ensures there.enum_told.given.1 in
-    ((present there).requires.good, leb-false _ _ found)
+    let found = by_verdict c.check_present-present.ensures c.in-Passed.is in
+    (c.requires.good, leb-false _ _ found)
 
-returns_2 : tie.Need-returns-2
+returns_2 : tie.Need-returns-in_default-bound
 returns_2 c =
-    let there = c.before.before.before.before in
-    refused (present there).requires.good (past_10 there).1
-    (shown c.before.before.check-bound.ensures c.enum-told4.given.1)
+    refused c.requires.good (past_10 c.before.before).1
+    (shown c.check_bound-bound.ensures c.in_default-bound.is)
 
 -- and 53
-abbrev past_53 : (c : tie.After-enum-told3) → (rest : List Check) × PastAt (goal_bound c) rest
-past_53 c = (_, (past_10 (bound c)).1 ▸ shown c.before.before.check-bound.ensures c.enum-told3.given.1)
+abbrev past_53 : (c : tie.In-Passed-bound) → (rest : List Check) × Past c.args.store.now c.args.head c.args.serials.now c.args.rows.now rest
+past_53 c = (_, (past_10 c.before.before).1 ▸ shown c.check_bound-bound.ensures c.in-Passed-bound.is)
 
-check-plain-requires : tie.Need-check-plain-requires
+check-plain-requires : tie.Need-check_plain-plain-requires
 check-plain-requires c κs =
-    let there = bound c.before in
-    let found = by_verdict there.before.before.check-present.ensures there.enum_told.given.1 in
-    ((present there).pre.good, leb-false _ _ found)
+    let found = by_verdict c.check_present-present.ensures c.in-Passed.is in
+    (c.requires.good, leb-false _ _ found)
 
-returns_3 : tie.Need-returns-3
+returns_3 : tie.Need-returns-in_default-plain
 returns_3 c =
-    let closed = c.before.before.before.before in
-    refused (goal_bound closed).requires.good (past_53 closed).1
-    (shown c.before.before.check-plain.ensures c.enum-told6.given.1)
+    refused c.requires.good (past_53 c.before.before).1
+    (shown c.check_plain-plain.ensures c.in_default-plain.is)
 
 -- and 20
-abbrev past_20 : (c : tie.After-enum-told5) → (rest : List Check) × PastAt (goal_plain c) rest
+abbrev past_20 : (c : tie.In-Passed-plain) → (rest : List Check) × Past c.args.store.now c.args.head c.args.serials.now c.args.rows.now rest
 past_20 c = (
   _,
-  (past_53 c.before.before.before.before).1
-      ▸ shown c.before.before.check-plain.ensures c.enum-told5.given.1,
+  (past_53 c.before.before).1
+      ▸ shown c.check_plain-plain.ensures c.in-Passed-plain.is,
 )
 
-returns_4 : tie.Need-returns-4
+returns_4 : tie.Need-returns-in_default-in_time
 returns_4 c =
-    let plain = c.before.before.before in
-    refused (goal_plain plain).requires.good (past_20 plain).1
-    (shown c.before.before.check-in-time.ensures c.enum-told8.given.1)
+    refused c.requires.good (past_20 c.before.before.before).1
+    (shown c.check_in_time-in_time.ensures c.in_default-in_time.is)
 
-book-holds-requires : tie.Need-book-holds-requires
+book-holds-requires : tie.Need-book_holds-requires
 book-holds-requires c κs =
-    let now = c.before in
-    let plain = now.before.before.before in
-    let there = bound plain.before.before.before.before in
     record {
-      lines = (goal_plain plain).requires;
-      there = by_verdict there.before.before.check-present.ensures there.enum_told.given.1;
-      so_far = (past_20 plain).1 ▸ shown now.before.before.check-in-time.ensures now.enum-told7.given.1;
+      lines = c.requires;
+      there = by_verdict c.check_present-present.ensures c.in-Passed.is;
+      so_far = (past_20 c.before.before.before.before).1 ▸ shown c.check_in_time-in_time.ensures c.in-Passed-in_time.is;
     }
 
 pub book_read_spec : {M : Type 1} → statement M
@@ -117,4 +91,4 @@ book_read_spec =
     (λ c. search rules)
     returns_4
     book-holds-requires
-    (λ c. c.book-holds.ensures))
+    (λ c. c.book_holds.ensures))
