@@ -13,73 +13,63 @@ use Rattle.call.proofs.call.Statement.{statement}
 use Rattle.call.proofs.call.Tie as tie
 
 -- the way back to the start from where 1 has passed, and from where the first line has been read
-abbrev short : tie.After-enum-told → tie.Start
-short c = c.before.before.before.before
+within : (c : tie.In-Passed) → length c.args.sheet.now ≤ max_bytes
+within c = ltb-false _ _ (by_verdict (c.tested-short.ensures 1) c.in-Passed.is)
 
-abbrev begun : tie.After-read → tie.Start
-begun c = short c.before.before.before
-
-within : (c : tie.After-enum-told) → length (short c).args.sheet.now ≤ max_bytes
-within c = ltb-false _ _ (by_verdict (c.before.before.tested.ensures 1) c.enum_told.given.1)
-
-first : (c : tie.After-read) → Begun (begun c).args.sheet.now c.read.given.0.0
+first : (c : tie.In-Read) → Begun c.args.sheet.now c.in-Read.first
 first c = record {
-  short = within c.before.before.before;
-  line = rw c.read.given.1 at c.before.before.read_first.ensures;
+  short = within c.before.before;
+  line = rw c.in-Read.is at c.read_first-read.ensures;
 }
 
-returns : tie.Need-returns
+returns : tie.Need-returns-in_default
 returns c =
-    called_long c.before.before.before.before.requires
-    (by_verdict (c.before.before.tested.ensures 1) c.enum-told2.given.1)
+    called_long c.requires
+    (by_verdict (c.tested-short.ensures 1) c.in_default.is)
 
-returns_2 : tie.Need-returns-2
+returns_2 : tie.Need-returns-in_default-read
 returns_2 c =
-    let read = c.before.before in
-    called_broken (short read.before).requires (within read.before)
-    (no_request (rw c.enum-told3.given.1 at read.read_first.ensures))
+    called_broken c.requires (within c.before.before)
+    (no_request (rw c.in_default-read.is at c.read_first-read.ensures))
 
 word-requires : tie.Need-word-requires
 word-requires c κs =
-    let read = c.before.before.before.before.before in
-    ((begun read).requires, word_canonical (line_as (first read) c.before.before.first.given.1))
+    (c.requires, word_canonical (line_as (first c.before.before) c.in-Word.is))
 
 book-requires : tie.Need-book-requires
 book-requires c κs =
-    let read = c.before.before.before.before.before.before in
     record {
-      good = (begun read).requires;
-      short = (first read).short;
-      head = line_as (first read) c.before.before.before.first5.given.1;
+      good = c.requires;
+      short = (first c.before.before.before).short;
+      head = line_as (first c.before.before.before) c.in-Book.is;
     }
 
-returns_3 : tie.Need-returns-3
+returns_3 : tie.Need-returns-in-Word
 returns_3 c =
-    let read = first c.before.before.before.before.before.before in
-    called_read read.short (word_reads (line_as read c.before.before.before.first.given.1))
+    let read = first c.before.before.before in
+    called_read read.short (word_reads (line_as read c.in-Word.is))
     c.word.ensures
 
-returns_4 : tie.Need-returns-4
+returns_4 : tie.Need-returns-in-Issue
 returns_4 c =
-    let read = first c.before.before.before.before.before.before in
-    called_read read.short (line_as read c.before.before.before.first2.given.1) c.issue.ensures
+    let read = first c.before.before.before in
+    called_read read.short (line_as read c.in-Issue.is) c.issue.ensures
 
-returns_5 : tie.Need-returns-5
+returns_5 : tie.Need-returns-in-Withdraw
 returns_5 c =
-    let read = first c.before.before.before.before.before.before in
-    called_read read.short (line_as read c.before.before.before.first3.given.1) c.withdraw.ensures
+    let read = first c.before.before.before in
+    called_read read.short (line_as read c.in-Withdraw.is) c.withdraw.ensures
 
 -- the session that the line names, and its minute
 tallied : (c : tie.After-tally) →
-    let line = c.before.before.before in
-    let l = (begun line.before.before.before).args.store.now in
-    Handled l (tally line.first4.given.0.0 line.first4.given.0.1.0) c.tally.result l
+    let l = c.args.store.now in
+    Handled l (tally c.in-Tally.session c.in-Tally.minute) c.tally.result l
 tallied c = c.tally.ensures
 
-returns_6 : tie.Need-returns-6
+returns_6 : tie.Need-returns-in-Tally
 returns_6 c =
-    let read = first c.before.before.before.before.before.before in
-    called_read read.short (line_as read c.before.before.before.first4.given.1) (tallied c)
+    let read = first c.before.before in
+    called_read read.short (line_as read c.in-Tally.is) (tallied c)
 
 pub call_spec : {M : Type 1} → statement M
 call_spec =

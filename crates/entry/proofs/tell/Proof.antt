@@ -11,14 +11,14 @@ use Rattle.entry.proofs.tell.Tie as tie
 told_as : {a e : Answer} → a ≡ e → numbers (told e) ≡ numbers (told a)
 told_as q = ap (λ x. numbers (told x)) (sym q)
 
-returns : tie.Need-returns
-returns c = told_as c.before.before.a.given.1
+returns : tie.Need-returns-in-Accepted
+returns c = told_as c.in-Accepted.is
 
-returns_2 : tie.Need-returns-2
-returns_2 c = told_as c.before.before.a2.given.1
+returns_2 : tie.Need-returns-in-Counted
+returns_2 c = told_as c.in-Counted.is
 
-returns_3 : tie.Need-returns-3
-returns_3 c = told_as c.before.before.a3.given.1
+returns_3 : tie.Need-returns-in-Refused
+returns_3 c = told_as c.in-Refused.is
 
 pub tell_spec : {M : Type 1} → statement M
 tell_spec =

@@ -20,7 +20,7 @@ entered c q = record {
 }
 
 returns_entered : clause (λ (x : tie.Need-returns) (c : tie.After-tell). (x c).0)
-returns_entered c = entered c.before.before.call.ensures c.tell.ensures
+returns_entered c = entered c.before.before.call-a.ensures c.tell.ensures
 
 returns_lent : clause (λ (x : tie.Need-returns) (c : tie.After-tell). (x c).1)
 returns_lent c = refl

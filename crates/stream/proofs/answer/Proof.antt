@@ -8,13 +8,12 @@ use Rattle.stream.proofs.answer.Tie as tie
 
 returns : tie.Need-returns
 returns c =
-    let put = c.before.before in
-    let called = put.before.before.call.ensures in
+    let called = c.call-a.ensures in
     record {
       good = called.good;
       ledger = called.ledger;
-      wrote = wrote_as (ap line called.answer) put.put-answer.ensures.0;
-      short = put.put-answer.ensures.1;
+      wrote = wrote_as (ap line called.answer) c.put_answer.ensures.0;
+      short = c.put_answer.ensures.1;
     }
 
 pub answer_spec : {M : Type 1} → statement M

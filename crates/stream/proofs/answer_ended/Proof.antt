@@ -7,22 +7,17 @@ use Rattle.stream.proofs.Pieces.{said_whole, said_kept}
 use Rattle.stream.proofs.answer_ended.Statement.{statement}
 use Rattle.stream.proofs.answer_ended.Tie as tie
 
-returns : tie.Need-returns
+returns : tie.Need-returns-then-place-eq0
 returns c =
-    let said = c.before.before in
-    let test = said.before.before.before.before in
-    said_whole _ test.if1.true said.answer.ensures
+    said_whole _ c.if-place-eq0.true c.answer.ensures
 
-slice_aggregate_answer : tie.Need-slice-aggregate-answer
+slice_aggregate_answer : tie.Need-slice_bounds-answer-end-2
 slice_aggregate_answer c =
-    let kept = c.before.before.before.before.before in
-    sym (length-take-le kept.keep.result kept.keep.new.0 (omega (arith, kept.keep.ensures)))
+    sym (length-take-le c.keep-filled.result c.keep-filled.new.0 (omega (arith, c.keep-filled.ensures)))
 
-returns_2 : tie.Need-returns-2
+returns_2 : tie.Need-returns
 returns_2 c =
-    let said = c.before.before in
-    let kept = said.before.before.before.before.before.before.before in
-    said_kept kept.keep.ensures said.answer2.ensures
+    said_kept c.keep-filled.ensures c.answer-2.ensures
 
 pub answer_ended_spec : {M : Type 1} → statement M
 answer_ended_spec =

@@ -10,64 +10,53 @@ use Rattle.stream.proofs.Pieces.{ready_for, took_none, took_next, took_all, leng
 use Rattle.stream.proofs.feed.Statement.{statement}
 use Rattle.stream.proofs.feed.Tie as tie
 
-abbrev invariant-loop : tie.invariant-loop
+abbrev invariant-loop : tie.invariant-loop-i
 invariant-loop till₀ rows₀ begun₀ text₀ piece p₀ i₀ store rows begun text p i =
     (i ≤ length piece) × ((length begun ≡ length begun₀) × ((length text ≡ length text₀)
     × Took till₀ begun₀ text₀ p₀ (take i piece) store begun text p))
 
-abbrev decreases_loop : tie.decreases_loop
+abbrev decreases_loop : tie.decreases-loop-i
 decreases_loop till₀ rows₀ begun₀ text₀ piece p₀ i₀ store rows begun text p i = length piece - i
 
-loop-holds : tie.Need-loop-init invariant-loop decreases_loop
-loop-holds c = (omega arith, (refl, (refl, took_none c.before.before.before.requires)))
+loop-holds : tie.Need-loop-i-init invariant-loop decreases_loop
+loop-holds c = (omega arith, (refl, (refl, took_none c.requires)))
 
-take-sheet-requires : tie.Need-take-sheet-requires invariant-loop decreases_loop
+take-sheet-requires : tie.Need-take_sheet-t-requires invariant-loop decreases_loop
 take-sheet-requires c κs =
-    let test = c.before.before.before.before.before in
-    let start = test.before.before.before.before.before in
-    let inv = test.before.loop.invariant in
-    let x = start.args.piece.now in
-    let n = length-take-le test.before.loop.i x inv.0 in
-    let r = length_rest x test.before.loop.i in (
+    let inv = c.loop-i.invariant in
+    let x = c.args.piece.now in
+    let n = length-take-le c.loop-i.i x inv.0 in
+    let r = length_rest x c.loop-i.i in (
       ready_for 0 _ inv.1.1.1.ready
-          (omega (arith, inv.1.1.0, inv.1.1.1.short, test.loop-test.true, start.requires.text)),
-      omega (arith, test.loop-test.true),
+          (omega (arith, inv.1.1.0, inv.1.1.1.short, c.loop-i-test.true, c.requires.text-1)),
+      omega (arith, c.loop-i-test.true),
     )
 
 -- the bytes that are taken lie in the piece
-inside : (c : tie.After-take-sheet invariant-loop decreases_loop) →
-    let loop = c.before.before.before.before.before.before.before in
-    c.take-sheet.result.bytes ≤ length loop.before.before.before.before.args.piece.now - loop.loop.i
+inside : (c : tie.After-take_sheet-t invariant-loop decreases_loop) →
+    c.take_sheet-t.result.bytes ≤ length c.args.piece.now - c.loop-i.i
 inside c =
-    let loop = c.before.before.before.before.before.before.before in
-    let r = length_rest loop.before.before.before.before.args.piece.now loop.loop.i in
-    omega (arith, c.take-sheet.ensures.inside)
+    let r = length_rest c.args.piece.now c.loop-i.i in
+    omega (arith, c.take_sheet-t.ensures.inside)
 
-add_i : tie.Need-overflow-add-i invariant-loop decreases_loop
+add_i : tie.Need-overflow_add-i invariant-loop decreases_loop
 add_i c =
-    let took = c.before.before.before.before.before.before in
-    let test = took.before.before.before.before.before.before in
-    let start = test.before.before.before.before.before in
-    let n = inside took in
-    omega (arith, test.loop-test.true)
+    let n = inside c.before.before.before.before.before.before in
+    omega (arith, c.loop-i-test.true)
 
-loop-less : tie.Need-loop-smaller invariant-loop decreases_loop
+loop-less : tie.Need-loop-i-smaller invariant-loop decreases_loop
 loop-less c =
-    let took = c.before.before.before.before.before.before in
-    let test = took.before.before.before.before.before.before in
-    omega (arith, test.loop-test.true, inside took, took.take-sheet.ensures.some)
+    omega (arith, c.loop-i-test.true, inside c.before.before.before.before.before.before, c.take_sheet-t.ensures.some)
 
-loop-again : tie.Need-loop-preserved invariant-loop decreases_loop
+loop-again : tie.Need-loop-i-preserved invariant-loop decreases_loop
 loop-again c =
-    let took = c.before.before.before.before.before.before in
-    let test = took.before.before.before.before.before.before in
-    let inv = test.before.loop.invariant in (
-      omega (arith, test.loop-test.true, inside took),
+    let inv = c.loop-i.invariant in (
+      omega (arith, c.loop-i-test.true, inside c.before.before.before.before.before.before),
       (
-        took.take-sheet.auto.1.1.0 ∙ inv.1.0,
+        c.take_sheet-t.auto.1.1.0 ∙ inv.1.0,
         (
-          took.take-sheet.auto.1.1.1.0 ∙ inv.1.1.0,
-          took_next _ _ inv.1.1.1 took.take-sheet.ensures,
+          c.take_sheet-t.auto.1.1.1.0 ∙ inv.1.1.0,
+          took_next _ _ inv.1.1.1 c.take_sheet-t.ensures,
         ),
       ),
     )
@@ -86,6 +75,6 @@ feed_spec =
     add_i
     loop-less
     loop-again
-    (λ c. c.before.loop.invariant.1.0)
-    (λ c. c.before.loop.invariant.1.1.0)
-    (λ c. took_all _ _ c.loop-test.false c.before.loop.invariant.1.1.1))
+    (λ c. c.loop-i.invariant.1.0)
+    (λ c. c.loop-i.invariant.1.1.0)
+    (λ c. took_all _ _ c.loop-i-test.false c.loop-i.invariant.1.1.1))

@@ -7,20 +7,17 @@ use Rattle.stream.proofs.Pieces.{ended_none, ended_one}
 use Rattle.stream.proofs.finish.Statement.{statement}
 use Rattle.stream.proofs.finish.Tie as tie
 
-returns : tie.Need-returns
-returns c = ended_none c.before.before.before.requires c.if1.true
+returns : tie.Need-returns-then-filled-eq0
+returns c = ended_none c.requires c.if-filled-eq0.true
 
-slice_aggregate_answer : tie.Need-slice-aggregate-answer
+slice_aggregate_answer : tie.Need-slice_bounds-answer-end
 slice_aggregate_answer c =
-    let start = c.before.before.before.before.before.before in
-    sym (length-take-le start.args.place.filled start.args.begun.now
-    (omega (arith, start.requires.begun, start.requires.filled)))
+    sym (length-take-le c.args.place.filled c.args.begun.now
+    (omega (arith, c.requires.begun, c.requires.filled)))
 
-returns_2 : tie.Need-returns-2
+returns_2 : tie.Need-returns
 returns_2 c =
-    let said = c.before.before in
-    let test = said.before.before.before.before.before in
-    ended_one test.before.before.before.requires test.if1.false said.answer.ensures
+    ended_one c.requires c.if-filled-eq0.false c.answer.ensures
 
 pub finish_spec : {M : Type 1} → statement M
 finish_spec =

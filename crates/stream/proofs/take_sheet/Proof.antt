@@ -10,42 +10,33 @@ use Rattle.stream.proofs.take_sheet.Tie as tie
 
 -- where the sheet ends in the piece
 ends :
-    (c : tie.After-end) →
-    let start = c.before.before.before.before.before.before in
-    EndsAt start.args.piece.now start.args.place.fresh c.end.given.0.0
-ends c = rw c.end.given.1 at c.before.before.sheet-end.ensures
+    (c : tie.In-At) →
+    EndsAt c.args.piece.now c.args.place.fresh c.in-At.e
+ends c = rw c.in-At.is at c.sheet_end-end.ensures
 
-slice_aggregate_answer_ended : tie.Need-slice-aggregate-answer-ended
+slice_aggregate_answer_ended : tie.Need-slice_bounds-answer_ended-end
 slice_aggregate_answer_ended c =
-    let end = c.before.before.before.before.before.before in
-    let start = end.before.before.before.before.before.before in
-    sym (length-take-le end.end.given.0.0 start.args.piece.now (omega (arith, (ends end).inside)))
+    sym (length-take-le c.in-At.e c.args.piece.now (omega (arith, (ends c.before.before.before.before).inside)))
 
-answer-ended-requires : tie.Need-answer-ended-requires
+answer-ended-requires : tie.Need-answer_ended-written-requires
 answer-ended-requires c κs =
-    let start = c.before.before.before.before.before.before.before.before.before.before.before.before in
-    ready_for _ 1 start.requires.0 (omega (arith, start.requires.0.text, start.requires.1))
+    ready_for _ 1 c.requires.0 (omega (arith, c.requires.0.text-1, c.requires.1))
 
-add_bytes : tie.Need-overflow-add-t22
+add_bytes : tie.Need-overflow_add-result
 add_bytes c =
-    let end = c.before.before.before.before.before.before.before.before.before.before.before in
-    omega (arith, (ends end).inside)
+    omega (arith, (ends c.before.before.before.before.before.before.before.before.before).inside)
 
-returns : tie.Need-returns
+returns : tie.Need-returns-in-At
 returns c =
-    let said = c.before.before.before.before in
-    let end = said.before.before.before.before.before.before.before in
-    let pre = end.before.before.before.before.before.before.requires in
-    let long = said.answer-ended.auto.1.1.0 ∙ pre.0.begun in
-    took_ended _ pre.0 pre.1 long (ends end) said.answer-ended.ensures
+    let pre = c.requires in
+    let long = c.answer_ended-written.auto.1.1.0 ∙ pre.0.begun-1 in
+    took_ended _ pre.0 pre.1 long (ends c.before.before.before.before.before.before.before.before.before) c.answer_ended-written.ensures
 
-returns_2 : tie.Need-returns-2
+returns_2 : tie.Need-returns-in-Open
 returns_2 c =
-    let kept = c.before.before in
-    let end = kept.before.before.before in
-    let pre = end.before.before.before.before.before.before.requires in
-    took_open _ pre.0 pre.1 (rw end.end2.given.1 at end.before.before.sheet-end.ensures)
-    kept.keep.ensures
+    let pre = c.requires in
+    took_open _ pre.0 pre.1 (rw c.in-Open.is at c.sheet_end-end.ensures)
+    c.keep-filled.ensures
 
 pub take_sheet_spec : {M : Type 1} → statement M
 take_sheet_spec =
