@@ -13,7 +13,7 @@ use Rattle.entry.proofs.till_call.Tie as tie
 
 entered : {l b l' n : List ℕ} {a : Answer} → Called l b a l' → n ≡ numbers (told a) → Entered l b n l'
 entered c q = record {
-  good = c.well-formed;
+  good = c.good;
   answer = q ∙ ap numbers c.answer;
   ledger = c.ledger;
   same = λ f k z. c.same f k (c.answer ∙ z);

@@ -23,13 +23,13 @@ close_long t o = go (dec_lt (length o) (length (text t)))
     go (yes h) = ap length ((close_answers t o).short h).buffer
     go (no h) = ((close_answers t o).room (omega arith)).size
 
-same_length : tie.Need-same-length
+same_length : tie.Need-shape_of-buffer
 same_length c =
-    ap length c.before.before.before.before.close.ensures.buffer ∙ close_long _ _
+    ap length c.close-a.ensures.buffer ∙ close_long _ _
 
 returns_closed : clause (λ (x : tie.Need-returns) (c : tie.After-tell). (x c).0)
 returns_closed c =
-    let e = c.before.before.before.before.close.ensures in
+    let e = c.before.before.before.before.close-a.ensures in
     record { answer = c.tell.ensures ∙ ap numbers e.answer; buffer = e.buffer }
 
 returns_lent : clause (λ (x : tie.Need-returns) (c : tie.After-tell). (x c).1)

@@ -27,7 +27,7 @@ reopened {l} {b} o q = record {
 }
 
 returns_opened : clause (λ (x : tie.Need-returns) (c : tie.After-tell). (x c).0)
-returns_opened c = reopened c.before.before.open.ensures c.tell.ensures
+returns_opened c = reopened c.before.before.open-a.ensures c.tell.ensures
 
 returns_lent : clause (λ (x : tie.Need-returns) (c : tie.After-tell). (x c).1)
 returns_lent c = refl

@@ -13,7 +13,7 @@ returns c =
 
 slice_aggregate_answer : tie.Need-slice_bounds-answer-end-2
 slice_aggregate_answer c =
-    sym (length-take-le c.keep-filled.result c.keep-filled.new.0 (omega (arith, c.keep-filled.ensures)))
+    sym (length-take-le c.keep-filled.result c.keep-filled.new.begun (omega (arith, c.keep-filled.ensures)))
 
 returns_2 : tie.Need-returns
 returns_2 c =

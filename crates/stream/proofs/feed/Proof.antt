@@ -28,7 +28,7 @@ take-sheet-requires c κs =
     let n = length-take-le c.loop-i.i x inv.0 in
     let r = length_rest x c.loop-i.i in (
       ready_for 0 _ inv.1.1.1.ready
-          (omega (arith, inv.1.1.0, inv.1.1.1.short, c.loop-i-test.true, c.requires.text-1)),
+          (omega (arith, inv.1.1.0, inv.1.1.1.short, c.loop-i-test.true, c.requires.text)),
       omega (arith, c.loop-i-test.true),
     )
 
@@ -53,9 +53,9 @@ loop-again c =
     let inv = c.loop-i.invariant in (
       omega (arith, c.loop-i-test.true, inside c.before.before.before.before.before.before),
       (
-        c.take_sheet-t.auto.1.1.0 ∙ inv.1.0,
+        c.take_sheet-t.auto.begun ∙ inv.1.0,
         (
-          c.take_sheet-t.auto.1.1.1.0 ∙ inv.1.1.0,
+          c.take_sheet-t.auto.text ∙ inv.1.1.0,
           took_next _ _ inv.1.1.1 c.take_sheet-t.ensures,
         ),
       ),

@@ -20,7 +20,7 @@ slice_aggregate_answer_ended c =
 
 answer-ended-requires : tie.Need-answer_ended-written-requires
 answer-ended-requires c κs =
-    ready_for _ 1 c.requires.0 (omega (arith, c.requires.0.text-1, c.requires.1))
+    ready_for _ 1 c.requires.0 (omega (arith, c.requires.0.text, c.requires.1))
 
 add_bytes : tie.Need-overflow_add-result
 add_bytes c =
@@ -29,7 +29,7 @@ add_bytes c =
 returns : tie.Need-returns-in-At
 returns c =
     let pre = c.requires in
-    let long = c.answer_ended-written.auto.1.1.0 ∙ pre.0.begun-1 in
+    let long = c.answer_ended-written.auto.begun ∙ pre.0.begun in
     took_ended _ pre.0 pre.1 long (ends c.before.before.before.before.before.before.before.before.before) c.answer_ended-written.ensures
 
 returns_2 : tie.Need-returns-in-Open
