@@ -63,12 +63,11 @@ returns c =
 
 -- 40 to 42 have passed
 abbrev past_42 : (c : tie.In-Closed) → (rest : List Check) × Past c.args.store.now c.args.head c.args.serials.now c.args.rows.now rest
-past_42 c =
-    (
-      _,
-      c.requires.so_far
-          ▸ steps_told c.requires c.opening.ensures (judged c.before) c.in-Closed.is,
-    )
+past_42 c = (
+  _,
+  c.requires.so_far
+      ▸ steps_told c.requires c.opening.ensures (judged c.before) c.in-Closed.is,
+)
 
 room-requires : tie.Need-check_room-room-requires
 room-requires c κs = c.requires.before.lines.good
@@ -96,12 +95,11 @@ returns_2 c =
 
 -- and 22
 abbrev past_22 : (c : tie.In-Passed) → (rest : List Check) × Past c.args.store.now c.args.head c.args.serials.now c.args.rows.now rest
-past_22 c =
-    (
-      _,
-      (past_42 c.before.before).1
-          ▸ shown (room_less c.requires (room_told c.before)) (enough_room c),
-    )
+past_22 c = (
+  _,
+  (past_42 c.before.before).1
+      ▸ shown (room_less c.requires (room_told c.before)) (enough_room c),
+)
 
 unused-requires : tie.Need-check_unused-unused-requires
 unused-requires c κs = c.requires.before.lines.good

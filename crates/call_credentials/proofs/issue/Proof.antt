@@ -28,13 +28,12 @@ returns_2 c =
 abbrev past_intervals : (c : tie.In-Passed-unbroken) →
     let a = c.args in
     (rest : List Check) × Past a.store.now a.kind a.formula a.interval rest
-past_intervals c =
-    (
-      _,
-      past_43 _ _ _ _
-          (past_3 _ _ _ _ c.check_ordered-ordered.ensures c.in-Passed.is)
-          c.check_unbroken-unbroken.ensures c.in-Passed-unbroken.is,
-    )
+past_intervals c = (
+  _,
+  past_43 _ _ _ _
+      (past_3 _ _ _ _ c.check_ordered-ordered.ensures c.in-Passed.is)
+      c.check_unbroken-unbroken.ensures c.in-Passed-unbroken.is,
+)
 
 returns_3 : tie.Need-returns-in_default-present
 returns_3 c =

@@ -26,12 +26,11 @@ returns_2 c =
 abbrev past_intervals : (c : tie.In-Passed-unbroken) →
     let a = c.args in
     (rest : List Check) × Past a.store.now a.row rest
-past_intervals c =
-    (
-      _,
-      past_43 _ _ (past_3 _ _ c.check_line_ordered-ordered.ensures c.in-Passed.is)
-          c.check_line_unbroken-unbroken.ensures c.in-Passed-unbroken.is,
-    )
+past_intervals c = (
+  _,
+  past_43 _ _ (past_3 _ _ c.check_line_ordered-ordered.ensures c.in-Passed.is)
+      c.check_line_unbroken-unbroken.ensures c.in-Passed-unbroken.is,
+)
 
 returns_3 : tie.Need-returns-in_default-present
 returns_3 c =

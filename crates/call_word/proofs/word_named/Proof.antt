@@ -18,13 +18,12 @@ returns c =
 
 -- 53 has passed
 abbrev past_53 : (c : tie.In-Passed) → (rest : List Check) × Past c.args.store.now c.args.row rest
-past_53 c =
-    (
-      _,
-      c.requires.so_far
-          ▸ shown (reworded (c.tested-apart.ensures 53) c.row_nested.ensures)
-          c.in-Passed.is,
-    )
+past_53 c = (
+  _,
+  c.requires.so_far
+      ▸ shown (reworded (c.tested-apart.ensures 53) c.row_nested.ensures)
+      c.in-Passed.is,
+)
 
 returns_2 : tie.Need-returns-in_default-small
 returns_2 c =

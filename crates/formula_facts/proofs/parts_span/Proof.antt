@@ -53,8 +53,7 @@ span_at_requires_3 c κs = (c.requires.good, (there_two c.before).1.0)
 
 both-requires : tie.Need-both-requires
 both-requires c κs =
-    let sizes = c.requires.good.bounded.sizes in
-    (
+    let sizes = c.requires.good.bounded.sizes in (
       gives_small _ _ c.span_at-in-Two.ensures (sizes c.in-Two.i),
       gives_small _ _ c.span_at-in-Two-2.ensures (sizes c.in-Two.j),
     )

@@ -14,12 +14,11 @@ returns c =
     rw (nests_is c.args.store.now c.args.row c.requires.canonical, ne_eqb _ _ c.if-row-ne-FOR_EVERY.true)
 
 quantified-at-requires : tie.Need-quantified_at-requires
-quantified-at-requires c κs =
-    (
-      c.requires.good,
-      (subst (There (ledger_of c.args.store.now))
-          (every_part c.args.row c.requires.canonical c.if-row-ne-FOR_EVERY.false) c.requires.there).0,
-    )
+quantified-at-requires c κs = (
+  c.requires.good,
+  (subst (There (ledger_of c.args.store.now))
+      (every_part c.args.row c.requires.canonical c.if-row-ne-FOR_EVERY.false) c.requires.there).0,
+)
 
 returns_2 : tie.Need-returns
 unfolding any_of

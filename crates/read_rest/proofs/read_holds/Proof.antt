@@ -25,22 +25,21 @@ abbrev decreases_loop : tie.decreases-loop-k
 decreases_loop s at count serials₀ i₀ k₀ serials i k = count - k
 
 loop-again : tie.Need-loop-k-preserved invariant-loop decreases_loop
-loop-again c =
-    (
-      search rules,
-      (
-        simp length-set c.loop-k.invariant.1.0,
-        c.loop-k.invariant.1.1 ∙ lines_turn _ _ _ _ c.loop-k-test.true
-            (seen (hold_of _) c.read_hold-h.ensures c.in-Serial.is) _
-            ∙ take_next c.loop-k.serials c.loop-k.k _ _
-            (omega (
-              arith,
-              c.loop-k.invariant.1.0,
-              c.loop-k-test.true,
-              c.requires.few,
-            )),
-      ),
-    )
+loop-again c = (
+  search rules,
+  (
+    simp length-set c.loop-k.invariant.1.0,
+    c.loop-k.invariant.1.1 ∙ lines_turn _ _ _ _ c.loop-k-test.true
+        (seen (hold_of _) c.read_hold-h.ensures c.in-Serial.is) _
+        ∙ take_next c.loop-k.serials c.loop-k.k _ _
+        (omega (
+          arith,
+          c.loop-k.invariant.1.0,
+          c.loop-k-test.true,
+          c.requires.few,
+        )),
+  ),
+)
 
 returns_2 : tie.Need-returns invariant-loop decreases_loop
 returns_2 c =

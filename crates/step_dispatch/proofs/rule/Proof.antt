@@ -31,11 +31,10 @@ returns_5 c =
     sym (rw c.in-Affirms-g.is (right_refused _ _ _ _ _ _ _ _ w.0 w.1))
 
 at-right-requires : tie.Need-at_right-requires
-at-right-requires c κs =
-    (
-      c.requires,
-      right_row c.step_at-s.ensures (omega arith) (omega arith),
-    )
+at-right-requires c κs = (
+  c.requires,
+  right_row c.step_at-s.ensures (omega arith) (omega arith),
+)
 
 at-left-requires : tie.Need-at_left-requires
 at-left-requires c κs =

@@ -14,12 +14,11 @@ by_case : {a e : Answer} → a ≡ e → line (told e) ≡ line (told a)
 by_case q = ap (λ (z : Answer). line (told z)) (sym q)
 
 returns : tie.Need-returns-in-Accepted
-returns c =
-    (
-      wrote_as (line_accepted _ ∙ by_case c.in-Accepted.is)
-          (wrote_then (wrote_then c.put_word-i.ensures c.put_field-j.ensures.0) c.put_byte.ensures),
-      omega (arith, c.put_byte.ensures.end, c.put_field-j.ensures.1, c.put_word-i.ensures.end),
-    )
+returns c = (
+  wrote_as (line_accepted _ ∙ by_case c.in-Accepted.is)
+      (wrote_then (wrote_then c.put_word-i.ensures c.put_field-j.ensures.0) c.put_byte.ensures),
+  omega (arith, c.put_byte.ensures.end, c.put_field-j.ensures.1, c.put_word-i.ensures.end),
+)
 
 returns_2 : tie.Need-returns-in-Counted
 returns_2 c =

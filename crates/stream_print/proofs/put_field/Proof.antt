@@ -6,16 +6,15 @@ use Rattle.stream_print.proofs.put_field.Statement.{statement}
 use Rattle.stream_print.proofs.put_field.Tie as tie
 
 returns : tie.Need-returns
-returns c =
-    (
-      wrote_then c.put_byte-i.ensures c.put_digits.ensures,
-      omega (
-        arith,
-        digits_few c.args.n c.ranges.n.fits,
-        c.put_digits.ensures.end,
-        c.put_byte-i.ensures.end,
-      ),
-    )
+returns c = (
+  wrote_then c.put_byte-i.ensures c.put_digits.ensures,
+  omega (
+    arith,
+    digits_few c.args.n c.ranges.n.fits,
+    c.put_digits.ensures.end,
+    c.put_byte-i.ensures.end,
+  ),
+)
 
 pub put_field_spec : {M : Type 1} → statement M
 put_field_spec =

@@ -14,15 +14,14 @@ slice_aggregate_copy c =
     sym (length-take-le (most - c.args.filled) c.args.bytes.now (omega (arith, c.if-bytes-room.false)))
 
 copy_requires_2 : tie.Need-copy-requires-2
-copy_requires_2 c κs =
-    (
-      c.requires.0,
-      omega (
-        arith,
-        c.requires.1,
-        length-take-le (most - c.args.filled) c.args.bytes.now (omega (arith, c.if-bytes-room.false)),
-      ),
-    )
+copy_requires_2 c κs = (
+  c.requires.0,
+  omega (
+    arith,
+    c.requires.1,
+    length-take-le (most - c.args.filled) c.args.bytes.now (omega (arith, c.if-bytes-room.false)),
+  ),
+)
 
 returns_2 : tie.Need-returns
 returns_2 c =

@@ -33,11 +33,10 @@ returns_2 c =
     end_at _ _ _ c.loop-i-test.true c.loop-i.invariant.1 c.if-piece-i.true
 
 loop-again : tie.Need-loop-i-preserved invariant-loop decreases_loop
-loop-again c =
-    (
-      c.loop-i-test.true,
-      end_on _ _ _ c.loop-i-test.true c.loop-i.invariant.1 c.if-piece-i.false,
-    )
+loop-again c = (
+  c.loop-i-test.true,
+  end_on _ _ _ c.loop-i-test.true c.loop-i.invariant.1 c.if-piece-i.false,
+)
 
 returns_3 : tie.Need-returns invariant-loop decreases_loop
 returns_3 c =

@@ -9,12 +9,11 @@ returns c =
     closed_short _ _ c.text_length-n.ensures.exact (c.tested-room.ensures 52) c.in_default.is
 
 put-text-requires : tie.Need-put_text-requires
-put-text-requires c κs =
-    (
-      c.requires,
-      has_room _ c.args.buffer.now c.text_length-n.ensures.exact (c.tested-room.ensures 52)
-          c.in-Passed.is,
-    )
+put-text-requires c κs = (
+  c.requires,
+  has_room _ c.args.buffer.now c.text_length-n.ensures.exact (c.tested-room.ensures 52)
+      c.in-Passed.is,
+)
 
 returns_2 : tie.Need-returns
 returns_2 c =

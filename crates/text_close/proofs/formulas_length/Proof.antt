@@ -26,12 +26,11 @@ count c =
     (e, omega (arith, e, c.requires.lines))
 
 loop-again : tie.Need-loop-i-preserved invariant-loop decreases_loop
-loop-again c =
-    (
-      omega (arith, c.loop-i-test.true),
-      measured_within (omega arith) (measured_next (formula_lines_holds _) _ c.loop-i.invariant.1
-          (measured_as (formula_as _ _ c.line_at-line.ensures) c.formula_length-k.ensures)),
-    )
+loop-again c = (
+  omega (arith, c.loop-i-test.true),
+  measured_within (omega arith) (measured_next (formula_lines_holds _) _ c.loop-i.invariant.1
+      (measured_as (formula_as _ _ c.line_at-line.ensures) c.formula_length-k.ensures)),
+)
 
 returns : tie.Need-returns invariant-loop decreases_loop
 returns c =

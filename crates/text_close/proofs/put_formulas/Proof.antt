@@ -35,12 +35,11 @@ room c =
     c.requires.1
 
 loop-again : tie.Need-loop-i-preserved invariant-loop decreases_loop
-loop-again c =
-    (
-      omega (arith, c.loop-i-test.true),
-      wrote_parts (room c.before.before.before.before.before) c.loop-i.invariant.1
-          (wrote_as (formula_as _ _ c.line_at-row.ensures) c.put_formula-k.ensures),
-    )
+loop-again c = (
+  omega (arith, c.loop-i-test.true),
+  wrote_parts (room c.before.before.before.before.before) c.loop-i.invariant.1
+      (wrote_as (formula_as _ _ c.line_at-row.ensures) c.put_formula-k.ensures),
+)
 
 returns : tie.Need-returns invariant-loop decreases_loop
 returns c =

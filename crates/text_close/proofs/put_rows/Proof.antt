@@ -30,11 +30,10 @@ room c =
     c.requires.1
 
 loop-again : tie.Need-loop-i-preserved invariant-loop decreases_loop
-loop-again c =
-    (
-      omega (arith, c.loop-i-test.true),
-      wrote_parts (room c.before.before.before.before) c.loop-i.invariant.1 c.put_row-k.ensures,
-    )
+loop-again c = (
+  omega (arith, c.loop-i-test.true),
+  wrote_parts (room c.before.before.before.before) c.loop-i.invariant.1 c.put_row-k.ensures,
+)
 
 returns : tie.Need-returns invariant-loop decreases_loop
 returns c =
@@ -53,8 +52,7 @@ put_rows_spec =
     (λ c. part_start (room c) c.loop-i.invariant.1)
     (λ c. part_start (room c) c.loop-i.invariant.1)
     (λ c. search rules)
-    (λ c κs.
-    (
+    (λ c κs. (
       c.requires.0,
       omega (arith, c.loop-i-test.true, c.row_count-n.ensures),
       part_room (room c.before) c.loop-i.invariant.1,

@@ -21,11 +21,10 @@ few : (c : tie.After-row_count-n invariant-loop decreases_loop) → c.row_count-
 few c = omega (arith, c.row_count-n.ensures, c.requires.ordered.few)
 
 loop-again : tie.Need-loop-i-preserved invariant-loop decreases_loop
-loop-again c =
-    (
-      omega (arith, c.loop-i-test.true),
-      measured_within (omega arith) (measured_next (row_lines_holds _) _ c.loop-i.invariant.1 c.row_length-k.ensures),
-    )
+loop-again c = (
+  omega (arith, c.loop-i-test.true),
+  measured_within (omega arith) (measured_next (row_lines_holds _) _ c.loop-i.invariant.1 c.row_length-k.ensures),
+)
 
 returns : tie.Need-returns invariant-loop decreases_loop
 returns c =

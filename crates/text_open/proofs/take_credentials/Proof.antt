@@ -19,12 +19,11 @@ abbrev decreases_loop : tie.decreases-loop-k
 decreases_loop spare₀ text at count next i₀ k₀ spare i k = count - k
 
 returns : tie.Need-returns-in_default invariant-loop decreases_loop
-returns c =
-    (
-      no_credential c.loop-k.invariant c.loop-k-test.true
-          (seen (credential_from _) c.credential_line-f.ensures c.in_default.is),
-      c.loop-k.invariant.asked.raisable,
-    )
+returns c = (
+  no_credential c.loop-k.invariant c.loop-k-test.true
+      (seen (credential_from _) c.credential_line-f.ensures c.in_default.is),
+  c.loop-k.invariant.asked.raisable,
+)
 
 pub take_credentials_spec : {M : Type 1} → statement M
 take_credentials_spec =

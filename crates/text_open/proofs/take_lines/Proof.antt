@@ -20,12 +20,11 @@ abbrev decreases_loop : tie.decreases-loop-k
 decreases_loop spare₀ text at count i₀ k₀ spare i k = count - k
 
 returns : tie.Need-returns-in_default invariant-loop decreases_loop
-returns c =
-    (
-      no_line c.loop-k.invariant c.loop-k-test.true
-          (row_none _ (seen (formula_of _) c.formula_line-f.ensures c.in_default.is)),
-      c.loop-k.invariant.asked.good,
-    )
+returns c = (
+  no_line c.loop-k.invariant c.loop-k-test.true
+      (row_none _ (seen (formula_of _) c.formula_line-f.ensures c.in_default.is)),
+  c.loop-k.invariant.asked.good,
+)
 
 pub take_lines_spec : {M : Type 1} → statement M
 take_lines_spec =
