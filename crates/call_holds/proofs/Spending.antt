@@ -63,7 +63,8 @@ module _ (t : Ledger) (ns : List ℕ) where
     pub alive : Every (Alive live) (drop k ns)
     pub apart : Apart (drop k ns)
 
-  pub first_spent : (l : List ℕ) → Good l → ledger_of l ≡ t → any_of (dead t) ns ≡ false → twice ns ≡ false → Spending 0 l
+  pub first_spent : (l : List ℕ) → Good l → ledger_of l ≡ t → any_of (dead t) ns ≡ false → twice ns ≡ false
+      → Spending 0 l
   first_spent l g e a b = record {
     live = t.live;
     stands = record { good = g; ledger = e };

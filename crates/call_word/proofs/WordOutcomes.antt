@@ -41,7 +41,8 @@ named_formable {l} {x} n = record {
 }
 
 -- 3 and 43, by their verdicts
-intervals_told : {n : ℕ} (p : Interval → Bool) (x : Row) {v : Verdict} → Tells n v (any_of p (line_intervals (line_of x)))
+intervals_told : {n : ℕ} (p : Interval → Bool) (x : Row) {v : Verdict}
+    → Tells n v (any_of p (line_intervals (line_of x)))
     → Tells n v (any_of p (intervals (word (line_of x))))
 unfolding intervals
 intervals_told p x h = h
@@ -50,7 +51,8 @@ intervals_told p x h = h
 abbrev pub after_3 : List ℕ → Row → List Check
 after_3 l x = (43 if any_of broken (intervals (word (line_of x)))) ∷ checks (ledger_of l) (word (line_of x))
 
-pub past_3 : (l : List ℕ) (x : Row) {v : Verdict} → Tells 3 v (any_of reversed (line_intervals (line_of x))) → v ≡ Passed
+pub past_3 : (l : List ℕ) (x : Row) {v : Verdict} → Tells 3 v (any_of reversed (line_intervals (line_of x))) → v
+    ≡ Passed
     → Past l x (after_3 l x)
 past_3 l x h e = from_start ▸ shown (intervals_told reversed x h) e
 

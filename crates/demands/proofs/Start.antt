@@ -188,5 +188,6 @@ module _ (t : Ledger) (tb : Tabled t) (le : length t.lines ≤ max_formulas) whe
       let n : 0 + length cs ≡ length cs = omega arith in
       subst₂ (λ (R D : List Hyp). Started f (length cs) r d (start_labels t cs) R D)
       (append-nil (hyps_of t Unrestricted cs)) (append-nil (hyps_of t Linear cs))
-      (subst (λ (m : ℕ). Started f m r d (start_labels t cs) (hyps_of t Unrestricted cs ++ []) (hyps_of t Linear cs ++ []))
+      (subst (λ (m : ℕ). Started f m r d (start_labels t cs) (hyps_of t Unrestricted cs ++ [])
+      (hyps_of t Linear cs ++ []))
       n b)

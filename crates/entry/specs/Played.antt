@@ -96,7 +96,8 @@ pub record LaterCall (t : Ledger) (l b n l' : List ℕ) (k : Booking) (now : ℕ
   pub sheet : b ≡ headed k k.now k.interval lines
   pub reads : request_of (headed k now i lines) ≡ some (book (arriving k now i))
   pub answer : (m l'' : List ℕ) → Entered l (headed k now i lines) m l'' → m ≡ n
-  pub consumes : (m l'' : List ℕ) → Entered l (headed k now i lines) m l'' → SameBut t k i (ledger_of l') (ledger_of l'')
+  pub consumes : (m l'' : List ℕ) → Entered l (headed k now i lines) m l''
+      → SameBut t k i (ledger_of l') (ledger_of l'')
 
 abbrev pub CallsArrive : Type 0
 CallsArrive =

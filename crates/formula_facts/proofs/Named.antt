@@ -22,7 +22,8 @@ use Rattle.ledger.specs.Bounds.{There}
 use Rattle.store.specs.Store.{line_of, ledger_of, Canonical}
 use Rattle.formula_parts.specs.declared.Parts.{Parts}
 use Rattle.formula_parts.specs.Parts.{among, plains, parts_of, numbers}
-use Rattle.formula_parts.proofs.PartsOfRows.{size_row, plain_row, unbound_row, quantified_row, parts_row, size_row_holds}
+use Rattle.formula_parts.proofs.PartsOfRows.{size_row, plain_row, unbound_row, quantified_row, parts_row}
+use Rattle.formula_parts.proofs.PartsOfRows.{size_row_holds}
 use Rattle.formula_parts.proofs.PartsOfRows.{plain_row_holds, unbound_row_holds, quantified_row_holds}
 use Rattle.formula_facts.specs.Facts.{Formable}
 

@@ -94,7 +94,8 @@ has_one m c = by_kind c.kind (bit (has c.interval m)) 0
 abbrev lacks_one : ℕ → Credential → ℕ
 lacks_one m c = by_kind c.kind (bit (not (has c.interval m))) 0
 
-open_is : (s : ℕ) (a : Formula) (k : Kind) (b : Bool) → by_kind k (open_in b s a) 0 ≡ by_kind k (bit b) 0 * house_seats s a
+open_is : (s : ℕ) (a : Formula) (k : Kind) (b : Bool) → by_kind k (open_in b s a) 0
+    ≡ by_kind k (bit b) 0 * house_seats s a
 open_is s a Linear true = sym (one-mul (house_seats s a))
 open_is s a Linear false = sym (zero-mul (house_seats s a))
 open_is s a Unrestricted b = sym (zero-mul (house_seats s a))

@@ -88,7 +88,8 @@ or_parts a f (k ∷ j ∷ ks) = f k + f j
 -- a row's, from its parts'; T gives the formulas of the numbers that it names
 module _ (T : ℕ → Formula) where
   pub row_gives : (under : Bool) (s : ℕ) (l : Line)
-      → or_parts (atom_gives under s (row_of l)) (λ k. gives_under (nearest under (row_of l)) s (T k)) (parts_of (row_of l))
+      → or_parts (atom_gives under s (row_of l)) (λ k. gives_under (nearest under (row_of l)) s (T k))
+      (parts_of (row_of l))
       ≡ gives_under under s (form T l)
   unfolding gives_under count house_under parts_of
   row_gives u s (Line.atom p t) = sym (atom_gives_holds u s p t)

@@ -156,7 +156,8 @@ module _ (bits f : ℕ → ℕ) where
       blocks set_width ∙ to_end n (set_lines * set_width) at le (λ k h l. past k h l _ refl)
       ∙ to_same n _ _ (λ k h. here k h _ refl)
     where
-      past : (k : ℕ) → n ≤ k → k < set_lines * set_width → (b : Bool) → member (bits (k / set_lines)) (k % set_lines) ≡ b
+      past : (k : ℕ) → n ≤ k → k < set_lines * set_width → (b : Bool) → member (bits (k / set_lines)) (k % set_lines)
+          ≡ b
           → only b (f k) ≡ 0
       past k h l true e = absurd (omega (arith, within (k / set_lines) (k % set_lines) (omega arith) (omega arith) e))
       past k h l false e = refl

@@ -195,7 +195,8 @@ module _ (t : Ledger) (s m d : ℕ) (bits : ℕ → ℕ) where
   }
 
   module _ {rest o a p : ℕ} (u : Adding t s m d bits rest o a p) (h : 0 < rest) (l : rest < 2 ^ set_lines) {r : Sums}
-      (v : SetAdded t s m (set_lines * count_trailing_zeros set_lines rest) (bits (count_trailing_zeros set_lines rest)) r) where
+      (v : SetAdded t s m (set_lines * count_trailing_zeros set_lines rest)
+      (bits (count_trailing_zeros set_lines rest)) r) where
     pub adding_next : Adding t s m d bits (bit_and rest (rest - 1)) (o + r.«open») (a + r.seats) (p + r.places)
     adding_next = record {
       within = omega (arith, and_le_l rest (rest - 1), u.within);

@@ -36,7 +36,8 @@ each_part l g (k ∷ ks) h s = ((omega arith, (g, h.0)), each_part l g ks h.1 (o
 -- above its parts is the house's.
 pub record Parted (l : List ℕ) (m n : ℕ) (under : Bool) (s a : ℕ) (v : Bool) (ks : List ℕ) : Type 0 where
   pub each : Every (Part l m) ks
-  pub gives : or_parts a (λ k. gives_under v s (formula (ledger_of l) k)) ks ≡ gives_under under s (formula (ledger_of l) n)
+  pub gives : or_parts a (λ k. gives_under v s (formula (ledger_of l) k)) ks
+      ≡ gives_under under s (formula (ledger_of l) n)
   pub small : gives_under under s (formula (ledger_of l) n) ≤ (1 + place_unit + house_unit) * max_size
 
 module _ (l : List ℕ) (g : Good l) (n : ℕ) (under : Bool) (s : ℕ) (r : Row) (er : r ≡ row_at l n) where

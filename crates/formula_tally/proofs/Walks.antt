@@ -136,7 +136,8 @@ module _ (l : List ℕ) (m n : ℕ) where
           u,
           with_last i g,
           ap (λ (z : ℕ). sum (with_of m n) (tab z (credential_at l))) e
-              ∙ ap (sum (with_of m n)) (tab_snoc i (credential_at l)) ∙ snoc_sum (with_of m n) (tab i (credential_at l)) _,
+              ∙ ap (sum (with_of m n)) (tab_snoc i (credential_at l))
+              ∙ snoc_sum (with_of m n) (tab i (credential_at l)) _,
           w.with,
         );
         without = omega (

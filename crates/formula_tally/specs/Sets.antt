@@ -1,4 +1,5 @@
--- Sets of formulas, as numbers: bit j of number w stands for formula set_lines * w + j. What the formulas of a set give.
+-- Sets of formulas, as numbers: bit j of number w stands for formula set_lines * w + j. What the formulas of a set
+-- give.
 use Rattle.std.specs.Prelude.{◌≡◌, true, ℕ, ◌+◌, ◌*◌, ◌<◌}
 use Rattle.ledger.specs.Ledger.{Ledger}
 use Rattle.ledger.specs.Calls.{only}

@@ -29,7 +29,8 @@ unfolding played AnsweredFrom AllAnswered
 pause_cases_play = (refl, (refl, (refl, tt)))
 
 pub connective_cases_play : ConnectiveCasesPlay
-unfolding played AnsweredFrom AllAnswered refused_left refused_left_affirmed refused_right refused_axiom refused_standing
+unfolding played AnsweredFrom AllAnswered refused_left refused_left_affirmed refused_right refused_axiom
+    refused_standing
     refused_affirmed
 connective_cases_play = (refl, (refl, (refl, (refl, (refl, (refl, tt))))))
 

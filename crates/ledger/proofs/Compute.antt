@@ -26,10 +26,13 @@ use Rattle.ledger.specs.Sessions.{of_lines}
 -- what a list of requests, each given by its lines, is answered from the empty ledger on
 unfoldable pub played : List (List String) → List Told
 unfolding in_break has covers contains same_interval reversed broken size count house_under plain unbound quantified sum
-    up even sessions_of all_of balanced bytes same_bytes and_then push fields push_line lines reads decimal_digit hex_digit
+    up even sessions_of all_of balanced bytes same_bytes and_then push fields push_line lines reads decimal_digit
+    hex_digit
     decimal number_in label_set_in return ◌>>=◌ next many named choose ended whole line steps_intervals intervals number
     label_set interval kind part parts formula_line_with labelled step_line hold_line book_line first_line_with rest
-    request_lines request_with when right affirmed left atomic instance_row plan_of max_labels begin judged onward follow
-    premise_of finished check_of build formulas find without_serial held linear_count spend ◌if◌ first any_of same_row twice
+    request_lines request_with when right affirmed left atomic instance_row plan_of max_labels begin judged onward
+    follow
+    premise_of finished check_of build formulas find without_serial held linear_count spend ◌if◌ first any_of same_row
+    twice
     labels_of verdict steps checks checks_of open_seats shut_seats placed accept decide call answers of_lines
 played rs = map told (answers empty (map of_lines rs))

@@ -114,7 +114,8 @@ call_long t b l =
     ap (λ (o : Option Refusal). decide t o (request_of b))
     (stopped_at {all = checks_of t b} from_start (if_true 1 _ (lt-ltb _ _ l)))
 
-pub call_none : (t : Ledger) (b : List ℕ) → length b ≤ max_bytes → request_of b ≡ none → call t b ≡ reply (Refused 2 0) t
+pub call_none : (t : Ledger) (b : List ℕ) → length b ≤ max_bytes → request_of b ≡ none → call t b
+    ≡ reply (Refused 2 0) t
 unfolding call decide checks_of
 call_none t b l e =
     ap (λ (o : Option Refusal). decide t o (request_of b))

@@ -91,6 +91,7 @@ line_tabled t l h r = record {
     more : (k : Line) → There t (names k) → There (with_line t l) (names k)
     more k = every_map (λ i le. omega (arith, length-append t.lines (l ∷ []))) (names k)
 
-    wider : (n : ℕ) (b : Bool) → There (with_line t l) (names (elim b as (λ z. Line) [ true ↦ l | false ↦ line_at t n ]))
+    wider : (n : ℕ) (b : Bool)
+        → There (with_line t l) (names (elim b as (λ z. Line) [ true ↦ l | false ↦ line_at t n ]))
     wider n true = more l r
     wider n false = more (line_at t n) (h.refs n)

@@ -1,6 +1,7 @@
 -- Document 01's section "Where a sheet is stopped": the checks of a request, in the table's order, for each kind.
 -- `n if test` is a row of the table: refusal n is given exactly if the test is true.
-use Rattle.std.specs.Prelude.{List, [], ◌∷◌, ◌++◌, map, Bool, true, false, ◌&&◌, ◌||◌, not, ℕ, suc, ◌-◌, eqb, leb, ltb, length}
+use Rattle.std.specs.Prelude.{List, [], ◌∷◌, ◌++◌, map, Bool, true, false, ◌&&◌, ◌||◌, not, ℕ, suc, ◌-◌, eqb, leb, ltb}
+use Rattle.std.specs.Prelude.{length}
 use Rattle.std.proofs.Math.Option.{Option, none, some}
 use Prim.Native.Char.{code}
 use Rattle.logic.specs.declared.Interval.{Interval}

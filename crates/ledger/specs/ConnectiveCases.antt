@@ -92,7 +92,8 @@ other_lefts =
     ∷ "hold,11" ∷ "hold,12" ∷ [])
     ++ refused_left "hl,1" ("hold,1" ∷ "hold,3" ∷ "hold,4" ∷ "hold,5" ∷ "hold,6" ∷ "hold,7" ∷ "hold,8" ∷ "hold,9"
     ∷ "hold,11" ∷ "hold,12" ∷ [])
-    ++ refused_left_affirmed "sl,1" ("hold,1" ∷ "hold,3" ∷ "hold,4" ∷ "hold,5" ∷ "hold,6" ∷ "hold,7" ∷ "hold,8" ∷ "hold,9"
+    ++ refused_left_affirmed "sl,1"
+    ("hold,1" ∷ "hold,3" ∷ "hold,4" ∷ "hold,5" ∷ "hold,6" ∷ "hold,7" ∷ "hold,8" ∷ "hold,9"
     ∷ "hold,10" ∷ "hold,12" ∷ [])
 
 -- a right step for the goal left of ⊸ in each of these holds breaks its rule

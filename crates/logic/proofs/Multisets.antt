@@ -15,7 +15,8 @@ module _ {A : Type 0} where
   pub ins_swap : {a b : A} {us vs ws : List A} → Ins a us vs → Ins b vs ws → (ts : List A) × Ins a ts ws × Ins b us ts
   ins_swap {b = b} {us = us} i (here {y = y} e) = (y ∷ us, there i, here e)
   ins_swap (here {xs = xs} e) (there {ys = ys} {zs = zs} k) = (zs, here e, k)
-  ins_swap {us = _} (there {y = y} {ys = ys} i) (there k) = let w = ins_swap {us = ys} i k in (y ∷ w.0, there w.1, there w.2)
+  ins_swap {us = _} (there {y = y} {ys = ys} i) (there k) =
+      let w = ins_swap {us = ys} i k in (y ∷ w.0, there w.1, there w.2)
 
   -- what is put into a permuted list can be found in the permutation
   pub ins_perm : {x : A} {ys zs ws : List A} → Ins x ys zs → Perm zs ws → (vs : List A) × Ins x vs ws × Perm ys vs

@@ -8,7 +8,8 @@ use lib.Dec.{eqb}
 use Rattle.logic.specs.Formula.{Formula, atom, one, tensor, with, plus, lolli, implies, bang, at, says, superset}
 use Rattle.logic.specs.Formula.{for_every, size, count, seat, place, seats, places, house_under}
 use Rattle.logic.specs.Span.{Spans}
-use Rattle.logic.specs.Packed.{byte, place_unit, house_unit, under_unit, counts, seats_in, places_in, house_in, under_in}
+use Rattle.logic.specs.Packed.{byte, place_unit, house_unit, under_unit, counts, seats_in, places_in, house_in}
+use Rattle.logic.specs.Packed.{under_in}
 use Rattle.logic.proofs.Tests.{bit_le}
 use Rattle.logic.proofs.Houses.{house_seats_holds}
 

@@ -82,7 +82,8 @@ module _ (r : Range) where
       by_test (eqb x 48) (λ z. rw (z, number_in, decimal, and_then))
       (λ z. rw (z, number_in, decimal, no_digit x e 0 (y ∷ t), and_then))
 
-  more_on : (x d v : ℕ) → decimal_digit x ≡ some d → 1 ≤ v → (t : List ℕ) → more_in r v (x ∷ t) ≡ more_in r (v * 10 + d) t
+  more_on : (x d v : ℕ) → decimal_digit x ≡ some d → 1 ≤ v → (t : List ℕ) → more_in r v (x ∷ t)
+      ≡ more_in r (v * 10 + d) t
   unfolding more_in
   more_on x d v e h t =
       rw (more_reads v (x ∷ t) h, digit_on x d e v t, more_reads (v * 10 + d) t (omega arith))
@@ -138,7 +139,8 @@ module _ (r : Range) (stop : ℕ) where
       go [] l = refl
       go (x ∷ t) l = absurd (omega arith)
 
-  pub start_no : Stop stop → (x : ℕ) (xs : List ℕ) → decimal_digit x ≡ none → field_to stop (number_in r) (x ∷ xs) ≡ none
+  pub start_no : Stop stop → (x : ℕ) (xs : List ℕ) → decimal_digit x ≡ none → field_to stop (number_in r) (x ∷ xs)
+      ≡ none
   unfolding number_in decimal and_then
   start_no h x xs e =
       by_test (eqb x stop) (λ z. field_stop stop (number_in r) x xs h (eqb-true x stop z))

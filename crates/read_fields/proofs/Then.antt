@@ -43,7 +43,8 @@ then_given (just {a = a} p) h = h a p
 
 -- what was read in two parts
 pub then_pair : {A B C D : Type 0} (o : Option A) (g : A → Option B) (h : A → B → C) (k : C → Option D)
-    → and_then (and_then o (λ a. and_then (g a) (λ b. some (h a b)))) k ≡ and_then o (λ a. and_then (g a) (λ b. k (h a b)))
+    → and_then (and_then o (λ a. and_then (g a) (λ b. some (h a b)))) k
+    ≡ and_then o (λ a. and_then (g a) (λ b. k (h a b)))
 unfolding and_then
 then_pair o g h k = then_then o _ k ∙ then_same o (λ a. then_then (g a) _ k)
 

@@ -1,6 +1,7 @@
 -- Fields of bytes: what the code's contracts say is read from the bytes from a position on. What a text reads as is
 -- the definition's own (crate request, Text.antt).
-use Rattle.std.specs.Prelude.{◌≡◌, List, [], ◌∷◌, Bool, true, false, ◌||◌, ◌&&◌, ℕ, ◌+◌, ◌*◌, ◌≤◌, ◌<◌, eqb, leb, length, drop}
+use Rattle.std.specs.Prelude.{◌≡◌, List, [], ◌∷◌, Bool, true, false, ◌||◌, ◌&&◌, ℕ, ◌+◌, ◌*◌, ◌≤◌, ◌<◌, eqb, leb}
+use Rattle.std.specs.Prelude.{length, drop}
 use Rattle.std.proofs.Math.Option.{Option, none, some}
 use Rattle.request.specs.Range.{Range}
 use Rattle.request.specs.Text.{and_then, reads, decimal_digit, hex_digit}

@@ -99,7 +99,8 @@ module _ (s : List ℕ) (i : ℕ) where
   letter_line : i + 1 < length s → read_line formula_line (drop i s)
       ≡ onward (get_or s (i + 1) 0) (λ ts. formula_line ((get_or s i 0 ∷ []) ∷ ts)) (drop (i + 2) s)
   unfolding formula_line_with bytes inside
-  letter_line h = rw (here2 s i h) (word_line 1 _ refl refl (get_or s i 0 ∷ []) (get_or s (i + 1) 0) (drop (i + 2) s) refl)
+  letter_line h = rw (here2 s i h)
+      (word_line 1 _ refl refl (get_or s i 0 ∷ []) (get_or s (i + 1) 0) (drop (i + 2) s) refl)
 
   module _ (h : i + 1 < length s) where
     -- a letter and a comma
@@ -115,12 +116,14 @@ module _ (s : List ℕ) (i : ℕ) where
     unfolding formula_line_with choose named same_bytes bytes
     letter_one q k = letter_line h ∙ rw q (onward_end Line.one (drop (i + 2) s) k)
 
-    pub letter_one_bare : get_or s i 0 ≡ code "o" → (get_or s (i + 1) 0 ≡ 10 → ⊥) → read_line formula_line (drop i s) ≡ none
+    pub letter_one_bare : get_or s i 0 ≡ code "o" → (get_or s (i + 1) 0 ≡ 10 → ⊥) → read_line formula_line (drop i s)
+        ≡ none
     unfolding formula_line_with choose named same_bytes bytes
     letter_one_bare q k = letter_line h ∙ rw q (onward_on Line.one (drop (i + 2) s) k)
 
     -- a letter of a line with fields, and no comma
-    pub letter_bare : (get_or s i 0 ≡ code "o" → ⊥) → (get_or s (i + 1) 0 ≡ 44 → ⊥) → read_line formula_line (drop i s) ≡ none
+    pub letter_bare : (get_or s i 0 ≡ code "o" → ⊥) → (get_or s (i + 1) 0 ≡ 44 → ⊥) → read_line formula_line (drop i s)
+        ≡ none
     unfolding formula_line_with bytes number interval part parts next ◌>>=◌ and_then
     letter_bare n k =
         letter_line h ∙ onward_bare _ (drop (i + 2) s) k

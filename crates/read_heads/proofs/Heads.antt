@@ -14,7 +14,8 @@ use Rattle.request.specs.Range.{Range, minute, formula_number, serial, session, 
 use Rattle.request.specs.Text.{bytes, same_bytes, and_then, lines, number_in}
 use Rattle.request.specs.Reader.{return, ◌>>=◌, next, named, choose, whole, ended}
 use Rattle.request.specs.Request.{Request, word, issue, withdraw, tally}
-use Rattle.request.specs.Read.{number, interval, kind, formula_line, formula_line_with, first_line_with, book_line, rest}
+use Rattle.request.specs.Read.{number, interval, kind, formula_line, formula_line_with, first_line_with, book_line}
+use Rattle.request.specs.Read.{rest}
 use Rattle.request.specs.Read.{alone, booking, request_of, Head as FirstLine}
 use Rattle.request.specs.InRange.{◌in_range◌, IntervalInRange}
 use Rattle.request.proofs.Gives.{Gives, nothing, just, given, gives_then}

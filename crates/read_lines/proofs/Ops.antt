@@ -115,7 +115,8 @@ module _ (op : ℕ) where
       (λ k. rw (e, f, a, g, k)))))))
 
 module _ (b : List ℕ) where
-  pub set_line : read_line (step_reader tr_number) b ≡ and_then (field_to 10 label_set_in b) (λ v. some (Step.tr v.0, v.1))
+  pub set_line : read_line (step_reader tr_number) b
+      ≡ and_then (field_to 10 label_set_in b) (λ v. some (Step.tr v.0, v.1))
   unfolding step_reader
   set_line = set_shape.last Step.tr b
 
@@ -214,4 +215,5 @@ module _ (s : List ℕ) (i : ℕ) where
     pub step_none : get_or s (i + 2) 0 ≡ 44 → al_number ≤ op → (op ≡ al_number → ⊥) → (op ≡ ll_number → ⊥)
         → (op ≡ ul_number → ⊥) → read_line step_line (drop i s) ≡ none
     step_none e l k n m =
-        step_fields_holds e op refl ∙ rw (reader_none op l k n m) (line_none _ (λ ts. whole_none _ ts refl) (drop (i + 3) s))
+        step_fields_holds e op refl
+        ∙ rw (reader_none op l k n m) (line_none _ (λ ts. whole_none _ ts refl) (drop (i + 3) s))

@@ -314,7 +314,11 @@ hex_after : (m : ℕ) (xs : List ℕ) (k v : ℕ) → k + length xs ≡ m → v 
 unfolding reads
 hex_after m [] k v e h =
     let i : m ≡ k = omega arith in
-    just (subst (λ (j : ℕ). v < 16 ^ j) (sym i) h, ap (λ (j : ℕ). hex_written j v) i ∙ sym (append-nil (hex_written k v)))
+    just (
+      subst (λ (j : ℕ). v < 16 ^ j) (sym i) h,
+      ap (λ (j : ℕ). hex_written j v) i
+          ∙ sym (append-nil (hex_written k v)),
+    )
 hex_after m (x ∷ xs) k v e h =
     gives_then (hex_digit_holds.only x) (λ d p.
     gives_so (hex_after m xs (suc k) (v * 16 + d) (omega arith) (omega (arith, pow-suc 16 k, p.0)))

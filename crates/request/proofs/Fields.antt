@@ -98,7 +98,8 @@ pub kind_exact : Exact 48 kind AnyKind (λ k. kind_field k ∷ []) 2
 unfolding kind kind_field bytes same_bytes choose named all_of
 kind_exact = record {
   reads = go;
-  only = choose_only (◌also◌ {t = "s"} (only_return Linear tt refl) (◌also◌ {t = "r"} (only_return Unrestricted tt refl) done));
+  only = choose_only (◌also◌ {t = "s"} (only_return Linear tt refl)
+      (◌also◌ {t = "r"} (only_return Unrestricted tt refl) done));
 }
   where
     go : (k : Kind) → AnyKind k → Reads 48 kind k (kind_field k ∷ []) 2

@@ -14,7 +14,8 @@ use Rattle.snapshot.specs.Reopen.{settle, reopen, close}
 
 -- the text of the ledger that a text is opened as
 unfoldable pub rewritten : List ℕ → List ℕ
-unfolding played after written digits joined ended_lines minutes kind_field line_fields holder_line edition_of edition_fields
+unfolding played after written digits joined ended_lines minutes kind_field line_fields holder_line edition_of
+    edition_fields
     title_fields credential_fields texts_in text counts edition title_line credential_line body saved_lines saved_of
     as_written snapshot_of
     rising bad_lines bad_credential unruly open_checks settle reopen close

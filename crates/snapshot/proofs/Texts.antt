@@ -68,7 +68,8 @@ edition_exact : Exact 48 edition TitleInRange edition_fields 19
 unfolding edition edition_fields bytes same_bytes choose named all_of
 edition_exact = record {
   reads = λ h. go h.edition h;
-  only = choose_only (◌also◌ {t = "1"} (counts_only First (λ n l c. refl)) (◌also◌ {t = "2"} (counts_only Second (λ n l c. refl)) done));
+  only = choose_only (◌also◌ {t = "1"} (counts_only First (λ n l c. refl))
+      (◌also◌ {t = "2"} (counts_only Second (λ n l c. refl)) done));
 }
   where
     go : (e : Edition) (h : Title) → TitleInRange h
@@ -127,7 +128,8 @@ body_only : (h : Title) → TitleInRange h
     → Only (λ s. InForm s.1) saved_texts (joined (title_fields h) ∷ []) (body h)
 unfolding body texts_in
 body_only h r =
-    only_then _ (many_only formula_line_holds h.lines) (λ ls p. only_then _ (many_only credential_line_holds h.live) (λ cs q.
+    only_then _ (many_only formula_line_holds h.lines)
+    (λ ls p. only_then _ (many_only credential_line_holds h.live) (λ cs q.
     only_return _
     (record {
       next = r.next;
@@ -184,7 +186,11 @@ text_only b = gives_then (saved_only b) (λ s p. go s.0 s.1 (same_edition s.0 (o
         → InForm t × (ended_lines (texts_in e t) ≡ b)
         → Gives (λ t. InForm t × (text t ≡ b)) (pick x (some t) none)
     go e t true h p =
-        just (p.0, ap (λ (d : Edition). ended_lines (texts_in d t)) (sym (same_edition_holds e (own_edition t) h)) ∙ p.1)
+        just (
+          p.0,
+          ap (λ (d : Edition). ended_lines (texts_in d t)) (sym (same_edition_holds e (own_edition t) h))
+              ∙ p.1,
+        )
     go e t false h p = nothing
 
 pub read_in_form : (b : List ℕ) (t : Ledger) → snapshot_of b ≡ some t → InForm t

@@ -1,7 +1,8 @@
 -- The ledger as text (document 02, ask 5: "the till written as text into a lent buffer and read again"). "First line
 -- `till,1,next,wordings,coupons`, then the wording lines in order, then `serial,kind,wording` and the window's fields
 -- for each live coupon, serials rising." Ask 8: or `till,2`.
-use Rattle.std.specs.Prelude.{◌≡◌, List, [], ◌∷◌, ◌++◌, map, Bool, true, false, ◌&&◌, ◌||◌, not, ℕ, ◌+◌, ◌*◌, eqb, leb, ltb, length}
+use Rattle.std.specs.Prelude.{◌≡◌, List, [], ◌∷◌, ◌++◌, map, Bool, true, false, ◌&&◌, ◌||◌, not, ℕ, ◌+◌, ◌*◌, eqb, leb}
+use Rattle.std.specs.Prelude.{ltb, length}
 use Rattle.std.proofs.Math.Option.{Option, none, some}
 use Prim.Native.Char.{code}
 use Rattle.logic.specs.Choice.{pick}
@@ -14,7 +15,8 @@ use Rattle.request.specs.Write.{digits, joined, ended_lines, minutes, kind_field
 use Rattle.ledger.specs.declared.Credential.{Credential}
 use Rattle.ledger.specs.Table.{row_of}
 use Rattle.ledger.specs.Ledger.{Ledger, is_none}
-use Rattle.ledger.specs.Checks.{Check, ◌if◌, first, any_of, max_formulas, max_live, word_rules, issue_rules, interval_checks}
+use Rattle.ledger.specs.Checks.{Check, ◌if◌, first, any_of, max_formulas, max_live, word_rules, issue_rules}
+use Rattle.ledger.specs.Checks.{interval_checks}
 use Rattle.snapshot.specs.declared.Edition.{Edition}
 use Rattle.snapshot.specs.declared.Edition.TheVariants.{First, Second}
 

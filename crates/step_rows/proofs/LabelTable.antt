@@ -20,7 +20,8 @@ stays : (t : List ℕ) (n : ℕ) (h : Hypothesis) → length t ≡ label_cells �
 unfolding put_label
 stays t n h g = length-sets t (label_place n) (cells h) ∙ g
 
-reads : (t : List ℕ) (n : ℕ) (h : Hypothesis) → length t ≡ label_cells → n < max_labels → label_at (put_label t n h) n ≡ h
+reads : (t : List ℕ) (n : ℕ) (h : Hypothesis) → length t ≡ label_cells → n < max_labels → label_at (put_label t n h) n
+    ≡ h
 unfolding label_at put_label max_labels
 reads t n h g l =
     let at : (f : ℕ) → f < label_width

@@ -20,10 +20,12 @@ pub length_put : (l : List ℕ) (k : ℕ) (r : StepRow) → length (put_step_row
 unfolding put_step_row
 length_put l k r = length-sets l (step_place k) (cells r)
 
-row_put : (l : List ℕ) (k : ℕ) (r : StepRow) → step_place k + step_width ≤ length l → step_row_at (put_step_row l k r) k ≡ r
+row_put : (l : List ℕ) (k : ℕ) (r : StepRow) → step_place k + step_width ≤ length l
+    → step_row_at (put_step_row l k r) k ≡ r
 unfolding step_row_at put_step_row
 row_put l k r h =
-    let at : (f : ℕ) → f < step_width → get_or (sets l (step_place k) (cells r)) (step_place k + f) 0 ≡ get_or (cells r) f 0 =
+    let at : (f : ℕ) → f < step_width → get_or (sets l (step_place k) (cells r)) (step_place k + f) 0
+    ≡ get_or (cells r) f 0 =
     λ f m. sets_in 0 (cells r) l (step_place k) f h m in
     let first : step_place k ≡ step_place k + 0 = omega arith in
     λ i. record {

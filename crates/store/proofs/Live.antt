@@ -18,7 +18,8 @@ use Rattle.ledger.specs.Bounds.{Bounded}
 use Rattle.ledger.specs.Checks.{max_formulas}
 use Rattle.ledger.proofs.Bounds.{empty_bounded}
 use Rattle.store.specs.Tab.{tab, present}
-use Rattle.store_cells.specs.Layout.{cells, line_count, live_count, next_serial, row_count, credential_at, gap_at, entry_at}
+use Rattle.store_cells.specs.Layout.{cells, line_count, live_count, next_serial, row_count, credential_at, gap_at}
+use Rattle.store_cells.specs.Layout.{entry_at}
 use Rattle.store_cells.specs.Layout.{formula_link, link_at, set_width, group_at}
 use Rattle.labels.specs.Labels.{◌∋◌}
 use Rattle.store.specs.Store.{ledger_of, RowsOrdered, StandsFor}

@@ -16,8 +16,10 @@ use Rattle.store.specs.Chain.{Chained}
 use Rattle.store.specs.Groups.{Grouped}
 use Rattle.logic.specs.Span.{Spans}
 use Rattle.logic.specs.Packed.{counts}
-use Rattle.store_cells.specs.Layout.{cells, max_rows, line_count, live_count, next_serial, row_count, row_at, size_at, plain_at}
-use Rattle.store_cells.specs.Layout.{balanced_at, unbound_at, quantified_at, low_at, high_at, gives_at, credential_at, entry_at}
+use Rattle.store_cells.specs.Layout.{cells, max_rows, line_count, live_count, next_serial, row_count, row_at, size_at}
+use Rattle.store_cells.specs.Layout.{plain_at}
+use Rattle.store_cells.specs.Layout.{balanced_at, unbound_at, quantified_at, low_at, high_at, gives_at, credential_at}
+use Rattle.store_cells.specs.Layout.{entry_at}
 
 unfoldable pub ledger_of : List ℕ → Ledger
 ledger_of l = record {

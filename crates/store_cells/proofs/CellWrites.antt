@@ -231,7 +231,8 @@ module _ (m : List ℕ) (i : ℕ) (r : Row) (s : ℕ) (p b u q : Bool) (low high
   unfolding line_cell put_line
   line_other k f h x = row_other m line_base line_width i (line_cells r s p b u q low high gives) (omega arith) k f h x
 
-  pub line_group : i < max_formulas → (g w : ℕ) → group_at (put_line m i r s p b u q low high gives) g w ≡ group_at m g w
+  pub line_group : i < max_formulas → (g w : ℕ) → group_at (put_line m i r s p b u q low high gives) g w
+      ≡ group_at m g w
   unfolding group_at cell put_line
   line_group h g w =
       put_above m line_base line_width i (line_cells r s p b u q low high gives) (group_base + g * group_width + w)
@@ -250,7 +251,8 @@ module _ (m : List ℕ) (i : ℕ) (r : Row) (s : ℕ) (p b u q : Bool) (low high
     used = line_before 3 (omega arith);
     rows = λ k x f y.
         put_above m line_base line_width i (line_cells r s p b u q low high gives) (credential_place k f) (omega arith);
-    links = λ k. put_above m line_base line_width i (line_cells r s p b u q low high gives) (link_base + k) (omega arith);
+    links = λ k. put_above m line_base line_width i (line_cells r s p b u q low high gives) (link_base + k)
+        (omega arith);
   }
 
 -- All stays but the sets of lines.

@@ -33,7 +33,8 @@ unfolding put_interval
 interval_stored l v b k e = e ∙ sym (stores_sets l b k (interval_cells v))
 
 pub interval_read : (l : List ℕ) {v : Interval} (b k : ℕ) → v ≡ interval_at l (b + k)
-    → v ≡ span (get_or l (b + k) 0) (get_or l (b + suc k) 0) (get_or l (b + suc (suc k)) 0) (get_or l (b + suc (suc (suc k))) 0)
+    → v ≡ span (get_or l (b + k) 0) (get_or l (b + suc k) 0) (get_or l (b + suc (suc k)) 0)
+    (get_or l (b + suc (suc (suc k))) 0)
 unfolding interval_at
 interval_read l b k e = e ∙ simp (towards_suc, add-suc)
 

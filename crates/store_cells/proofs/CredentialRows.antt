@@ -96,7 +96,8 @@ module _ (m : List ℕ) (i : ℕ) (c : Credential) where
   unfolding put_credential
   credential_before k h =
       put_below led credential_base credential_width i numbers k h
-      ∙ link_before linked last (row_link i) k (omega arith) ∙ link_before m (row_link i) (link_at m last) k (omega arith)
+      ∙ link_before linked last (row_link i) k (omega arith)
+      ∙ link_before m (row_link i) (link_at m last) k (omega arith)
 
   pub credential_long : length (put_credential m i c) ≡ length m
   unfolding put_credential
@@ -142,7 +143,8 @@ module _ (m : List ℕ) (i : ℕ) (c : Credential) where
         row_links h (row_link i) ∙ link_other linked last (row_link i) (row_link i) (omega arith)
         ∙ link_same m (row_link i) (link_at m last) n (omega arith)
 
-    pub credential_last : c.formula < max_formulas → link_at (put_credential m i c) (formula_link c.formula) ≡ row_link i
+    pub credential_last : c.formula < max_formulas → link_at (put_credential m i c) (formula_link c.formula)
+        ≡ row_link i
     credential_last q = row_links h last ∙ link_same linked last (row_link i) (linked_long ∙ n) (omega arith)
 
   pub credential_links : i < max_rows → (k : ℕ) → (k ≡ row_link i → ⊥) → (k ≡ formula_link c.formula → ⊥)

@@ -117,7 +117,8 @@ module _ (m : List ℕ) (g n : ℕ) (h : g < groups) (q : n < max_formulas) wher
         go (no x) y = ap (λ (z : ℕ). member z j) (numbers_stay f v a b (λ k _. x k))
 
     -- the line stays in the sets that it is in
-    pub mark_stays : (f : ℕ) → f < groups → group_at m f w ∋ n % set_lines → group_at (put_mark m g n) f w ∋ n % set_lines
+    pub mark_stays : (f : ℕ) → f < groups → group_at m f w ∋ n % set_lines
+        → group_at (put_mark m g n) f w ∋ n % set_lines
     mark_stays f a b = go (ℕ_discrete f g)
       where
         go : Dec (f ≡ g) → group_at (put_mark m g n) f w ∋ n % set_lines

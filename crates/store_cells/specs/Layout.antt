@@ -12,7 +12,7 @@
 --                      goes through the formula's parts again; two numbers between which all sessions of its atoms are,
 --                      so that a tally passes it by; and what the formula gives of the lower of these sessions, in one
 --                      number
---   group_base ..       64 rows of 8: for each group of sessions a set of lines, in seven numbers, 32 lines to a number,
+--   group_base ..       64 rows of 8: for each group of sessions a set of lines, in seven numbers, 32 lines a number,
 --                      bit j of number w for line 32 w + j; then a number whose bit w is set where number w is not 0.
 --                      Session s is of group s mod 64, and every line between whose two numbers a session is stands in
 --                      the set of that session's group: a tally looks at one set alone
@@ -195,7 +195,8 @@ row_from g = record {
 -- the row of a formula's number; a number that names none reads as 1
 unfoldable pub row_at : List ℕ → ℕ → Row
 row_at l n =
-    pick (ltb n max_formulas) (pick (ltb n (line_count l)) (row_from (line_cell l n)) (row_of Line.one)) (row_of Line.one)
+    pick (ltb n max_formulas) (pick (ltb n (line_count l)) (row_from (line_cell l n)) (row_of Line.one))
+    (row_of Line.one)
 
 unfoldable pub size_at : List ℕ → ℕ → ℕ
 size_at l n = line_cell l n size_cell

@@ -14,7 +14,8 @@ use Rattle.ledger.specs.Ledger.{Ledger}
 use Rattle.ledger.proofs.Answers.{some_none, some_inj}
 use Rattle.ledger.specs.Bounds.{Rises, Below}
 use Rattle.store.specs.Tab.{tab, present}
-use Rattle.store_cells.specs.Layout.{max_rows, line_count, live_count, next_serial, row_count, credential_at, gap_at, entry_at}
+use Rattle.store_cells.specs.Layout.{max_rows, line_count, live_count, next_serial, row_count, credential_at, gap_at}
+use Rattle.store_cells.specs.Layout.{entry_at}
 use Rattle.store_cells.specs.Layout.{put_credential, put_row_count, put_hint, cell, credential_place, link_at, put_link}
 use Rattle.store_cells.specs.Layout.{of_at, formula_link}
 use Rattle.store.specs.Store.{ledger_of, RowsOrdered, Good, Compacted}

@@ -13,7 +13,8 @@ use Rattle.ledger.specs.Calls.{with_live}
 use Rattle.ledger.proofs.Bounds.{without_bounded}
 use Rattle.ledger.proofs.Credentials.{take_out}
 use Rattle.store.specs.Tab.{tab, present}
-use Rattle.store_cells.specs.Layout.{live_count, next_serial, row_count, credential_at, gap_at, entry_at, put_live_count}
+use Rattle.store_cells.specs.Layout.{live_count, next_serial, row_count, credential_at, gap_at, entry_at}
+use Rattle.store_cells.specs.Layout.{put_live_count}
 use Rattle.store_cells.specs.Layout.{put_gap}
 use Rattle.store.specs.Store.{ledger_of, RowsOrdered, Good, StandsFor, Occupied}
 use Rattle.store_credentials.proofs.RowSerials.{without_row}

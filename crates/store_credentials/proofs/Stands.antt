@@ -13,7 +13,8 @@ use Rattle.ledger.specs.Ledger.{Ledger, formula}
 use Rattle.ledger.specs.Checks.{max_formulas}
 use Rattle.ledger.specs.Bounds.{Bounded}
 use Rattle.store.specs.Tab.{tab, present}
-use Rattle.store_cells.specs.Layout.{line_count, next_serial, row_count, entry_at, put_hint, groups, set_lines, set_width}
+use Rattle.store_cells.specs.Layout.{line_count, next_serial, row_count, entry_at, put_hint, groups, set_lines}
+use Rattle.store_cells.specs.Layout.{set_width}
 use Rattle.store.specs.Store.{line_of, ledger_of, Canonical, RowsOrdered, Good, StandsFor}
 use Rattle.store.proofs.Tabs.{tab_ext}
 use Rattle.store_cells.proofs.CellWrites.{SameLines, lines_self, same_row_holds, same_size, same_plain, same_balanced}

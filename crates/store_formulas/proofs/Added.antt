@@ -19,8 +19,10 @@ use Rattle.ledger.proofs.FormulaTable.{formula_snoc, formula_stays}
 use Rattle.ledger.specs.Bounds.{Bounded}
 use Rattle.ledger.proofs.Bounds.{line_bounded}
 use Rattle.store.specs.Tab.{tab}
-use Rattle.store_cells.specs.Layout.{line_count, line_cell, row_at, size_at, plain_at, balanced_at, line_cells, put_line_count}
-use Rattle.store_cells.specs.Layout.{put_line, size_cell, plain_cell, balanced_cell, line_width, unbound_at, quantified_at}
+use Rattle.store_cells.specs.Layout.{line_count, line_cell, row_at, size_at, plain_at, balanced_at, line_cells}
+use Rattle.store_cells.specs.Layout.{put_line_count}
+use Rattle.store_cells.specs.Layout.{put_line, size_cell, plain_cell, balanced_cell, line_width, unbound_at}
+use Rattle.store_cells.specs.Layout.{quantified_at}
 use Rattle.store_cells.specs.Layout.{unbound_cell, quantified_cell, low_cell, high_cell, gives_cell, low_at, high_at}
 use Rattle.store_cells.specs.Layout.{gives_at, groups, set_lines, set_width, group_at}
 use Rattle.logic.specs.Packed.{counts}
@@ -205,7 +207,8 @@ module _ (l : List ℕ) (r : Row) (s : ℕ) (p b u z : Bool) (low high gives : �
           ∙ ap (λ x. bit (unbound x)) (sym (old_formula k h));
       quantified_kept = old_cell k quantified_cell h (omega arith) ∙ a.good.quantifieds k h
           ∙ ap (λ x. bit (quantified x)) (sym (old_formula k h));
-      spanned = spans_same (old_formula k h) (old_cell k low_cell h (omega arith)) (old_cell k high_cell h (omega arith))
+      spanned = spans_same (old_formula k h) (old_cell k low_cell h (omega arith))
+          (old_cell k high_cell h (omega arith))
           (a.good.spans k h);
       given = old_cell k gives_cell h (omega arith) ∙ a.good.givens k h
           ∙ ap₂ counts (sym (old_cell k low_cell h (omega arith))) (sym (old_formula k h));

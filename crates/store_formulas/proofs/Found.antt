@@ -32,7 +32,8 @@ module _ {A : Type 0} (p : A → Bool) where
 
 -- a test of every row of a store, and of one of them, said of its lines
 module _ (l : List ℕ) (g : Good l) (t : Row → Bool) where
-  pub has_at : (i : ℕ) → i < line_count l → t (row_at l i) ≡ true → any_of (λ x. t (row_of x)) (ledger_of l).lines ≡ true
+  pub has_at : (i : ℕ) → i < line_count l → t (row_at l i) ≡ true → any_of (λ x. t (row_of x)) (ledger_of l).lines
+      ≡ true
   unfolding ledger_of
   has_at i q e = any_at (λ x. t (row_of x)) (line_count l) _ i q (ap t (g.canonical i q) ∙ e)
 

@@ -33,7 +33,8 @@ module _ {l : List ℕ} (g : Good l) {n : ℕ} where
   row_found i q e = find_row n (row_count l) (credential_at l) (gap_at l) i q (only_here l g n i q e)
 
   -- rows of one serial are one
-  same_row_holds : (i k : ℕ) → i < row_count l → (credential_at l i).serial ≡ n → k < row_count l → (credential_at l k).serial ≡ n
+  same_row_holds : (i k : ℕ) → i < row_count l → (credential_at l i).serial ≡ n → k < row_count l
+      → (credential_at l k).serial ≡ n
       → i ≡ k
   same_row_holds i k p e q f = go (dec_lt i k) (dec_lt k i)
     where

@@ -1,6 +1,7 @@
 -- The notes of what is read and written: from which descriptor and to which, how much, and how it ended. Counts are
 -- modulo 2^64.
-use Rattle.std.specs.Prelude.{◌≡◌, ℕ, ◌+◌, ◌-◌, ◌%◌, ◌^◌, ◌<◌, ◌≤◌, Bool, true, false, ◌⊎◌, List, ◌++◌, length, take, ℤ, pos, ◌==◌, int_lt}
+use Rattle.std.specs.Prelude.{◌≡◌, ℕ, ◌+◌, ◌-◌, ◌%◌, ◌^◌, ◌<◌, ◌≤◌, Bool, true, false, ◌⊎◌, List, ◌++◌, length, take, ℤ}
+use Rattle.std.specs.Prelude.{pos, ◌==◌, int_lt}
 use Rattle.io.specs.Counts.{clamp_len}
 use Rattle.libc.specs.Io.{Moved}
 pub use Rattle.stream_passed.specs.Passed.{Came, Went}

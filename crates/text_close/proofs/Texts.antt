@@ -40,7 +40,8 @@ ended_append : (xs ys : List (List ℕ)) → ended_lines (xs ++ ys) ≡ ended_li
 unfolding ended_lines
 ended_append [] ys = refl
 ended_append (x ∷ xs) ys =
-    ap (λ (t : List ℕ). x ++ (10 ∷ t)) (ended_append xs ys) ∙ sym (append_assoc x (10 ∷ ended_lines xs) (ended_lines ys))
+    ap (λ (t : List ℕ). x ++ (10 ∷ t)) (ended_append xs ys)
+    ∙ sym (append_assoc x (10 ∷ ended_lines xs) (ended_lines ys))
 
 texts_append : {A : Type 0} (f : A → List ℕ) (xs ys : List A)
     → ended_lines (map f (xs ++ ys)) ≡ ended_lines (map f xs) ++ ended_lines (map f ys)
@@ -75,7 +76,8 @@ module _ (l : List ℕ) where
   }
     where
       go : (i : ℕ) (b : Bool)
-          → ended_lines (map (λ c. joined (credential_fields c)) (cons_some (pick b none (some (credential_at l i))) []))
+          → ended_lines (map (λ c. joined (credential_fields c))
+          (cons_some (pick b none (some (credential_at l i))) []))
           ≡ pick b [] (joined (credential_fields (credential_at l i)) ++ (10 ∷ []))
       go i true = refl
       go i false = refl

@@ -18,8 +18,10 @@ use Rattle.ledger.specs.declared.Credential.{Credential}
 use Rattle.ledger.specs.Ledger.{Ledger}
 use Rattle.ledger.specs.Checks.{◌if◌, first}
 use Rattle.snapshot.specs.declared.Edition.{Edition}
-use Rattle.snapshot.specs.Snapshot.{Title, edition_by, edition_of, own_edition, longest_text, title_line, credential_line}
-use Rattle.snapshot.specs.Snapshot.{body, saved_lines, saved_of, same_edition, as_written, snapshot_of, rising, open_checks}
+use Rattle.snapshot.specs.Snapshot.{Title, edition_by, edition_of, own_edition, longest_text, title_line}
+use Rattle.snapshot.specs.Snapshot.{credential_line}
+use Rattle.snapshot.specs.Snapshot.{body, saved_lines, saved_of, same_edition, as_written, snapshot_of, rising}
+use Rattle.snapshot.specs.Snapshot.{open_checks}
 use Rattle.snapshot.proofs.Texts.{read_in_form, read_written, longest_text_holds}
 use Rattle.read_formulas.specs.Line.{read_line}
 use Rattle.read_rest.specs.LinesRead.{read_lines, all_lines}
@@ -37,7 +39,8 @@ use Rattle.text_read.specs.declared.TextRead.TheVariants.{Read, Broken}
 use Rattle.text_read.specs.TextForm.{title_at, title_from, lines_past, rising_past, Fails50, TitleIs, Formed}
 use Rattle.text_read.specs.TextForm.{holders_in, FormIs}
 use Rattle.text_read.proofs.TextLines.{title_range}
-use Rattle.text_read.proofs.PastLines.{Passed, Risen, lines_past_holds, rising_past_holds, none_past, some_past, some_risen}
+use Rattle.text_read.proofs.PastLines.{Passed, Risen, lines_past_holds, rising_past_holds, none_past, some_past}
+use Rattle.text_read.proofs.PastLines.{some_risen}
 use Rattle.text_read.proofs.PastLines.{holders_read, none_risen, whatever}
 
 abbrev pub ledger_from : Title → List Line → List Credential → Ledger

@@ -1,4 +1,5 @@
--- What the code's answers say of the bytes of a text, by `snapshot_of` and `open_checks` (crate snapshot, Snapshot.antt).
+-- What the code's answers say of the bytes of a text, by `snapshot_of` and `open_checks` (crate snapshot,
+-- Snapshot.antt).
 use Rattle.std.specs.Prelude.{◌≡◌, List, Bool, true, false, ◌||◌, ℕ, zero, suc, ◌≤◌, ltb, length, drop}
 use Rattle.std.proofs.Math.Option.{Option, none, some}
 use Rattle.logic.specs.Choice.{pick}

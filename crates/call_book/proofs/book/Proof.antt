@@ -28,7 +28,8 @@ holds_read c =
 -- and the steps: the rows, whether an interval is reversed, or broken
 steps_read : (c : tie.In-Read-read) →
     let a = c.args in
-    ReadSteps a.store.now a.sheet.now a.head c.read_holds-held.new.serials c.read_steps-read.new.rows c.in-Read.end c.in-Read-read.backward
+    ReadSteps a.store.now a.sheet.now a.head c.read_holds-held.new.serials c.read_steps-read.new.rows c.in-Read.end
+    c.in-Read-read.backward
     c.in-Read-read.broken
 steps_read c = record {
   holds = holds_read c.before.before.before.before.before.before;
@@ -73,7 +74,8 @@ returns_5 c =
 
 book-read-requires : tie.Need-book_read-requires
 book-read-requires c κs =
-    lines_read (steps_read c.before.before.before.before.before.before.before.before) c.check_lines_ordered-ordered.ensures
+    lines_read (steps_read c.before.before.before.before.before.before.before.before)
+    c.check_lines_ordered-ordered.ensures
     c.in-Passed-ordered.is c.check_lines_unbroken-unbroken.ensures c.in-Passed-unbroken.is
 
 returns_6 : tie.Need-returns

@@ -22,7 +22,8 @@ returns c =
     (shown c.check_present-present.ensures c.in_default.is)
 
 -- 10 has passed
-abbrev past_10 : (c : tie.In-Passed) → (rest : List Check) × Past c.args.store.now c.args.head c.args.serials.now c.args.rows.now rest
+abbrev past_10 : (c : tie.In-Passed) → (rest : List Check) × Past c.args.store.now c.args.head c.args.serials.now
+    c.args.rows.now rest
 past_10 c = (_, c.requires.so_far ▸ shown c.check_present-present.ensures c.in-Passed.is)
 
 check-bound-requires : tie.Need-check_bound-bound-requires
@@ -36,7 +37,8 @@ returns_2 c =
     (shown c.check_bound-bound.ensures c.in_default-bound.is)
 
 -- and 53
-abbrev past_53 : (c : tie.In-Passed-bound) → (rest : List Check) × Past c.args.store.now c.args.head c.args.serials.now c.args.rows.now rest
+abbrev past_53 : (c : tie.In-Passed-bound) → (rest : List Check) × Past c.args.store.now c.args.head c.args.serials.now
+    c.args.rows.now rest
 past_53 c = (_, (past_10 c.before.before).1 ▸ shown c.check_bound-bound.ensures c.in-Passed-bound.is)
 
 check-plain-requires : tie.Need-check_plain-plain-requires
@@ -50,7 +52,8 @@ returns_3 c =
     (shown c.check_plain-plain.ensures c.in_default-plain.is)
 
 -- and 20
-abbrev past_20 : (c : tie.In-Passed-plain) → (rest : List Check) × Past c.args.store.now c.args.head c.args.serials.now c.args.rows.now rest
+abbrev past_20 : (c : tie.In-Passed-plain) → (rest : List Check) × Past c.args.store.now c.args.head c.args.serials.now
+    c.args.rows.now rest
 past_20 c = (
   _,
   (past_53 c.before.before).1

@@ -62,7 +62,8 @@ returns c =
     (steps_told c.requires c.opening.ensures (judged c.before.before) e))
 
 -- 40 to 42 have passed
-abbrev past_42 : (c : tie.In-Closed) → (rest : List Check) × Past c.args.store.now c.args.head c.args.serials.now c.args.rows.now rest
+abbrev past_42 : (c : tie.In-Closed) → (rest : List Check) × Past c.args.store.now c.args.head c.args.serials.now
+    c.args.rows.now rest
 past_42 c = (
   _,
   c.requires.so_far
@@ -84,7 +85,8 @@ no_room_holds c = c.in_default-room.is
 enough_room : (c : tie.In-Passed) → c.check_room-room.result ≡ Passed
 enough_room c = c.in-Passed.is
 
-answer_22 : part (λ (x : tie.Need-returns-in_default-room) (y : (c : tie.In_default-room) → answer (x c) ≡ Refused 22 0). y)
+answer_22 : part (λ (x : tie.Need-returns-in_default-room) (y : (c : tie.In_default-room) → answer (x c)
+    ≡ Refused 22 0). y)
 answer_22 c = refl
 
 returns_2 : tie.Need-returns-in_default-room
@@ -94,7 +96,8 @@ returns_2 c =
     (shown (room_less before (room_told c.before)) (no_room_holds c)))
 
 -- and 22
-abbrev past_22 : (c : tie.In-Passed) → (rest : List Check) × Past c.args.store.now c.args.head c.args.serials.now c.args.rows.now rest
+abbrev past_22 : (c : tie.In-Passed) → (rest : List Check) × Past c.args.store.now c.args.head c.args.serials.now
+    c.args.rows.now rest
 past_22 c = (
   _,
   (past_42 c.before.before).1
@@ -104,7 +107,8 @@ past_22 c = (
 unused-requires : tie.Need-check_unused-unused-requires
 unused-requires c κs = c.requires.before.lines.good
 
-answer_23 : part (λ (x : tie.Need-returns-in_default-unused) (y : (c : tie.In_default-unused) → answer (x c) ≡ Refused 23 0). y)
+answer_23 : part (λ (x : tie.Need-returns-in_default-unused) (y : (c : tie.In_default-unused) → answer (x c)
+    ≡ Refused 23 0). y)
 answer_23 c = refl
 
 returns_3 : tie.Need-returns-in_default-unused

@@ -18,7 +18,8 @@ invariant-loop store serials count table₀ unrestricted₀ linear₀ linears₀
     (k ≤ count) × Holding (ledger_of store) (take count serials) table₀ k unrestricted linear linears table
 
 abbrev decreases_loop : tie.decreases-loop-k
-decreases_loop store serials count table₀ unrestricted₀ linear₀ linears₀ k₀ table unrestricted linear linears k = count - k
+decreases_loop store serials count table₀ unrestricted₀ linear₀ linears₀ k₀ table unrestricted linear linears k =
+    count - k
 
 loop-holds : tie.Need-loop-k-init invariant-loop decreases_loop
 loop-holds c = (omega arith, first_hold _ _ _)

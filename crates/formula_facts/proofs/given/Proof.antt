@@ -5,4 +5,5 @@ use Rattle.formula_facts.proofs.given.Tie as tie
 
 pub given_spec : {M : Type 1} → statement M
 given_spec =
-    tie.close (tie.spec (λ c. simp (eq-eqb _ _ c.if-span-session.true)) (λ c. simp (ne_eqb _ _ c.if-span-session.false)))
+    tie.close (tie.spec (λ c. simp (eq-eqb _ _ c.if-span-session.true))
+    (λ c. simp (ne_eqb _ _ c.if-span-session.false)))

@@ -53,7 +53,8 @@ two c =
     let t = ledger_of c.args.store.now in
     let asked = any_part _ _ _ c.parts_of.ensures c.in-Two.is _ c.requires in
     record {
-      unbound = any_two (λ k. unbound (formula t k)) _ _ c.unbound_at-in-Two.ensures c.unbound_at-in-Two-2.ensures ∙ asked _;
+      unbound = any_two (λ k. unbound (formula t k)) _ _ c.unbound_at-in-Two.ensures c.unbound_at-in-Two-2.ensures
+          ∙ asked _;
       quantified =
           any_two (λ k. quantified (formula t k)) _ _ c.quantified_at-in-Two.ensures c.quantified_at-in-Two-2.ensures
           ∙ asked _;

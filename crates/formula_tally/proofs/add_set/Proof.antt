@@ -63,7 +63,8 @@ less c =
 loop-again : tie.Need-loop-rest-preserved-then-last_row-ne0 invariant-loop decreases_loop
 loop-again c =
     left_next (ledger_of c.args.store.now) c.args.session c.args.minute c.args.base c.args.bits
-    c.loop-rest.invariant c.loop-rest-test.true (wide c.before.before.before.before.before.before) c.given_by-more.ensures
+    c.loop-rest.invariant c.loop-rest-test.true (wide c.before.before.before.before.before.before)
+    c.given_by-more.ensures
 
 -- one that has no coupon
 loop-again-2 : tie.Need-loop-rest-preserved invariant-loop decreases_loop

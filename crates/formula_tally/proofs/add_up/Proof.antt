@@ -45,7 +45,8 @@ wide c =
     omega (arith, c.filled-numbers.ensures, c.loop-numbers.invariant.within)
 
 -- the next number is one of the set
-number : (c : tie.In-loop-numbers invariant-loop decreases_loop) → count_trailing_zeros set_lines c.loop-numbers.numbers < set_width
+number : (c : tie.In-loop-numbers invariant-loop decreases_loop)
+    → count_trailing_zeros set_lines c.loop-numbers.numbers < set_width
 number c =
     (marks c.args.store.now c.args.session 0 c.requires).numbers _
     (c.loop-numbers.invariant.there _ (lowest_in set_lines c.loop-numbers.numbers c.loop-numbers-test.true (wide c)))
@@ -73,15 +74,18 @@ gave c =
 
 -- the sums fit
 record Small (c : tie.After-add_set-more invariant-loop decreases_loop) : Type 0 where
-  opens : c.before.before.before.loop-numbers.«open» + c.add_set-more.result.«open» ≤ set_lines * (set_lines * most_given)
+  opens : c.before.before.before.loop-numbers.«open» + c.add_set-more.result.«open» ≤ set_lines *
+      (set_lines * most_given)
   seats : c.before.before.before.loop-numbers.seats + c.add_set-more.result.seats ≤ set_lines * (set_lines * most_given)
-  places : c.before.before.before.loop-numbers.places + c.add_set-more.result.places ≤ set_lines * (set_lines * most_given)
+  places : c.before.before.before.loop-numbers.places + c.add_set-more.result.places ≤ set_lines *
+      (set_lines * most_given)
 
 small : (c : tie.After-add_set-more invariant-loop decreases_loop) → Small c
 small c =
     let l = c.args.store.now in
     let f = adding_small (ledger_of l) c.args.session c.args.minute (filled l c.args.session)
-    (sets l c.args.session) c.loop-numbers.invariant c.loop-numbers-test.true (wide c.before.before) (gave c) c.requires.bounded in
+    (sets l c.args.session) c.loop-numbers.invariant c.loop-numbers-test.true (wide c.before.before) (gave c)
+    c.requires.bounded in
     record { opens = f.0; seats = f.1; places = f.2 }
 
 loop-less : tie.Need-loop-numbers-smaller invariant-loop decreases_loop
@@ -93,7 +97,8 @@ loop-again : tie.Need-loop-numbers-preserved invariant-loop decreases_loop
 loop-again c =
     let l = c.args.store.now in
     adding_next (ledger_of l) c.args.session c.args.minute (filled l c.args.session)
-    (sets l c.args.session) c.loop-numbers.invariant c.loop-numbers-test.true (wide c.before.before.before.before.before) (gave c.before.before.before)
+    (sets l c.args.session) c.loop-numbers.invariant c.loop-numbers-test.true
+    (wide c.before.before.before.before.before) (gave c.before.before.before)
 
 returns : tie.Need-returns invariant-loop decreases_loop
 returns c =

@@ -76,7 +76,8 @@ loop-again c =
       subst (Walked _ _ _ _ (c.loop-next.inside + x)) (sym o)
           (walk_next c.args.store.now c.args.minute c.args.formula (c.loop-next.next - 1) d
           c.loop-next.invariant.1 p c.credential_at-c.ensures (e ∙ inside_one d.kind b)
-          (ap₂ ◌-◌ c.when_linear-linear.ensures e ∙ outside_one d.kind b) (omega (arith, (one c.before).part, (one c.before).all))
+          (ap₂ ◌-◌ c.when_linear-linear.ensures e ∙ outside_one d.kind b)
+          (omega (arith, (one c.before).part, (one c.before).all))
           c.row_before-next.ensures),
     )
 

@@ -84,7 +84,8 @@ pub +neutral_within_spec : {M : Type 1} → statement M
     (within_returns_2 t)
     (λ c κs. (parts t c.before.before.before.before.before c.in-Two.is).each.1.0.there)
     (λ c κs. let s = c.requires.1 in
-    let a = part_asked (parts t c.before.before.before.before.before.before c.in-Two.is).each.1.0 c.line_at-in-Two-2.ensures in
+    let a = part_asked (parts t c.before.before.before.before.before.before c.in-Two.is).each.1.0
+    c.line_at-in-Two-2.ensures in
     (a.0, (s.0, a.1, c.neutral_within-left.ensures.sure)))
     (λ c. tries_at _ (parts t c.before.before.before.before c.in-Nothing.is).sessions
     (tries_other _ c.args.part c.args.last c.if-part.false c.requires.1.2))

@@ -9,6 +9,16 @@ atom_weight_spec =
     tie.close
     (tie.spec
     (λ c. simp (eq-eqb _ _ c.if-of-session.true, eq-eqb _ _ c.if-predicate-eq-SEAT.true))
-    (λ c. simp (eq-eqb _ _ c.if-of-session.true, ne_eqb _ _ c.if-predicate-eq-SEAT.false, eq-eqb _ _ c.if-predicate-eq-PLACE.true))
-    (λ c. simp (eq-eqb _ _ c.if-of-session.true, ne_eqb _ _ c.if-predicate-eq-SEAT.false, ne_eqb _ _ c.if-predicate-eq-PLACE.false))
+    (λ c. simp (
+      eq-eqb _ _ c.if-of-session.true,
+      ne_eqb _ _ c.if-predicate-eq-SEAT.false,
+      eq-eqb _ _
+          c.if-predicate-eq-PLACE.true,
+    ))
+    (λ c. simp (
+      eq-eqb _ _ c.if-of-session.true,
+      ne_eqb _ _ c.if-predicate-eq-SEAT.false,
+      ne_eqb _ _
+          c.if-predicate-eq-PLACE.false,
+    ))
     (λ c. simp (ne_eqb _ _ c.if-of-session.false, and-false)))

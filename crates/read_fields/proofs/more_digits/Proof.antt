@@ -61,9 +61,11 @@ more_digits_spec =
     (λ c. search rules)
     (λ c. sym (turn c.before.before.before
     ∙ step_no _ _ _ _ _ c.if-b-stop.true (digit_none _ c.if-b.true)))
-    (λ c. sym (turn c.before.before.before.before ∙ step_small _ _ _ c.requires.0.stops _ _ c.if-b-stop.false c.if-v-first.true))
+    (λ c. sym (turn c.before.before.before.before
+    ∙ step_small _ _ _ c.requires.0.stops _ _ c.if-b-stop.false c.if-v-first.true))
     (λ c. search rules)
-    (λ c. sym (turn c.before.before.before.before ∙ step_stop _ _ _ c.requires.0.stops _ _ c.if-b-stop.false c.if-v-first.false
+    (λ c. sym (turn c.before.before.before.before
+    ∙ step_stop _ _ _ c.requires.0.stops _ _ c.if-b-stop.false c.if-v-first.false
     c.loop-i.invariant.0.1))
     (λ c. search rules)
     (λ c. omega (arith, range c))

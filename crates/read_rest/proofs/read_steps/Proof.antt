@@ -51,7 +51,8 @@ answer {r = r} is = r
 abbrev part : {A B : Type 0} → (A → B → B) → Type 0
 part {B = B} _ = B
 
-answers_both : part (λ (x : tie.Need-returns invariant-loop decreases_loop) (y : (c : tie.Else-at-s invariant-loop decreases_loop) →
+answers_both : part (λ (x : tie.Need-returns invariant-loop decreases_loop)
+    (y : (c : tie.Else-at-s invariant-loop decreases_loop) →
     let loop = c.before.before.loop-k in answer (x c) ≡ AllRead (ltb 0 loop.reversed) (ltb 0 loop.broken)). y)
 answers_both c = refl
 

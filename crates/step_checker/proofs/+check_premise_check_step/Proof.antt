@@ -71,7 +71,8 @@ step_returns_4 t c =
     c.begin-in-Two.ensures c.in-Done.is c.check_premise-first.ensures _
     c.in_default-begin-2.is c.begin-in-Two-2.ensures
 
-step_premise_requires_3 : (t : ℕ) → step_lts.Need-check_premise-requires-in-Two (step_with t) (step_at_holds t) step.Post
+step_premise_requires_3 : (t : ℕ) → step_lts.Need-check_premise-requires-in-Two (step_with t) (step_at_holds t)
+    step.Post
 step_premise_requires_3 t c κs =
     let m = premise_is c.in-Done.is c.check_premise-first.ensures in
     let pre = c.requires in

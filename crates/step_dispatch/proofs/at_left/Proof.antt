@@ -78,7 +78,12 @@ returns_13 : tie.Need-returns-in_default
 unfolding plan_of
 returns_13 c =
     let e = c.step_at-s.ensures in
-    rw (read_last e (left_row (sym e) c.requires.1) c.in_default.in_default-own.rest, left_worded, holds c.has.ensures (ap not c.if-not-has.false))
+    rw (
+      read_last e (left_row (sym e) c.requires.1) c.in_default.in_default-own.rest,
+      left_worded,
+      holds c.has.ensures
+          (ap not c.if-not-has.false),
+    )
     (simp (
       c.ul.ensures,
       c.step_at-t-in_default.ensures ∙ sym e,

@@ -43,7 +43,8 @@ credential-requires c κs = omega (arith, (used c.before.before.before).few)
 named : (c : tie.After-credential-c invariant-loop decreases_loop) → c.credential-c.result.formula < max_formulas
 named c =
     let h = c.loop-i-test.true in
-    gather_named _ _ _ _ (gather_from c.unlink.ensures (omega (arith, (used c.before.before.before.before).few)) c.loop-i.invariant.1)
+    gather_named _ _ _ _ (gather_from c.unlink.ensures (omega (arith, (used c.before.before.before.before).few))
+    c.loop-i.invariant.1)
     c.requires (omega (arith, (used c.before.before.before.before).same)) _ c.credential-c.ensures
 
 put-credential-requires : tie.Need-put_credential-requires invariant-loop decreases_loop
@@ -57,7 +58,8 @@ add_k c =
 loop-again : tie.Need-loop-i-preserved-then-not-gap invariant-loop decreases_loop
 loop-again c =
     let e = sym c.gap.ensures ∙ c.if-not-gap.true in
-    let few : c.loop-i.i < max_rows = omega (arith, (used c.before.before.before.before.before.before.before.before).few) in
+    let few : c.loop-i.i < max_rows =
+    omega (arith, (used c.before.before.before.before.before.before.before.before).few) in
     let low = c.loop-i.invariant.1.low in
     let moved =
     gather_move _ _ _ _ c.loop-i.invariant.1 _ few e c.credential-c.ensures

@@ -34,8 +34,11 @@ few c =
 
 loop-again : tie.Need-loop-n-preserved-then-formula_link-ne0 invariant-loop decreases_loop
 loop-again c =
-    let h = c.loop-n-test.true in
-    (omega arith, rw c.put_formula_link.ensures (unlink_next _ _ _ c.loop-n.invariant.1 (few c.before.before.before.before)))
+    let h = c.loop-n-test.true in (
+      omega arith,
+      rw c.put_formula_link.ensures
+          (unlink_next _ _ _ c.loop-n.invariant.1 (few c.before.before.before.before)),
+    )
 
 loop-again-2 : tie.Need-loop-n-preserved invariant-loop decreases_loop
 loop-again-2 c =

@@ -42,8 +42,10 @@ returns c =
 
 loop-again : tie.Need-loop-i-preserved invariant-loop decreases_loop
 loop-again c =
-    let h = c.loop-i-test.true in
-    (c.loop-i.invariant.0, (search rules, below_more _ _ c.loop-i.invariant.1.1 (tested c.before ∙ c.if-same_row.false)))
+    let h = c.loop-i-test.true in (
+      c.loop-i.invariant.0,
+      (search rules, below_more _ _ c.loop-i.invariant.1.1 (tested c.before ∙ c.if-same_row.false)),
+    )
 
 returns_2 : tie.Need-returns invariant-loop decreases_loop
 returns_2 c =

@@ -30,7 +30,8 @@ returns : tie.Need-returns-in-At
 returns c =
     let pre = c.requires in
     let long = c.answer_ended-written.auto.begun ∙ pre.0.begun in
-    took_ended _ pre.0 pre.1 long (ends c.before.before.before.before.before.before.before.before.before) c.answer_ended-written.ensures
+    took_ended _ pre.0 pre.1 long (ends c.before.before.before.before.before.before.before.before.before)
+    c.answer_ended-written.ensures
 
 returns_2 : tie.Need-returns-in-Open
 returns_2 c =

@@ -37,7 +37,8 @@ returns c =
     let n = count c.before.before in
     let e : c.loop-i.i ≡ line_count c.args.store.now =
     omega (arith, n.0, c.loop-i.invariant.0, c.loop-i-test.false) in
-    measured_within (omega (arith, n.1, c.loop-i.invariant.0)) (measured_as (ap (formula_texts _) e) c.loop-i.invariant.1)
+    measured_within (omega (arith, n.1, c.loop-i.invariant.0))
+    (measured_as (ap (formula_texts _) e) c.loop-i.invariant.1)
 
 pub formulas_length_spec : {M : Type 1} → statement M
 formulas_length_spec =

@@ -22,7 +22,9 @@ put_lines_spec =
     (λ c κs.
     (c.requires.0, part_room (parts c.before.before.before.before.before.before) c.put_formulas-i.ensures))
     (λ c.
-    sum_fits (parts c.before.before.before.before.before.before.before.before.before) c.put_formulas-i.ensures c.put_rows-j.ensures c.well_formed.0.0)
+    sum_fits (parts c.before.before.before.before.before.before.before.before.before) c.put_formulas-i.ensures
+    c.put_rows-j.ensures c.well_formed.0.0)
     (λ c. search rules)
     (λ c.
-    wrote_parts (parts c.before.before.before.before.before.before.before.before.before) c.put_formulas-i.ensures c.put_rows-j.ensures))
+    wrote_parts (parts c.before.before.before.before.before.before.before.before.before) c.put_formulas-i.ensures
+    c.put_rows-j.ensures))

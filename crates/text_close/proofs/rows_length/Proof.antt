@@ -45,7 +45,8 @@ rows_length_spec =
     (c.requires, omega (arith, c.loop-i-test.true, c.row_count-n.ensures)))
     (λ c.
     let small = c.loop-i.invariant.1.small in
-    Fits-under _ _ 278597 (omega (arith, c.loop-i.invariant.0, small, c.row_length-k.ensures.small, few c.before.before.before)) tt)
+    Fits-under _ _ 278597
+    (omega (arith, c.loop-i.invariant.0, small, c.row_length-k.ensures.small, few c.before.before.before)) tt)
     (λ c. search rules)
     (λ c. search rules)
     loop-again

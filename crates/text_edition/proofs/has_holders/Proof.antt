@@ -47,8 +47,10 @@ returns c =
 
 loop-again : tie.Need-loop-i-preserved invariant-loop decreases_loop
 loop-again c =
-    let h = c.loop-i-test.true in
-    (c.loop-i.invariant.0, (search rules, below_more _ _ c.loop-i.invariant.1.1 (tested c.before ∙ c.if-holder_letter.false)))
+    let h = c.loop-i-test.true in (
+      c.loop-i.invariant.0,
+      (search rules, below_more _ _ c.loop-i.invariant.1.1 (tested c.before ∙ c.if-holder_letter.false)),
+    )
 
 returns_2 : tie.Need-returns invariant-loop decreases_loop
 unfolding holder_line

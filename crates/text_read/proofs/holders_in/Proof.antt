@@ -46,7 +46,8 @@ returns_2 c =
 
 loop-again : tie.Need-loop-k-preserved invariant-loop decreases_loop
 loop-again c =
-    c.loop-k.invariant ∙ holders_turn _ _ _ c.loop-k-test.true (turn c.before).is (told c.before ∙ c.if-holder_letter.false)
+    c.loop-k.invariant ∙ holders_turn _ _ _ c.loop-k-test.true (turn c.before).is
+    (told c.before ∙ c.if-holder_letter.false)
 
 returns_3 : tie.Need-returns invariant-loop decreases_loop
 returns_3 c = sym (c.loop-k.invariant ∙ holders_end _ _ _ c.loop-k-test.false)

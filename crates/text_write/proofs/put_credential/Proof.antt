@@ -26,7 +26,8 @@ put-of-requires c κs =
 returns : tie.Need-returns
 unfolding credential_fields
 returns c =
-    wrote_parts (parts c.before.before.before.before.before.before.before.before.before.before) c.put_serial-i.ensures c.put_of-j.ensures
+    wrote_parts (parts c.before.before.before.before.before.before.before.before.before.before) c.put_serial-i.ensures
+    c.put_of-j.ensures
 
 pub put_credential_spec : {M : Type 1} → statement M
 unfolding credential_fields
@@ -41,6 +42,7 @@ put_credential_spec =
     (λ c. search rules)
     put-of-requires
     (λ c.
-    sum_fits (parts c.before.before.before.before.before.before.before.before.before.before) c.put_serial-i.ensures c.put_of-j.ensures c.well_formed.0.0)
+    sum_fits (parts c.before.before.before.before.before.before.before.before.before.before) c.put_serial-i.ensures
+    c.put_of-j.ensures c.well_formed.0.0)
     (λ c. search rules)
     returns)

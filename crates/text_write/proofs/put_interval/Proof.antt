@@ -20,7 +20,8 @@ put_fields_requires_2 c κs =
 returns : tie.Need-returns
 unfolding minutes
 returns c =
-    wrote_parts (parts c.before.before.before.before.before.before.before.before.before) c.put_fields-i.ensures c.put_fields-j.ensures
+    wrote_parts (parts c.before.before.before.before.before.before.before.before.before) c.put_fields-i.ensures
+    c.put_fields-j.ensures
 
 pub put_interval_spec : {M : Type 1} → statement M
 unfolding minutes
@@ -33,6 +34,7 @@ put_interval_spec =
     (λ c. search rules)
     put_fields_requires_2
     (λ c.
-    sum_fits (parts c.before.before.before.before.before.before.before.before.before) c.put_fields-i.ensures c.put_fields-j.ensures c.well_formed.0.0)
+    sum_fits (parts c.before.before.before.before.before.before.before.before.before) c.put_fields-i.ensures
+    c.put_fields-j.ensures c.well_formed.0.0)
     (λ c. search rules)
     returns)

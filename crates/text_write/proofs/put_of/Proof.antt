@@ -21,7 +21,9 @@ put_of_spec =
     (λ c κs.
     part_room (parts c.before.before.before.before.before.before) c.put_field-i.ensures)
     (λ c.
-    sum_fits (parts c.before.before.before.before.before.before.before.before.before) c.put_field-i.ensures c.put_interval-j.ensures c.well_formed.0.0)
+    sum_fits (parts c.before.before.before.before.before.before.before.before.before) c.put_field-i.ensures
+    c.put_interval-j.ensures c.well_formed.0.0)
     (λ c. search rules)
     (λ c.
-    wrote_parts (parts c.before.before.before.before.before.before.before.before.before) c.put_field-i.ensures c.put_interval-j.ensures))
+    wrote_parts (parts c.before.before.before.before.before.before.before.before.before) c.put_field-i.ensures
+    c.put_interval-j.ensures))

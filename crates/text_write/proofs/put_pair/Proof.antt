@@ -21,7 +21,8 @@ put-fields-requires c κs =
 returns : tie.Need-returns
 unfolding shape_fields
 returns c =
-    wrote_parts (parts c.before.before.before.before.before.before.before.before.before) c.put_letter-i.ensures c.put_fields-j.ensures
+    wrote_parts (parts c.before.before.before.before.before.before.before.before.before) c.put_letter-i.ensures
+    c.put_fields-j.ensures
 
 pub put_pair_spec : {M : Type 1} → statement M
 unfolding shape_fields
@@ -34,6 +35,7 @@ put_pair_spec =
     (λ c. search rules)
     put-fields-requires
     (λ c.
-    sum_fits (parts c.before.before.before.before.before.before.before.before.before) c.put_letter-i.ensures c.put_fields-j.ensures c.well_formed.0.0)
+    sum_fits (parts c.before.before.before.before.before.before.before.before.before) c.put_letter-i.ensures
+    c.put_fields-j.ensures c.well_formed.0.0)
     (λ c. search rules)
     returns)

@@ -25,7 +25,9 @@ put_superset_spec =
     (λ c κs.
     part_room (parts c.before.before.before.before.before.before) c.put_letter-i.ensures)
     (λ c.
-    sum_fits (parts c.before.before.before.before.before.before.before.before.before) c.put_letter-i.ensures c.put_intervals-j.ensures c.well_formed.0.0)
+    sum_fits (parts c.before.before.before.before.before.before.before.before.before) c.put_letter-i.ensures
+    c.put_intervals-j.ensures c.well_formed.0.0)
     (λ c. search rules)
     (λ c.
-    wrote_parts (parts c.before.before.before.before.before.before.before.before.before) c.put_letter-i.ensures c.put_intervals-j.ensures))
+    wrote_parts (parts c.before.before.before.before.before.before.before.before.before) c.put_letter-i.ensures
+    c.put_intervals-j.ensures))

@@ -22,7 +22,8 @@ put-counts-requires c κs =
 returns : tie.Need-returns
 unfolding title_fields edition_fields
 returns c =
-    wrote_parts (parts c.before.before.before.before.before.before.before.before.before) c.put_edition-i.ensures c.put_counts-j.ensures
+    wrote_parts (parts c.before.before.before.before.before.before.before.before.before) c.put_edition-i.ensures
+    c.put_counts-j.ensures
 
 pub put_title_spec : {M : Type 1} → statement M
 unfolding title_fields edition_fields
@@ -35,6 +36,7 @@ put_title_spec =
     (λ c. search rules)
     put-counts-requires
     (λ c.
-    sum_fits (parts c.before.before.before.before.before.before.before.before.before) c.put_edition-i.ensures c.put_counts-j.ensures c.well_formed.0.0)
+    sum_fits (parts c.before.before.before.before.before.before.before.before.before) c.put_edition-i.ensures
+    c.put_counts-j.ensures c.well_formed.0.0)
     (λ c. search rules)
     returns)

@@ -25,7 +25,9 @@ put_triple_spec =
     (λ c κs.
     part_room (parts c.before.before.before.before.before.before) c.put_head-i.ensures)
     (λ c.
-    sum_fits (parts c.before.before.before.before.before.before.before.before.before) c.put_head-i.ensures c.put_fields-k.ensures c.well_formed.0.0)
+    sum_fits (parts c.before.before.before.before.before.before.before.before.before) c.put_head-i.ensures
+    c.put_fields-k.ensures c.well_formed.0.0)
     (λ c. search rules)
     (λ c.
-    wrote_parts (parts c.before.before.before.before.before.before.before.before.before) c.put_head-i.ensures c.put_fields-k.ensures))
+    wrote_parts (parts c.before.before.before.before.before.before.before.before.before) c.put_head-i.ensures
+    c.put_fields-k.ensures))

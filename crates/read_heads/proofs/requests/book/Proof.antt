@@ -27,7 +27,8 @@ returns_6 c =
     let h = seen (decimal_of _) c.number-d.ensures c.in-Number-d.is in
     let k = seen (decimal_of _) c.number-e.ensures c.in-Number-e.is in
     record {
-      reads = then_some _ (book_line_holds _ ∙ then_some _ m ∙ then_some _ n ∙ then_some _ i ∙ then_some _ h ∙ then_some _ k);
+      reads = then_some _ (book_line_holds _ ∙ then_some _ m ∙ then_some _ n ∙ then_some _ i ∙ then_some _ h
+          ∙ then_some _ k);
       range = record {
         now = field_range _ _ _ m;
         formula = field_range _ _ _ n;
