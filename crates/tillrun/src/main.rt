@@ -188,6 +188,8 @@ fn main(rt: HostRuntime) {
     let mut text = [0u8; TEXT];
     let mut piece = [0u8; PIECE];
     let mut rows = [0u32; step_rows::STEP_CELLS];
-    let run = play(streams, &mut store, &mut rows, &mut begun, &mut text, &mut piece);
+    let run = play(
+        streams, &mut store, &mut rows, &mut begun, &mut text, &mut piece,
+    );
     complain(streams, errors, run);
 }
