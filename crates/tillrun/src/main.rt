@@ -111,7 +111,8 @@ fn play(
     }
     let input = turn.input;
     let output = turn.output;
-    if stream_console::failed(output) {
+    let failed = stream_console::failed(output);
+    if failed {
         return Run { input, output };
     }
     let end = stream::finish(store, rows, begun, text, turn.place);

@@ -1,5 +1,5 @@
 -- The loop keeps what its invariant says, with one read fewer left; what it leaves is played, cut where a write failed.
-use Rattle.std.proofs.Common.{sym, ap, ◌∙◌, arith, rules}
+use Rattle.std.proofs.Common.{ap, arith, rules}
 use Rattle.stream_console.specs.declared.Input.{Input}
 use Rattle.tillrun.proofs.Turns.{going_start, going_on, fewer, played_cut, played_whole}
 use Rattle.tillrun.proofs.play.Goals as goal
@@ -20,9 +20,9 @@ loop-store-smaller c =
 
 pub returns-then-failed : goal.returns-then-failed
 returns-then-failed c =
-    played_cut c.loop-store.invariant.0 c.loop-store-test.ensures (sym c.failed.ensures ∙ c.if-failed.true)
+    played_cut c.loop-store.invariant.0 c.loop-store-test.ensures (search rules)
 
 pub returns : goal.returns
 returns c =
-    played_whole c.loop-store.invariant.0 c.loop-store-test.ensures (sym c.failed.ensures ∙ c.if-failed.false)
+    played_whole c.loop-store.invariant.0 c.loop-store-test.ensures (search rules)
     c.finish-end.ensures c.send.ensures.sent
