@@ -32,7 +32,7 @@ pub struct Output {
     failed: bool,
 }
 
-// The descriptors that are read and written: 0, 1 and 2, in this order.
+// What there is to read from and to write to: the descriptors 0, 1 and 2.
 #[derive(Clone, Copy)]
 pub struct Streams {
     pub stdin: Stdin,
@@ -66,7 +66,7 @@ pub fn writing(to: i32) -> Output
     }
 }
 
-// Reads once. A read that fails gives nothing; one of a descriptor other than 0 does.
+// Reads once. A read that fails gives nothing, and a read of another descriptor than 0 fails.
 pub fn receive(streams: Streams, input: Input, piece: &mut [u8]) -> Input
     ensures received { Received input piece.new result }
     ensures elsewhere { input.from ≢ pos 0 → (result ≡ noted input (negsuc 0) 0) × (piece.new ≡ piece.old) }
@@ -75,7 +75,7 @@ pub fn receive(streams: Streams, input: Input, piece: &mut [u8]) -> Input
     note_read(input, given, piece)
 }
 
-// Writes the first n bytes of the text. A write to a descriptor other than 1 and 2 fails.
+// Writes the first n bytes of the text. A write to another descriptor than 1 and 2 fails.
 pub fn send(streams: Streams, output: Output, text: &[u8], n: usize) -> Output
     requires { n ≤ length text.now }
     ensures sent { Sent output (take n text.now) result }
@@ -85,7 +85,7 @@ pub fn send(streams: Streams, output: Output, text: &[u8], n: usize) -> Output
     note_written(output, n, written)
 }
 
-// A read: how many bytes it gave, or -1 where it failed.
+// A read, of standard input alone: how many bytes it gave, or -1 where it failed.
 fn read_once(streams: Streams, from: i32, piece: &mut [u8]) -> isize
     ensures moved { Moved (length piece.new) result }
     ensures elsewhere { from ≢ pos 0 → (result ≡ negsuc 0) × (piece.new ≡ piece.old) }
@@ -100,7 +100,7 @@ fn read_once(streams: Streams, from: i32, piece: &mut [u8]) -> isize
     }
 }
 
-// Whether all of the text was written.
+// A write, to standard output or error alone: whether all of the text was written.
 fn write_whole(streams: Streams, to: i32, text: &[u8]) -> bool
     ensures { to ≢ pos 1 → to ≢ pos 2 → result ≡ false }
 {
