@@ -1,14 +1,12 @@
 -- A note, field by field, and what it says of the bytes that passed. Nothing outside this crate can name these laws, so
 -- that there bytes came in or went out only where a contract says so.
-use Rattle.std.proofs.Common.{◌≡◌, ℕ, ◌+◌, ◌%◌, ◌^◌, ◌≤◌, min, Bool, eqb, List, ◌++◌, length, take, ℤ, pos, negsuc, sym}
-use Rattle.std.proofs.Common.{refl, ap, ◌∙◌, arith, length-append, length-take-le}
+use Rattle.std.proofs.Common.{◌≡◌, ℕ, ◌+◌, ◌%◌, ◌^◌, ◌≤◌, Bool, eqb, List, ◌++◌, length, take, ℤ, pos, negsuc, sym, refl, ap, ◌∙◌, arith, length-append, length-take-le}
 use native.Mathlib.Nat.{min-le_right, mod-add-mod}
 use lib.Signed.{lt_z}
-use Rattle.io.specs.Counts.{clamp_len}
 use Rattle.stream_passed.specs.Passed.{Came, Went}
 use Rattle.stream_console.specs.declared.Input.{Input}
 use Rattle.stream_console.specs.declared.Output.{Output}
-use Rattle.stream_console.specs.Console.{noted, handed, CameIn, WentOut, Sent}
+use Rattle.stream_console.specs.Console.{clamp_len, noted, handed, CameIn, WentOut, Sent}
 
 -- A law that says of what a function returns one thing of all that a need asks: `part (λ (x : Need) (y : Law). y)`,
 -- where the law takes what is returned from x, an equation of it.

@@ -1,9 +1,6 @@
 -- The notes of what is read and written: from which descriptor and to which, how much, and how it ended. Counts are
 -- modulo 2^64.
-use Rattle.std.specs.Prelude.{◌≡◌, ℕ, ◌+◌, ◌-◌, ◌%◌, ◌^◌, ◌<◌, ◌≤◌, Bool, true, false, ◌⊎◌, List, ◌++◌, length, take, ℤ}
-use Rattle.std.specs.Prelude.{pos, ◌==◌, int_lt}
-use Rattle.io.specs.Counts.{clamp_len}
-use Rattle.libc.specs.Io.{Moved}
+use Rattle.std.specs.Prelude.{◌≡◌, ℕ, ◌+◌, ◌-◌, ◌%◌, ◌^◌, ◌<◌, ◌≤◌, Bool, true, false, ◌⊎◌, min, List, ◌++◌, length, take, ℤ, pos, negsuc, ◌==◌, int_lt}
 pub use Rattle.stream_passed.specs.Passed.{Came, Went}
 use Rattle.stream_console.specs.declared.Input.{Input}
 use Rattle.stream_console.specs.declared.Output.{Output}
@@ -23,6 +20,16 @@ unread d = record { from = d; reads = 0; bytes = 0; got = 0; ended = false; misr
 -- nothing is written
 abbrev pub unwritten : ℤ → Output
 unwritten d = record { to = d; bytes = 0; put = 0; failed = false }
+
+-- what a call that is handed n bytes may answer: -1, or how many bytes it moved, at most n
+abbrev pub Moved : ℕ → ℤ → Type 0
+Moved n (pos k) = k ≤ n
+Moved n (negsuc k) = k ≡ 0
+
+-- what a call answered, brought into the numbers up to n
+abbrev pub clamp_len : ℤ → ℕ → ℕ
+clamp_len (pos k) n = min k n
+clamp_len (negsuc k) n = 0
 
 -- one read more of n bytes at most, which was answered z: the bytes that it gave, none where it ended or failed
 abbrev pub noted : Input → ℤ → ℕ → Input

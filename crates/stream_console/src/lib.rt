@@ -1,16 +1,19 @@
 // Standard input, output and error. No contract can say which bytes a read gives and where a write puts them. So
-// `receive` and `send`, a call of C's each, are to be read: that the piece which `receive` leaves is the one that was
-// read into, that `send` writes the text's first bytes, and that the call's answer is what is noted. The notes no other
-// crate can make or change, and of which bytes came in and went out it knows what these two contracts say.
+// `receive` and `send`, a call of the library's each, are to be read, with `read_once` and `write_whole`, which make it:
+// that the piece which `receive` leaves is the one that was read into, that `send` writes the text's first bytes, that
+// each descriptor is that of its stream, and that the call's answer is what is noted. The notes no other crate can make
+// or change, and of which bytes came in and went out it knows what these two contracts say.
 #![tactic(auto)]
 
-ghost use Rattle.std.specs.Prelude.{◌≡◌, ◌≤◌, [], length, take};
+ghost use Rattle.std.specs.Prelude.{◌≡◌, ◌≢◌, ◌≤◌, [], length, take, pos, negsuc, false};
 ghost use Rattle.stream_console.specs.Console.{unread, unwritten, noted, handed, CameIn, WentOut};
-ghost use Rattle.stream_console.specs.Console.{Received, Sent, GoesOn};
+ghost use Rattle.stream_console.specs.Console.{clamp_len, Moved, Received, Sent, GoesOn};
+
+use std::io::{Read, Stderr, Stdin, Stdout};
 
 // A descriptor to read from; the reads and the bytes read, both modulo 2^64; the bytes that the last read gave, whether
 // it gave none, and whether it failed.
-#[derive(Drop)]
+#[derive(Clone, Copy)]
 pub struct Input {
     from: i32,
     reads: u64,
@@ -21,12 +24,20 @@ pub struct Input {
 }
 
 // A descriptor to write to; the bytes handed to it, modulo 2^64; those of the last write, and whether it failed.
-#[derive(Drop)]
+#[derive(Clone, Copy)]
 pub struct Output {
     to: i32,
     bytes: u64,
     put: usize,
     failed: bool,
+}
+
+// What there is to read from and to write to: the descriptors 0, 1 and 2.
+#[derive(Clone, Copy)]
+pub struct Streams {
+    pub stdin: Stdin,
+    pub stdout: Stdout,
+    pub stderr: Stderr,
 }
 
 // Nothing is read yet.
@@ -55,21 +66,49 @@ pub fn writing(to: i32) -> Output
     }
 }
 
-// Reads once. A read that fails gives nothing.
-pub fn receive(input: Input, piece: &mut [u8]) -> Input
-    ensures { Received input piece.new result }
+// Reads once. A read that fails gives nothing, and a read of another descriptor than 0 fails.
+pub fn receive(streams: Streams, input: Input, piece: &mut [u8]) -> Input
+    ensures received { Received input piece.new result }
+    ensures elsewhere { input.from ≢ pos 0 → (result ≡ noted input (negsuc 0) 0) × (piece.new ≡ piece.old) }
 {
-    let given = libc::read(input.from, piece);
+    let given = read_once(streams, input.from, piece);
     note_read(input, given, piece)
 }
 
-// Writes the first n bytes of the text.
-pub fn send(output: Output, text: &[u8], n: usize) -> Output
+// Writes the first n bytes of the text. A write to another descriptor than 1 and 2 fails.
+pub fn send(streams: Streams, output: Output, text: &[u8], n: usize) -> Output
     requires { n ≤ length text.now }
-    ensures { Sent output (take n text.now) result }
+    ensures sent { Sent output (take n text.now) result }
+    ensures elsewhere { output.to ≢ pos 1 → output.to ≢ pos 2 → result ≡ handed output n false }
 {
-    let written = io::write_all(output.to, &text[..n]);
+    let written = write_whole(streams, output.to, &text[..n]);
     note_written(output, n, written)
+}
+
+// A read, of standard input alone: how many bytes it gave, or -1 where it failed.
+fn read_once(streams: Streams, from: i32, piece: &mut [u8]) -> isize
+    ensures moved { Moved (length piece.new) result }
+    ensures elsewhere { from ≢ pos 0 → (result ≡ negsuc 0) × (piece.new ≡ piece.old) }
+{
+    if from != 0 {
+        return -1;
+    }
+    let mut stdin = streams.stdin;
+    match stdin.read(piece) {
+        Ok(got) => got as isize,
+        Err(_) => -1,
+    }
+}
+
+// A write, to standard output or error alone: whether all of the text was written.
+fn write_whole(streams: Streams, to: i32, text: &[u8]) -> bool
+    ensures { to ≢ pos 1 → to ≢ pos 2 → result ≡ false }
+{
+    match to {
+        1 => streams.stdout.write_all(text).is_ok(),
+        2 => streams.stderr.write_all(text).is_ok(),
+        _ => false,
+    }
 }
 
 // What a read was answered, noted.
@@ -77,9 +116,9 @@ fn note_read(input: Input, given: isize, piece: &[u8]) -> Input
     ensures { result ≡ noted input given (length piece.now) }
 {
     let from = input.from;
-    let got = io::count(given, piece);
-    let reads = std::num::wrapping_add_u64(input.reads, 1);
-    let bytes = std::num::wrapping_add_u64(input.bytes, got as u64);
+    let got = count(given, piece);
+    let reads = input.reads.wrapping_add(1);
+    let bytes = input.bytes.wrapping_add(got as u64);
     Input {
         from,
         reads,
@@ -90,12 +129,23 @@ fn note_read(input: Input, given: isize, piece: &[u8]) -> Input
     }
 }
 
+// How many bytes of the piece a read gave by its answer: none where it is negative, and never more than there are.
+fn count(given: isize, piece: &[u8]) -> usize
+    ensures { result ≡ clamp_len given (length piece.now) }
+{
+    if given > 0 {
+        piece.len().min(given as usize)
+    } else {
+        0
+    }
+}
+
 // What a write was answered, noted.
 fn note_written(output: Output, n: usize, written: bool) -> Output
     ensures { result ≡ handed output n written }
 {
     let to = output.to;
-    let bytes = std::num::wrapping_add_u64(output.bytes, n as u64);
+    let bytes = output.bytes.wrapping_add(n as u64);
     Output {
         to,
         bytes,

@@ -1,14 +1,6 @@
 -- What a turn of the program leaves, and its end.
-use mathlib.Core.Path.{◌≡◌, refl, sym, ap, subst, ◌∙◌}
-use mathlib.Core.List.{List, [], ◌++◌, append-nil}
-use mathlib.Core.Bool.{true, false, true≢false}
-use mathlib.Core.Logic.{◌⊎◌, inl, inr, ⊎_elim}
-use Prim.Native.Nat.{ℕ, ◌+◌, ◌-◌, ◌*◌, ◌%◌, ◌^◌, ◌≤◌, ◌<◌}
+use Rattle.std.proofs.Common.{◌≡◌, refl, sym, ap, subst, ◌∙◌, List, [], ◌++◌, append-nil, true, false, true≢false, inl, inr, ⊎_elim, ℕ, ◌+◌, ◌-◌, ◌*◌, ◌%◌, ◌^◌, ◌≤◌, ◌<◌, arith, ℤ, pos, negsuc, length, take, length-take-le}
 use native.Mathlib.Nat.{min-le_right, mod-eq_of_lt}
-use native.Mathlib.Omega.{arith}
-use lib.IntN.{ℤ, pos, negsuc}
-use lib.ListN.{length, take}
-use lib.Seq.{length-take-le}
 use Rattle.ledger.specs.Ledger.{empty}
 use Rattle.ledger.specs.Calls.{after, answers}
 use Rattle.store.specs.Store.{StandsFor}
@@ -42,6 +34,10 @@ module _ {l k o : List ℕ} {t : Turn} {l' k' o' x' : List ℕ} {t' : Turn} wher
 
   abbrev pub Answered : Turned l k o t l' k' o' x' t' → Place → Type 0
   Answered _ q = Sent t.output (take q.text o') t'.output
+
+  -- n bytes are answered, as many as the read gave
+  abbrev pub Counted : Turned l k o t l' k' o' x' t' → ℕ → Type 0
+  Counted _ n = n ≡ t'.input.got
 
   pub turned : {q : Place} {n : ℕ} → longest * length x' ≤ length o' → Took l k o t.place (take n x') l' k' o' q
       → n ≡ t'.input.got → Received t.input x' t'.input → Sent t.output (take q.text o') t'.output

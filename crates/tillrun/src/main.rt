@@ -14,10 +14,12 @@ ghost use Rattle.tillrun.specs.Program.{Turned, Played};
 ghost use Rattle.tillrun.specs.Complaints.{Said, Warned, Complained};
 
 use request::ranges;
+use std::env::FillError;
+use std::rt::Env;
 use step_rows::StepRows;
 use store::Store;
 use stream::Place;
-use stream_console::{Input, Output};
+use stream_console::{Input, Output, Streams};
 
 // The first bytes of a sheet that has begun: one more than a sheet may have.
 type Begun = [u8; stream_sheets::MOST];
@@ -33,7 +35,7 @@ type Text = [u8; TEXT];
 type Piece = [u8; PIECE];
 
 // Between two reads: what the state stands for, and what has been read and written.
-#[derive(Drop)]
+#[derive(Clone, Copy)]
 struct Turn {
     place: Place,
     input: Input,
@@ -41,7 +43,7 @@ struct Turn {
 }
 
 // What has been read and written in the end.
-#[derive(Drop)]
+#[derive(Clone, Copy)]
 struct Run {
     input: Input,
     output: Output,
@@ -55,6 +57,7 @@ fn sized(begun: Begun, text: Text, piece: Piece)
 
 // Reads once, answers what came and writes the answers.
 fn next_piece(
+    streams: Streams,
     store: &mut Store,
     rows: &mut StepRows,
     begun: &mut [u8],
@@ -66,10 +69,10 @@ fn next_piece(
     ensures { Turned store.old begun.old text.old turn
         store.new begun.new text.new piece.new result }
 {
-    let input = stream_console::receive(turn.input, piece);
+    let input = stream_console::receive(streams, turn.input, piece);
     let n = stream_console::got(input);
     let next = stream::feed(store, rows, begun, text, turn.place, &piece[..n]);
-    let output = stream_console::send(turn.output, text, next.text);
+    let output = stream_console::send(streams, turn.output, text, next.text);
     Turn {
         place: Place {
             filled: next.filled,
@@ -83,6 +86,7 @@ fn next_piece(
 
 // Plays the input to its end. Where the answers cannot be written, the sheet that has begun is left.
 fn play(
+    streams: Streams,
     store: &mut Store,
     rows: &mut StepRows,
     begun: &mut Begun,
@@ -103,36 +107,38 @@ fn play(
         output: stream_console::writing(1),
     };
     while stream_console::goes_on(turn.input, turn.output) {
-        turn = next_piece(store, rows, begun, text, piece, turn);
+        turn = next_piece(streams, store, rows, begun, text, piece, turn);
     }
     let input = turn.input;
     let output = turn.output;
-    if stream_console::failed(output) {
+    let failed = stream_console::failed(output);
+    if failed {
         return Run { input, output };
     }
     let end = stream::finish(store, rows, begun, text, turn.place);
     Run {
         input,
-        output: stream_console::send(output, text, end),
+        output: stream_console::send(streams, output, text, end),
     }
 }
 
 // Writes a line, where it is to be said. Whether that fails is of no concern.
-fn say(errors: Output, wrong: bool, line: &[u8]) -> Output
+fn say(streams: Streams, errors: Output, wrong: bool, line: &[u8]) -> Output
     ensures { Said errors wrong line.now result }
 {
     if wrong {
-        return stream_console::send(errors, line, line.len());
+        return stream_console::send(streams, errors, line, line.len());
     }
     errors
 }
 
 // Says that arguments are not taken, where there is one beside the program's own name.
-fn warn(words: usize) -> Output
+fn warn(streams: Streams, words: usize) -> Output
     ensures { Warned words result }
 {
     let errors = stream_console::writing(2);
     say(
+        streams,
         errors,
         1 < words,
         b"tillrun: takes no arguments; sheets are read from standard input, as in: tillrun <FILE\n",
@@ -140,31 +146,52 @@ fn warn(words: usize) -> Output
 }
 
 // Says what could not be done.
-fn complain(errors: Output, run: Run) -> Output
+fn complain(streams: Streams, errors: Output, run: Run) -> Output
     ensures { Complained errors run.input run.output result }
 {
     let unread = stream_console::misread(run.input);
     let then = say(
+        streams,
         errors,
         unread,
         b"tillrun: the input could not be read; it is taken to end there\n",
     );
     let unwritten = stream_console::failed(run.output);
     say(
+        streams,
         then,
         unwritten,
         b"tillrun: the answers could not be written; nothing more is read\n",
     )
 }
 
-fn main() {
-    let errors = warn(os::arg_count());
+// How many arguments the program was started with, its own name among them. By a bound the proofs would rest on all that
+// the system says of its surroundings, and not on this one call.
+fn arg_count(rt: &HostRuntime) -> usize {
+    let mut front = [0u8; 1];
+    for i in 0..usize::MAX {
+        if let Err(FillError::NotPresent) = rt.arg(i, &mut front) {
+            return i;
+        }
+    }
+    usize::MAX
+}
+
+fn main(rt: HostRuntime) {
+    let streams = Streams {
+        stdin: rt.stdin(),
+        stdout: rt.stdout(),
+        stderr: rt.stderr(),
+    };
+    let errors = warn(streams, arg_count(&rt));
     let mut store = [0u32; store_cells::CELLS];
     store::start(&mut store);
     let mut begun = [0u8; stream_sheets::MOST];
     let mut text = [0u8; TEXT];
     let mut piece = [0u8; PIECE];
     let mut rows = [0u32; step_rows::STEP_CELLS];
-    let run = play(&mut store, &mut rows, &mut begun, &mut text, &mut piece);
-    complain(errors, run);
+    let run = play(
+        streams, &mut store, &mut rows, &mut begun, &mut text, &mut piece,
+    );
+    complain(streams, errors, run);
 }
