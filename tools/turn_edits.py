@@ -265,9 +265,8 @@ def turned_pair(file, now, k, line, old, new):
         made = made[: x - low] + put + made[y - low :]
     if made == wide:
         raise Hand("nothing changes")
-    made = re.sub(r"\(([a-z_]+\.(?:now|old|new))\)", r"\1", made)
     if "( " not in wide:
-        made = made.replace("( ", "(")
+        made = re.sub(r"\(([a-z_]+\.(?:now|old|new))\)", r"\1", made.replace("( ", "("))
     if wide.endswith(" }"):
         made = re.sub(r"(?<=\S)}$", " }", made)
     if re.match(r"(?:pub |ghost )*use ", wide):
