@@ -365,7 +365,8 @@ def place(crate, word):
     if not os.path.isfile(path):
         return word
     text = read(path)
-    for new in dict.fromkeys((MAP.get(name, name), MAP.get(snake(name), snake(name)), snake(name), name)):
+    now = MAP.get(name, name)
+    for new in dict.fromkeys((now, MAP.get(snake(name), snake(name)), snake(name), name, f"{now}_holds")):
         if re.search(HEAD.format(re.escape(new)), text):
             fields = ",".join(".".join(MAP.get(p, snake(p)) for p in f.split(".")) for f in fields.split(",")) if colon else ""
             return f"{found}.{new}{colon}{fields}"
