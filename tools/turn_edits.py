@@ -200,18 +200,19 @@ def hunks(old, new):
 
 
 def turned_pair(file, now, k, line, old, new):
-    """Old and new text of today, for a pair whose old text stands in line k, `line` as it is when the pair's turn comes."""
+    """The pairs of today, old and new text, for one whose old text stands in line k, `line` as it is when its turn comes; and
+    how they were found."""
     crate, code = file.crate, file.code
     o, n = crate.turned(old, code), crate.turned(new, code)
     c, d, a, b = file.lines(k)
     lines = now.split("\n")
     there = [j for j in range(c, d) if o in lines[j]]
     if now.count(o) == 1 and (there or d == c):
-        return o, n, "names" if there else "names, elsewhere"
+        return [(o, n)], "names" if there else "names, elsewhere"
     if len(there) == 1 and d - c == 1:  # the text stands elsewhere too: take more of the line
         wide = lines[c]
         if now.count(wide) == 1 and wide.count(o) == 1:
-            return wide, wide.replace(o, n), "whole line"
+            return [(wide, wide.replace(o, n))], "whole line"
     if d == c:
         raise Hand("its line is gone")
     # by the pieces of the block
@@ -254,26 +255,30 @@ def turned_pair(file, now, k, line, old, new):
             spans.append((x, y, (gap if put[:1].isspace() or not put[-1:].isspace() else "") + put + (gap if put[-1:].isspace() else ""), 0, 0)) if not gap.strip() and not gap else spans.append((y, y, put, 0, 0) if put[-1:].isspace() else (x, x, put, 0, 0))
             continue
         spans.append((x, y, put, 0, 0))
-    rows = {text[:x].count("\n") for x, _, _, _, _ in spans} | {text[:y].count("\n") for _, y, _, _, _ in spans}
-    if len(rows) != 1:
-        raise Hand("the change is on several lines")
-    row = rows.pop()
-    low = sum(len(lines[c + r]) + 1 for r in range(row))
-    wide = lines[c + row]
-    made = wide
+    made_of = {}
     for x, y, put, _, _ in sorted(spans, reverse=True):
-        made = made[: x - low] + put + made[y - low :]
-    if made == wide:
-        raise Hand("nothing changes")
-    if "( " not in wide:
-        made = re.sub(r"\(([a-z_]+\.(?:now|old|new))\)", r"\1", made.replace("( ", "("))
-    if wide.endswith(" }"):
-        made = re.sub(r"(?<=\S)}$", " }", made)
-    if re.match(r"(?:pub |ghost )*use ", wide):
-        wide, made = smallest(now, wide, made)
-    if now.count(wide) == 1 and wide:
-        return wide, made, "pieces"
-    raise Hand("its line stands more than once")
+        row = text[:x].count("\n")
+        if text[:y].count("\n") != row:
+            raise Hand("the change is on several lines")
+        low = sum(len(lines[c + r]) + 1 for r in range(row))
+        made = made_of.get(row, lines[c + row])
+        made_of[row] = made[: x - low] + put + made[y - low :]
+    found = []
+    for row, made in sorted(made_of.items()):
+        wide = lines[c + row]
+        if "( " not in wide:
+            made = re.sub(r"\(([a-z_]+\.(?:now|old|new))\)", r"\1", made.replace("( ", "("))
+        if wide.endswith(" }"):
+            made = re.sub(r"(?<=\S)}$", " }", made)
+        if re.match(r"(?:pub |ghost )*use ", wide):
+            wide, made = smallest(now, wide, made)
+        if not wide or now.count(wide) != 1:
+            raise Hand("its line stands more than once")
+        if made == wide:
+            raise Hand("nothing changes")
+        now = now.replace(wide, made)
+        found.append((wide, made))
+    return found, "pieces"
 
 
 def smallest(now, wide, made):
@@ -321,30 +326,32 @@ def misfit(text, folder):
 
 
 def turned_edit(crate, text):
+    """An edit of FROM as it is for TODAY, and how its pairs were found."""
     was, now, said, out = {}, {}, set(), []
     done = iter(pairs(text))
-    fresh = {}
     for line in text.splitlines():
         if line.startswith("old:"):
             name, old, new = next(done)
             file = crate.file(name)
             before = was.setdefault(name, file.before)
-            today = now.setdefault(name, file.now)
+            now.setdefault(name, file.now)
             if before.count(old) != 1:
                 raise Hand(f"did not fit: {old}")
-            at = before.index(old)
-            k = before[:at].count("\n")
-            o, n, how = turned_pair(file, today, k, before.split("\n")[k], old, new)
+            k = before[: before.index(old)].count("\n")
+            found, how = turned_pair(file, now[name], k, before.split("\n")[k], old, new)
             said.add(how)
-            was[name], now[name] = before.replace(old, new), today.replace(o, n)
-            fresh[name] = (o, n)
-            out.append(f"old: {o}")
-            pending = n
-        elif line.startswith("new:"):
-            out.append(f"new: {pending}".rstrip() if not pending else f"new: {pending}")
-        else:
+            was[name] = before.replace(old, new)
+            for o, n in found:
+                now[name] = now[name].replace(o, n)
+                out += [f"old: {o}", f"new: {n}" if n else "new:"]
+        elif not line.startswith("new:"):
             out.append(line)
     return "\n".join(out) + "\n", said
+
+
+def as_today(crate, text):
+    """Whether no name in the pairs of an edit is spelled as it was."""
+    return all(crate.turned(t, file.endswith(".rt")) == t for file, old, new in pairs(text) for t in (old, new))
 
 
 # -- places ---------------------------------------------------------------------------------------------------------------
@@ -366,7 +373,7 @@ def place(crate, word):
         return word
     text = read(path)
     now = MAP.get(name, name)
-    for new in dict.fromkeys((now, MAP.get(snake(name), snake(name)), snake(name), name, f"{now}_holds")):
+    for new in dict.fromkeys((name, now, MAP.get(snake(name), snake(name)), snake(name), f"{now}_holds")):
         if re.search(HEAD.format(re.escape(new)), text):
             fields = ",".join(".".join(MAP.get(p, snake(p)) for p in f.split(".")) for f in fields.split(",")) if colon else ""
             return f"{found}.{new}{colon}{fields}"
@@ -402,11 +409,14 @@ def main(before, now, dry, only):
         for path in sorted(glob.glob(f"{folder}slips/*.edit")):
             label = os.path.basename(path)
             was, is_now = f"{before}/crates/{name}/slips/{label}", read(path)
-            if not os.path.isfile(was) or read(was) != is_now and not misfit(is_now, folder):
+            fits = not misfit(is_now, folder)
+            if fits and (not os.path.isfile(was) or read(was) != is_now):
                 left += 1
                 continue
             try:
-                text, said = turned_edit(crate, read(was))
+                if not os.path.isfile(was):
+                    raise Hand("it is not in FROM")
+                text, said = (is_now, {"names"}) if fits and as_today(crate, is_now) else turned_edit(crate, read(was))
                 text = turned_places(crate, text)
                 wrong = misfit(text, folder)
                 if wrong:
