@@ -27,6 +27,9 @@ FUNCTION = re.compile(r'(?:pub )?(?:extern "C" )?fn (\w+)')
 CALL = re.compile(r"(?:(\w+)::)?(\w+)\(")
 
 
+USE = re.compile(r"^(?:pub )?use (\w+(?:::\w+)*)::(\w+|\{[^}]*\})(?: as (\w+))?;", re.M)
+
+
 class Bad(Exception):
     """A slip that cannot be used, and why."""
 
@@ -38,7 +41,18 @@ def read(path):
 
 def crates():
     """The crates that crates.txt lists."""
-    return re.findall(r"^(\w+):", read(f"{ROOT}/crates.txt"), re.M)
+    return re.findall(r"^(\w+)[^:#\n]*:", read(f"{ROOT}/crates.txt"), re.M)
+
+
+def brought(text):
+    """What a source brings in by `use`: pairs of a crate (or `crate`) and the last word of a path in it, by which it is called here."""
+    found = []
+    for path, last, renamed in USE.findall(text):
+        for word in last.strip("{}").split(","):
+            there, _, here = word.strip().partition(" as ")
+            if there:
+                found.append((path.split("::")[0], renamed or here or there.split("::")[-1]))
+    return found
 
 
 def each_place(word):
@@ -137,10 +151,11 @@ class Crate:
 
     def using(self, file, k):
         """The functions that use what line k of a file brings in, `use crate::NAME;`; none if it is used elsewhere."""
-        name = re.fullmatch(r"use crate::(\w+);", self.lines(file)[k])
-        if not name:
+        names = [name for crate, name in brought(self.lines(file)[k]) if crate == "crate"]
+        if not names:
             return []
-        uses = {n for n, line in enumerate(self.lines(file)) if n != k and re.search(rf"\b{name[1]}\b", line)}
+        word = re.compile(rf"\b(?:{'|'.join(names)})\b")
+        uses = {n for n, line in enumerate(self.lines(file)) if n != k and word.search(line)}
         found = [f for f in self.functions.values() if f.file == file and uses & set(range(f.body, f.end + 1))]
         return found if uses == {n for n in uses for f in found if f.body <= n <= f.end} else []
 
