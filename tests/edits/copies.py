@@ -17,7 +17,7 @@ PARTS = ("src", "specs", "proofs")
 
 
 def linked(there, here):
-    """Copies a folder of what was kept or built; what was proved by second names where these can be made."""
+    """Copies a folder of what was kept or built, if it is there; what was proved by second names where these can be made."""
 
     def copy(one, other):
         try:
@@ -28,7 +28,8 @@ def linked(there, here):
         return shutil.copy2(one, other)
 
     shutil.rmtree(here, ignore_errors=True)
-    shutil.copytree(there, here, copy_function=copy)
+    if os.path.isdir(there):
+        shutil.copytree(there, here, copy_function=copy)
 
 
 class Copy:
@@ -40,8 +41,7 @@ class Copy:
         shutil.copyfile(f"{ROOT}/crates.txt", f"{folder}/crates.txt")
         for name in crates():
             self.restore(name)
-            if os.path.isdir(f"{ROOT}/crates/{name}/out/rlib"):
-                linked(f"{ROOT}/crates/{name}/out/rlib", f"{folder}/crates/{name}/out/rlib")
+            linked(f"{ROOT}/crates/{name}/out/rlib", f"{folder}/crates/{name}/out/rlib")
 
     def restore(self, name):
         """The crate's sources are those of the repository again."""
@@ -98,9 +98,7 @@ class Copies:
         """Checks the crate without an edit, and keeps what is proved of it for `edited`; returns what the check printed."""
 
         def work(copy):
-            kept = f"{ROOT}/crates/{name}/out/incremental"
-            if os.path.isdir(kept):
-                linked(kept, copy.kept(name))
+            linked(f"{ROOT}/crates/{name}/out/incremental", copy.kept(name))
             said = copy.check(name)
             if "logic=proved" in said:
                 linked(copy.kept(name), f"{self.folder}/kept/{name}")
