@@ -130,13 +130,13 @@ in_crate() { # in_crate NAME COMMAND..: in the crate's folder
   (cd "crates/$1" && "${@:2}")
 }
 
-building() { # building LOG NAME VERB: proves the crate and all that it uses, where changed, and builds it: rt VERB
-  local log=$1 status
+building() { # building LOG VERB NAME..: proves the crates and all that they use, where changed, and builds them: rt VERB
+  local log=$1 name status=0
   # side by side; what else is not proved does not matter, for rt VERB proves what is left, and says what is not
   watched "how_far $log $(crates_of) 0" quietly "$log" rt all check --jobs "$(side_by_side_checks)"
-  watched "echo building $2" quietly "$log" in_crate "$2" rt "$3"
-  status=$?
-  [ $status -eq 0 ] || cat "$log" >&2
+  for name in "${@:3}"; do
+    watched "echo building $name" quietly "$log.$name" in_crate "$name" rt "$2" || { cat "$log" "$log.$name" >&2; status=1; }
+  done
   return $status
 }
 
