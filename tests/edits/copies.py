@@ -1,12 +1,17 @@
 """Copies of the repository in which a wrong edit of one crate is checked over what is proved of it. Shared by edits/run,
 edits/refusals and slips/definitions.py.
 
+Names that Rattle makes of a function's steps have what the code compares in them (`if-d-eq0`, of `if d == 0`). Where an edit
+changes that, the function's proof file names what is no longer there, and a refusal for that says nothing: so in the copy
+such a name becomes the one that stands in its place now, as the check's own help gives it, and the crate is checked again.
+
 A copy lies among the temporary files: below the repository's top rt ci wants no second crates.txt and no source that it
 does not check. It has the sources of every crate and, as second names of the same files, the libraries that `rt all
 check` built; rt removes such a file before it makes it anew, and never writes into it.
 """
 import os
 import queue
+import re
 import shutil
 import subprocess
 import tempfile
@@ -14,6 +19,28 @@ import tempfile
 from slips import ROOT, crates, replaced
 
 PARTS = ("src", "specs", "proofs")
+# what is said of a name that is gone, and the nearest one
+ERROR = re.compile(r"^(?:.*/)?(proofs/\S+\.antt):\d+:\d+: error: (.*(?:\n  .*)*)$", re.M)
+GONE = [re.compile(r"has\s+no\s+field\s+`([^`]+)`\s+\(nearest:\s+\.([^\s,)]+)"),
+        re.compile(r"has\s+no\s+`([^`]+)`\s+that\s+can\s+be\s+named\s+from\s+here\s+\(did\s+you\s+mean\s+`([^`]+)`\?\)")]
+TURNS = 12  # of renaming and checking again
+
+
+def renamed(folder, said):
+    """Gives the names that are gone, as a check said, those that stand in their place; returns a line for each."""
+    told = []
+    for file, why in ERROR.findall(said):
+        for old, new in (pair for gone in GONE for pair in gone.findall(why)):
+            if old == new or old.split("-")[0] != new.split("-")[0]:
+                continue
+            with open(f"{folder}/{file}", encoding="utf-8") as own:
+                text = own.read()
+            after = re.sub(rf"(?<=\.){re.escape(old)}(?![\w'-])", lambda _, new=new: new, text)
+            if after != text:
+                told.append(f"{file}: {old} is {new} with the edit")
+                with open(f"{folder}/{file}", "w", encoding="utf-8") as own:
+                    own.write(after)
+    return told
 
 
 def linked(there, here):
@@ -117,7 +144,14 @@ class Copies:
                 for file, after in replaced(text_of, pairs).items():
                     with open(f"{copy.folder}/crates/{crate.name}/{file}", "w", encoding="utf-8") as out:
                         out.write(after)
-                return copy.check(crate.name)
+                said, told = copy.check(crate.name), []
+                for _ in range(TURNS):
+                    more = renamed(f"{copy.folder}/crates/{crate.name}", said)
+                    if not more:
+                        break
+                    told += more
+                    said = copy.check(crate.name)
+                return "".join(f"{line}\n" for line in told) + said
             finally:
                 copy.restore(crate.name)
                 shutil.rmtree(copy.kept(crate.name), ignore_errors=True)
