@@ -110,8 +110,9 @@ quietly() { # quietly LOG COMMAND..: what it prints goes to LOG
   "${@:2}" >"$1" 2>&1 </dev/null
 }
 
-side_by_side_checks() { # how many checks this machine holds at once: a processor and 3 GB of memory for each
+side_by_side_checks() { # how many checks this machine holds at once, a processor and 3 GB of memory for each; or CHECKS
   local most
+  [ -z "${CHECKS:-}" ] || { echo "$CHECKS"; return; }
   most=$(($(awk '/^MemAvailable/ { print $2 }' /proc/meminfo) / 3000000))
   [ "$most" -ge 1 ] || most=1
   [ "$most" -le "$(nproc)" ] || most=$(nproc)

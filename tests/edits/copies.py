@@ -88,10 +88,10 @@ class Copy:
 
 
 class Copies:
-    """As many copies as there are processors, made when they are first wanted. `with Copies() as copies`."""
+    """As many copies as there are processors, or CHECKS says, made when first wanted. `with Copies() as copies`."""
 
     def __init__(self):
-        self.number = os.cpu_count()
+        self.number = int(os.environ.get("CHECKS") or os.cpu_count())
         self.free = queue.Queue()
 
     def __enter__(self):
