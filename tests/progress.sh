@@ -22,17 +22,6 @@ installed() { # installed COMMAND PACKAGE..: a machine without the command insta
   apt-get update -qq >&2 && apt-get install -y -qq "${@:2}" >&2
 }
 
-in_memory() { # temporary files go to memory where it has 4 GB to spare; the caller removes $TMPDIR if this answers 0
-  local free
-  # a check writes and removes some thousand small files, which on a disk takes long (docs/DECISIONS.md, 137)
-  [ -z "${TMPDIR:-}" ] && [ -w /dev/shm ] || return 1
-  free=$(df -k --output=avail /dev/shm | tail -n 1)
-  [ "$free" -ge 4000000 ] && [ "$(awk '/^MemAvailable/ { print $2 }' /proc/meminfo)" -ge 8000000 ] || return 1
-  TMPDIR=$(mktemp -d /dev/shm/oysterbrim.XXXXXX) && chmod 755 "$TMPDIR" || return 1 # rt runs programs as nobody
-  cp /bin/true "$TMPDIR/true" && "$TMPDIR/true" 2>/dev/null || { rm -rf "$TMPDIR"; unset TMPDIR; return 1; }
-  export TMPDIR
-}
-
 tell() { # tell LINE: in the place of the line before on a terminal
   if [ -t 2 ]; then printf '\r\033[K%s' "${1:0:$((${COLUMNS:-80} - 1))}" >&2; else printf '%s\n' "$1" >&2; fi
 }
@@ -78,7 +67,7 @@ crates_of() { # crates_of NAME..: how many crates these are, with all that they 
       for (k = 1; k <= n; k++) visit(used[k])
     }
     { sub(/#.*/, "") }
-    /:/ { at = index($0, ":"); name = substr($0, 1, at - 1); gsub(/[ \t]/, "", name); uses[name] = substr($0, at + 1) }
+    /:/ { at = index($0, ":"); split(substr($0, 1, at - 1), words, " "); uses[words[1]] = substr($0, at + 1) }
     END {
       n = split(names, want, " ")
       for (k = 1; k <= n; k++) visit(want[k])
@@ -87,22 +76,33 @@ crates_of() { # crates_of NAME..: how many crates these are, with all that they 
     }' crates.txt
 }
 
-how_far() { # how_far LOG BEGAN CRATES EDITS: where rt is that prints into LOG; BEGAN is a file as old as its run
-  local log=$1 crates=$3 edits=$4 proved edited name now=()
-  proved=$(grep -cE '^rt: [a-z0-9_]+ (proved|NOT PROVED)' "$log" 2>/dev/null)
-  edited=$(grep -cE '^rt: must-fail ' "$log" 2>/dev/null)
-  if [ "${edited:-0}" -gt 0 ]; then
-    echo "wrong edits: $edited of $edits tried"
-  elif [ "${proved:-0}" -ge "$crates" ] && [ "$edits" -gt 0 ]; then
-    echo "wrong edits: none of $edits tried yet"
+names_of() { # the crates that crates.txt lists
+  sed -nE 's/^([a-z0-9_]+)[^#:]*:.*/\1/p' crates.txt
+}
+
+at_work() { # the crates in whose folders a process works
+  local at
+  for at in /proc/[0-9]*/cwd; do
+    at=$(readlink "$at" 2>/dev/null)
+    [[ $at != "$PWD"/crates/* ]] || basename "$at"
+  done | sort -u
+}
+
+how_far() { # how_far LOG CRATES EDITS: where rt is that prints into LOG
+  local log=$1 crates=$2 edits=$3 told begun name now=()
+  # rt ci says of each crate how it ended; rt all check prints what was said of it, under its name, until the summary
+  told=$(sed '/^== summary/,$d' "$log" 2>/dev/null | sed -nE \
+    's/^rt: ([a-z0-9_]+) (proved|NOT PROVED|is kept).*/\1/p; s/^== ([a-z0-9_]+)$/\1/p' | sort -u)
+  begun=$(sed -nE 's/^rt: [a-z0-9_]+: trying its must-fail edits \(([0-9]+)\)$/\1/p' "$log" 2>/dev/null | awk '{ n += $1 } END { print n + 0 }')
+  if [ "$(grep -c . <<<"$told")" -ge "$crates" ] && [ "$edits" -gt 0 ]; then
+    echo "wrong edits: $begun of $edits begun"
   else
-    for name in target/log/*.out; do # what has begun and is not told of yet
-      [ "$name" -nt "$2" ] || continue
-      name=${name#target/log/} name=${name%.out}
-      grep -qE "^rt: $name (proved|NOT PROVED)" "$log" || now+=("$name")
+    for name in $(at_work); do # what has begun and is not told of yet
+      grep -qx "$name" <<<"$told" || now+=("$name")
     done
-    [ "${proved:-0}" -lt "$crates" ] || proved=$((crates - 1))
-    echo "proving crate $((proved + 1)) of $crates${now[*]:+: ${now[*]}}"
+    name=$(grep -c . <<<"$told")
+    [ "$name" -lt "$crates" ] || name=$((crates - 1))
+    echo "proving crate $((name + 1)) of $crates${now[*]:+: ${now[*]}}"
   fi
 }
 
@@ -110,13 +110,37 @@ quietly() { # quietly LOG COMMAND..: what it prints goes to LOG
   "${@:2}" >"$1" 2>&1 </dev/null
 }
 
-proving() { # proving LOG WORDS..: rt WORDS, what it prints in LOG, which is shown where it fails
-  local log=$1 began status
-  shift
-  began=$(mktemp) || return 1
-  watched "how_far $log $began $(crates_of "${@:2}") 0" quietly "$log" rt "$@"
+side_by_side_checks() { # how many checks this machine holds at once, a processor and 3 GB of memory for each; or CHECKS
+  local most
+  [ -z "${CHECKS:-}" ] || { echo "$CHECKS"; return; }
+  most=$(($(awk '/^MemAvailable/ { print $2 }' /proc/meminfo) / 3000000))
+  [ "$most" -ge 1 ] || most=1
+  [ "$most" -le "$(nproc)" ] || most=$(nproc)
+  echo "$most"
+}
+
+proving() { # proving LOG: proves every crate that has changed; what rt prints is in LOG, which is shown where it fails
+  local log=$1 status
+  watched "how_far $log $(crates_of) 0" quietly "$log" rt all check --jobs "$(side_by_side_checks)"
   status=$?
-  rm -f "$began"
   [ $status -eq 0 ] || cat "$log" >&2
   return $status
+}
+
+in_crate() { # in_crate NAME COMMAND..: in the crate's folder
+  (cd "crates/$1" && "${@:2}")
+}
+
+building() { # building LOG VERB NAME..: proves the crates and all that they use, where changed, and builds them: rt VERB
+  local log=$1 name status=0
+  # side by side; what else is not proved does not matter, for rt VERB proves what is left, and says what is not
+  watched "how_far $log $(crates_of) 0" quietly "$log" rt all check --jobs "$(side_by_side_checks)"
+  for name in "${@:3}"; do
+    watched "echo building $name" quietly "$log.$name" in_crate "$name" rt "$2" || { cat "$log" "$log.$name" >&2; status=1; }
+  done
+  return $status
+}
+
+newest() { # newest FILE SOURCE..: the file is there, and none of the sources is younger
+  [ -e "$1" ] && [ -z "$(find "${@:2}" -newer "$1" -print -quit 2>/dev/null)" ]
 }

@@ -20,11 +20,11 @@ import sys
 sys.dont_write_bytecode = True
 ROOT = os.path.dirname(os.path.dirname(os.path.dirname(os.path.abspath(__file__))))
 sys.path.insert(0, f"{ROOT}/tests/edits")
-from slips import Crate, read
+from slips import Crate, brought, read
 
 KIT = {"io", "libc", "os", "bytes", "check"}
 # where a booking's bytes come in, and the calls that are no booking
-ENTRY = ("entry", "till_call")
+ENTRY = ("entry_c", "till_call")
 OTHER_REQUESTS = {"word", "issue", "withdraw", "tally"}
 # a crate whose definitions one other alone may open: it passes their names on shut, and no law of them
 SHUT = {"stream_passed": "stream_console"}
@@ -43,8 +43,14 @@ def listed():
     for line in read(f"{ROOT}/crates.txt").splitlines():
         name, colon, uses = line.partition("#")[0].partition(":")
         if colon:
-            found[name.strip()] = uses.split()
+            found[name.split()[0]] = uses.split()
     return found
+
+
+def kinds():
+    """From each crate of crates.txt to what stands before the colon: its name, and `staticlib` after that of a static library."""
+    lines = (line.partition("#")[0].partition(":") for line in read(f"{ROOT}/crates.txt").splitlines())
+    return {before.split()[0]: " ".join(before.split()) for before, colon, _ in lines if colon}
 
 
 def sources(name):
@@ -74,8 +80,7 @@ class Types:
                     self.take(name, plain(text))
 
     def take(self, name, text):
-        brought = {last: crate for crate, last in re.findall(r"^use (\w+)(?:::\w+)*::(\w+);", text, re.M)}
-        self.brought = {last: crate for last, crate in brought.items() if crate in self.names}
+        self.brought = {last: crate for crate, last in brought(text) if crate in self.names}
         for kind, own, body in re.findall(r"^(?:pub )?(struct|enum) (\w+)\s*\{(.*?)^\}", text, re.M | re.S):
             self.parts[name, own] = self.used(name, body)
         for own, body in re.findall(r"^(?:pub )?type (\w+) = (.*?);", text, re.M | re.S):
@@ -107,11 +112,10 @@ def named(name, names):
     """The crates that a crate's files name, and the functions of others that it calls."""
     crates, calls = set(), set()
     for path, text in sources(name).items():
-        crates.update(re.findall(r"Rattle·([a-z0-9_]+)", text))
+        crates.update(re.findall(r"Rattle\.([a-z0-9_]+)", text))
         if path.endswith(".rt"):
             text = plain(text)
-            brought = re.findall(r"^use (\w+)(?:::\w+)*::(\w+);", text, re.M)
-            modules = {last: crate for crate, last in brought}
+            modules = {last: crate for crate, last in brought(text)}
             crates.update(word for word in re.findall(r"(?<![\w:])([a-z0-9_]+)::", text) if word not in modules)
             for before, middle, own in re.findall(r"(?<![\w:])(?:(\w+)::)?(?:(\w+)::)?(\w+)\(", text):
                 crate = modules.get(before or own) or (before if before in names else None)
@@ -141,8 +145,8 @@ def groups():
         heading = re.match(r"## (.*)", line)
         if heading:
             found.append((heading[1], []))
-        elif re.match(r"\w+:", line) and found:
-            found[-1][1].append(line.partition(":")[0])
+        elif re.match(r"\w[^#]*:", line) and found:
+            found[-1][1].append(re.match(r"\w+", line)[0])
     return found
 
 
@@ -214,7 +218,7 @@ class Calls:
             for function in crate.functions.values():
                 own = function.name.split("::")[-1]
                 self.bodies[name, own] = function
-                uses = re.findall(r"^use (\w+)(?:::\w+)*::(\w+);", "\n".join(crate.lines(function.file)), re.M)
+                uses = brought("\n".join(crate.lines(function.file)))
                 self.brought[name, own] = {last: other for other, last in uses if other in self.crates}
 
     def of(self, at):
@@ -394,7 +398,8 @@ def looked_at():
 
 def main(words):
     if words == ["--list"]:
-        print("\n".join(" ".join([f"{name}:", *uses]) for name, uses in needed().items()))
+        kind = kinds()
+        print("\n".join(" ".join([f"{kind[name]}:", *uses]) for name, uses in needed().items()))
     elif words == ["--check"]:
         looked = list(looked_at())
         for fault in (fault for faults in looked for fault in faults):

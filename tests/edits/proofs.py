@@ -1,14 +1,16 @@
 """The declarations in the proofs of a crate: which rests on which, and what a place in one is called.
 
-A place is where a check says that something is refused: FILE.DECLARATION, of proofs/FILE.antt. A declaration that has
-nothing but `refl` is computed, and each `refl` is a place of its own: FILE.DECLARATION:FIELD, or :N for the N-th.
+A place is where a check says that something is refused: FILE.DECLARATION, of proofs/FILE.antt; or a function, where the
+check has to find what it ensures by itself. A declaration that has nothing but `refl` is computed, and each `refl` is a
+place of its own: FILE.DECLARATION:FIELD, or :N for the N-th.
 """
 import os
 import re
 from collections import defaultdict
 
-HEAD = re.compile(r"^ *(?:pub |abbrev )*(?:(?:record|data) ([^\s{]+)|([^\s(){}λ]\S*) :(?: |$))")
-USE = re.compile(r"^ *use Rattle·\w+·proofs\.proofs\.([\w.+]+)\.\{([^}]*)\}", re.M)
+HEAD = re.compile(r"^ *(?:pub |abbrev |unfoldable |opaque )*(?:(?:record|data) ([^\s{]+)|([^\s(){}λ]\S*) :(?: |$))")
+USE = re.compile(r"^ *use Rattle\.(\w+)\.proofs\.([\w.+]+)\.\{([^}]*)\}", re.M)
+FILES = ("Proof", "Answers", "Invariants")  # what a function's folder of proofs/ may hold
 WORD = re.compile(r"[^\s(){}.,;]+")
 
 
@@ -29,7 +31,7 @@ class Declaration:
         found, path, count = {}, [], 0
         for k, line in enumerate(self.lines[body:], body):
             text = line if k > body else line.replace(f"{self.name} =", " " * len(f"{self.name} ="), 1)
-            for word in re.finditer(r"([\w-]+) =|record \{|\}|[^\s(){},;]+", text):
+            for word in re.finditer(r"([\w'-]+) =|record \{|\}|[^\s(){},;]+", text):
                 if word[1]:
                     path[-1:] = [word[1]]
                 elif word[0] == "record {":
@@ -67,7 +69,7 @@ class Proofs:
     """The proofs of a crate, of slips.Crate."""
 
     def __init__(self, crate):
-        self.crate, self.declared, self.rests, self.known = crate, {}, defaultdict(set), {}
+        self.crate, self.declared, self.rests, self.known, self.theorems = crate, {}, defaultdict(set), {}, {}
         taken, brought = {}, {}
         for folder, _, names in sorted(os.walk(f"{crate.folder}/proofs")):
             for name in sorted(names):
@@ -75,7 +77,7 @@ class Proofs:
                 text = open(f"{folder}/{name}", encoding="utf-8").read()
                 found, taken[file] = declarations(text)
                 self.declared.update({(file, declaration.name): declaration for declaration in found})
-                brought[file] = USE.findall(text)
+                brought[file] = [(module, names) for name, module, names in USE.findall(text) if name == crate.name]
         for (file, name), declaration in self.declared.items():
             scope = {part: (file, other) for at, other in self.declared if at == file for part in parts(other)}
             for module, names in brought[file]:
@@ -86,18 +88,25 @@ class Proofs:
             words = declaration.words() | taken[file]
             self.rests[file, name] |= {scope[word] for word in words if word in scope} - {(file, name)}
         for function, called in crate.reached.items():
-            self.rests[self.theorem(function)] |= {self.theorem(other) for other in called} - {self.theorem(function)}
+            own = self.theorem(function)
+            self.rests[own] |= {self.theorem(other) for other in called} - {own}
+            if not own[0]:
+                self.rests[own] |= {at for at in self.declared if self.in_proof(".".join(at), function)}
 
     def theorem(self, function):
-        """Where it is proved that the function meets its contract."""
-        folder = self.crate.proof(function)
-        return (f"{folder}/Proof", folder.split("/")[-1].replace("_", "-") + "-spec") if folder else ("", function)
+        """Where it is proved that the function meets its contract: in its Proof.antt; or by the check, from its answers."""
+        if function not in self.theorems:
+            folder = self.crate.proof(function)
+            wanted = f"{folder.rpartition('/')[2]}_spec"
+            found = (at for at in self.declared if at[0] == f"{folder}/Proof" and at[1].replace("-", "_") == wanted)
+            self.theorems[function] = next(found, ("", function))
+        return self.theorems[function]
 
     def in_proof(self, place, function):
-        """Whether the place is the function itself or in its proof file."""
+        """Whether the place is the function itself or in its proof files."""
         file, name = declaration_of(place)
-        theorem = self.theorem(function)
-        return file == theorem[0] if theorem[0] else (file, name) == theorem
+        folder = self.crate.proof(function)
+        return file in [f"{folder}/{one}" for one in FILES] if file else name == function
 
     def under(self, at):
         """What a declaration rests on, itself or through others."""
@@ -128,7 +137,7 @@ class Proofs:
 
 def parts(name):
     """The words by which a declaration is named: itself, or the parts of an operator."""
-    return [part for part in name.split("_") if part] if "_" in name else [name]
+    return [part for part in name.split("◌") if part] if "◌" in name else [name]
 
 
 def declaration_of(place):

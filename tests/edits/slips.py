@@ -20,11 +20,15 @@ import glob
 import os
 import re
 
-from proofs import Proofs, declaration_of
+from proofs import FILES, Proofs, declaration_of
 
 ROOT = os.path.dirname(os.path.dirname(os.path.dirname(os.path.abspath(__file__))))
 FUNCTION = re.compile(r'(?:pub )?(?:extern "C" )?fn (\w+)')
+CYCLE = re.compile(r"#\[cycle\((\w+)\)\]")
 CALL = re.compile(r"(?:(\w+)::)?(\w+)\(")
+
+
+USE = re.compile(r"^(?:pub )?use (\w+(?:::\w+)*)::(\w+|\{[^}]*\})(?: as (\w+))?;", re.M)
 
 
 class Bad(Exception):
@@ -38,7 +42,18 @@ def read(path):
 
 def crates():
     """The crates that crates.txt lists."""
-    return re.findall(r"^(\w+):", read(f"{ROOT}/crates.txt"), re.M)
+    return re.findall(r"^(\w+)[^:#\n]*:", read(f"{ROOT}/crates.txt"), re.M)
+
+
+def brought(text):
+    """What a source brings in by `use`: pairs of a crate (or `crate`) and the last word of a path in it, by which it is called here."""
+    found = []
+    for path, last, renamed in USE.findall(text):
+        for word in last.strip("{}").split(","):
+            there, _, here = word.strip().partition(" as ")
+            if there:
+                found.append((path.split("::")[0], renamed or here or there.split("::")[-1]))
+    return found
 
 
 def each_place(word):
@@ -68,10 +83,11 @@ def write_at(path, places):
 
 
 class Function:
-    """A function of a crate: its name, its file, the lines where its body begins and ends, and the body's text."""
+    """A function of a crate: its name, its file, the lines where its body begins and ends, the body's text, and the name
+    of the cycle of functions that it is in, `#[cycle(NAME)]`; its own where it is in none."""
 
-    def __init__(self, name, file, body, end, text):
-        self.name, self.file, self.body, self.end, self.text = name, file, body, end, text
+    def __init__(self, name, file, body, end, text, cycle):
+        self.name, self.file, self.body, self.end, self.text, self.cycle = name, file, body, end, text, cycle
 
 
 class Crate:
@@ -94,17 +110,19 @@ class Crate:
     def take_functions(self, file):
         module = file[len("src/") : -len(".rt")].replace("/", "::")
         module = "" if module in ("lib", "main") else module + "::"
-        lines, i = self.lines(file), 0
+        lines, i, cycle = self.lines(file), 0, ""
         while i < len(lines):
-            found = FUNCTION.match(lines[i])
+            found, attribute = FUNCTION.match(lines[i]), CYCLE.match(lines[i])
+            if attribute:
+                cycle = attribute[1]
             if found:
                 # the body opens in a line at the margin, alone or after the head, and closes in one
                 body = next(k for k in range(i, len(lines)) if re.match(r"[^\s/].*\{\}?$|\{\}?$", lines[k]))
                 end = body if lines[body].endswith("{}") else lines.index("}", body)
                 text = re.sub(r"//.*", "", "\n".join(lines[body + 1 : end + 1]))
                 name = module + found[1]
-                self.functions[name] = Function(name, file, body, end, text)
-                i = end
+                self.functions[name] = Function(name, file, body, end, text, cycle or found[1])
+                i, cycle = end, ""
             i += 1
 
     def reach(self):
@@ -137,20 +155,22 @@ class Crate:
 
     def using(self, file, k):
         """The functions that use what line k of a file brings in, `use crate::NAME;`; none if it is used elsewhere."""
-        name = re.fullmatch(r"use crate::(\w+);", self.lines(file)[k])
-        if not name:
+        names = [name for crate, name in brought(self.lines(file)[k]) if crate == "crate"]
+        if not names:
             return []
-        uses = {n for n, line in enumerate(self.lines(file)) if n != k and re.search(rf"\b{name[1]}\b", line)}
+        word = re.compile(rf"\b(?:{'|'.join(names)})\b")
+        uses = {n for n, line in enumerate(self.lines(file)) if n != k and word.search(line)}
         found = [f for f in self.functions.values() if f.file == file and uses & set(range(f.body, f.end + 1))]
         return found if uses == {n for n in uses for f in found if f.body <= n <= f.end} else []
 
     def proof(self, function):
-        """The folder of the proof file of a function, its own or that of the cycle it is in; '' where it has none."""
-        path, name = function.replace("::", "/"), function.split("::")[-1]
-        if os.path.isfile(f"{self.folder}/proofs/{path}/Proof.antt"):
-            return path
-        cycles = glob.glob("**/+*", root_dir=f"{self.folder}/proofs", recursive=True)
-        return next((cycle for cycle in cycles if name in os.path.basename(cycle).split("+")[1:]), "")
+        """The folder of the proof files of a function, its own or that of the cycle it is in; '' where it has none."""
+        path, cycle = function.replace("::", "/"), self.functions[function].cycle
+        module = path.rpartition("/")[0]
+        for folder in (path, f"{module}/+{cycle}".lstrip("/")):
+            if any(os.path.isfile(f"{self.folder}/proofs/{folder}/{file}.antt") for file in FILES):
+                return folder
+        return ""
 
     def slips(self):
         return [Slip(self, path) for path in sorted(glob.glob(f"{self.folder}/slips/*.edit"))]

@@ -50,8 +50,8 @@ fn declaration(session: &Session, name: &str) -> (String, usize) {
     }
     let text = format!(
         "-- {} (seed {})\n{}\n\nrequests : List String\nrequests =\n{}\n\nreplies : List Told\nreplies =\n{}\n\n\
-         {name} : firstDifference 0 (map told (answers empty (map bytes requests))) replies ≡ none\n\
-         unfolding played firstDifference sameTold requests replies\n{name} = refl\n",
+         {name} : first_difference 0 (map told (answers empty (map bytes requests))) replies ≡ none\n\
+         unfolding played first_difference same_told requests replies\n{name} = refl\n",
         session.name,
         session.seed,
         include_str!("../definitions/header.antt.txt").trim_end(),
@@ -67,7 +67,7 @@ fn main() {
     let (wish, _) = Wish::of(args);
     let (mut modules, mut count) = (String::new(), 0);
     for (number, session) in generate::sessions(&wish).iter().enumerate() {
-        let (text, requests) = declaration(session, &format!("session-{number}"));
+        let (text, requests) = declaration(session, &format!("session_{number}"));
         std::fs::write(format!("{folder}/S{number}.antt"), text).expect("the folder can be written");
         modules += &format!("pub mod S{number}\n");
         count += requests;

@@ -17,21 +17,20 @@ theorems.txt names what refuses each slip of slips.txt that no proved session te
 or, in place of the edit, `held CRATE/LABEL`, a slip of the crate that is the same and that the gate tries; or, in place
 of all that, `none REASON`, where the slip has no counterpart in the definitions.
 
-The edit is put into a copy of the crate, which `rt dev` then checks; what it printed is in target/slips/NAME.log.
+The edit is put into a copy of the crate, which `rt check` then checks (tests/edits/copies.py); what it printed is in
+target/slips/NAME.log.
 """
 import concurrent.futures
 import fnmatch
 import os
-import queue
-import shutil
-import subprocess
 import sys
 
 sys.dont_write_bytecode = True
 HERE = os.path.dirname(os.path.abspath(__file__))
 sys.path.insert(0, f"{HERE}/../edits")
+from copies import Copies
 from log import Log
-from slips import ROOT, Bad, Crate, crates, each_place, read, replaced
+from slips import ROOT, Bad, Crate, crates, each_place, read
 
 LIST = f"{HERE}/theorems.txt"
 
@@ -88,40 +87,6 @@ def fault(entry):
     return ""
 
 
-def dev(folder, name):
-    done = subprocess.run(["rt", "dev", name], cwd=folder, stdout=subprocess.PIPE, stderr=subprocess.STDOUT)
-    return done.stdout.decode("utf-8", "replace")
-
-
-def shadow(crate, number):
-    """A repository like this one, with the other crates and what is proved of them as links."""
-    folder = f"{ROOT}/target/slips/repository{number}"
-    shutil.rmtree(folder, ignore_errors=True)
-    os.makedirs(f"{folder}/crates")
-    os.makedirs(f"{folder}/target/inc")
-    os.symlink(f"{ROOT}/crates.txt", f"{folder}/crates.txt")
-    for other in crates():
-        if other != crate.name:
-            os.symlink(f"{ROOT}/crates/{other}", f"{folder}/crates/{other}")
-    for part in ("rlib", "stamp"):
-        os.symlink(f"{ROOT}/target/{part}", f"{folder}/target/{part}")
-    return folder
-
-
-def tried(entry, crate, folder):
-    """What a check of the crate with the edit prints."""
-    own, known = f"{folder}/crates/{crate.name}", f"{folder}/target/inc/{crate.name}"
-    for there in (own, known):
-        shutil.rmtree(there, ignore_errors=True)
-    for part in ("src", "specs", "proofs"):
-        shutil.copytree(f"{crate.folder}/{part}", f"{own}/{part}")
-    shutil.copytree(f"{ROOT}/target/inc/{crate.name}", known)
-    for file, text in replaced(lambda file: "\n".join(crate.lines(file)), entry.pairs).items():
-        with open(f"{own}/{file}", "w", encoding="utf-8") as out:
-            out.write(text)
-    return dev(folder, crate.name)
-
-
 def judged(entry, crate, said):
     """Whether the edit is refused where its `at` says, and a line on it."""
     with open(f"{ROOT}/target/slips/{entry.name().replace('/', '-')}.log", "w", encoding="utf-8") as out:
@@ -134,25 +99,19 @@ def judged(entry, crate, said):
     return log.refused, "refused"
 
 
-def try_all(name, chosen):
+def try_all(copies, name, chosen):
     """Tries the edits of a crate: each with where it is refused and a line on it."""
     crate = Crate(name)
-    if "logic=proved" not in dev(ROOT, name):
-        sys.exit(f"{name} is not proved as it stands: rt dev {name}")
-    free = queue.Queue()
-    for number in range(2):
-        free.put(shadow(crate, number))
+    if "logic=proved" not in copies.as_it_stands(name):
+        sys.exit(f"{name} is not proved as it stands: rt check in crates/{name}")
 
     def attempt(entry):
-        folder = free.get()
         try:
-            return judged(entry, crate, tried(entry, crate, folder))
+            return judged(entry, crate, copies.edited(crate, entry.pairs))
         except Bad as bad:
             return set(), f"unfit: {bad}"
-        finally:
-            free.put(folder)
 
-    with concurrent.futures.ThreadPoolExecutor(2) as workers:
+    with concurrent.futures.ThreadPoolExecutor(copies.number) as workers:
         yield from zip(chosen, workers.map(attempt, chosen))
 
 
@@ -183,14 +142,15 @@ def main(words):
         failed += bool(why)
         if why:
             print(f"{entry.name()}: {why}", flush=True)
-    for name in crates():
-        mine = [entry for entry in chosen if entry.crate == name and not fault(entry)]
-        for entry, (places, how) in try_all(name, mine) if mine else ():
-            if at and places:
-                note(entry, places)
-                how = "refused"
-            print(f"{entry.name()}: {how}", flush=True)
-            passed, failed = passed + (how == "refused"), failed + (how != "refused")
+    with Copies() as copies:
+        for name in crates():
+            mine = [entry for entry in chosen if entry.crate == name and not fault(entry)]
+            for entry, (places, how) in try_all(copies, name, mine) if mine else ():
+                if at and places:
+                    note(entry, places)
+                    how = "refused"
+                print(f"{entry.name()}: {how}", flush=True)
+                passed, failed = passed + (how == "refused"), failed + (how != "refused")
     others = [entry for entry in chosen if not entry.crate and not fault(entry)]
     print(f"{passed + failed} tried; {sum(bool(entry.held) for entry in others)} that the gate tries,"
           f" {sum(bool(entry.none) for entry in others)} without counterpart")

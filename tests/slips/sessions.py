@@ -3,7 +3,7 @@
 
     tests/slips/sessions.py > LIST
 
-It begins at what the functions of crates/ledger, crates/snapshot and crates/hall ensure: every `⌜ .. ⌝` that names something of
+It begins at what the functions of crates/ledger, crates/snapshot and crates/hall ensure: every clause `ensures { .. }` that names something of
 their files of sessions, those with a `List Turn` or a `Session`. Each such statement is computed as far as these files
 define it, until it speaks of calls: a ledger is then what was done with it since it was empty, and an equality asks
 what an answer, a text or a ledger is. What it does not know stops it, and so does a statement that gives no session, a
@@ -56,6 +56,9 @@ def tokens(text):
             found.append(("text", re.sub(r"\\(.)", lambda m: {"n": "\n", "r": "\r", "t": "\t"}.get(m[1], m[1]), match[1])))
         elif match[2] and re.fullmatch(r"[(){}\[\],;=∷×≡≤→⇒⇛:+]+", match[2]) and match[2] != "++":
             found += [("word", sign) for sign in match[2]]
+        elif re.fullmatch(r"[a-z][\w']*(?:\.\w+)+", match[2] or ""):  # `s.requests`: a name and fields of it
+            name, *fields = match[2].split(".")
+            found += [("word", name), *(("word", f".{field}") for field in fields)]
         elif match[2]:
             found.append(("word", match[2]))
     return found
@@ -93,9 +96,7 @@ class Parser:
         tree = self.atom()
         while True:
             kind, word = self.peek()
-            if kind == "word" and re.fullmatch(r"\.\w+", word):
-                tree = ("field", tree, self.take()[1:])
-            elif kind == "word" and word == "{":  # an argument that is otherwise found by itself
+            if kind == "word" and word == "{":  # an argument that is otherwise found by itself
                 while self.take() != "}":
                     pass
             elif kind == "text" or word in ("(", "[", "λ") or kind == "word" and not re.match(r"[)}\],;=∷×≡≤→⇒⇛:+]", word):
@@ -104,6 +105,13 @@ class Parser:
                 return tree
 
     def atom(self):
+        """One that is not applied, with the fields that are asked of it: `s.requests`, `(f x).0`."""
+        tree = self.bare()
+        while self.peek()[0] == "word" and re.fullmatch(r"\.\w+", self.peek()[1]):
+            tree = ("field", tree, self.take()[1:])
+        return tree
+
+    def bare(self):
         kind, word = self.peek()
         self.take()
         if kind == "text":
@@ -166,7 +174,7 @@ class File:
             self.item(item)
 
     def item(self, item):
-        brought = re.fullmatch(r"use Rattle·(\w+?)(?:·specs)?\.specs\.([\w.-]+)\.\{([^}]*)\}", item)
+        brought = re.fullmatch(r"use Rattle\.(\w+)\.specs\.([\w.-]+)\.\{([^}]*)\}", item)
         record = re.match(r"(?:pub )?record (\S+) : Type 0 where\n", item)
         head = re.match(r"(?:(?:abbrev|unfoldable) )?(?:pub )?(\S+) :\s+(.*)", item, re.S)
         if item.startswith(("use ", "infix")):
@@ -184,9 +192,9 @@ class File:
     def clause(self, item):
         left, _, right = item.partition("=")
         words = left.split()
-        operator = next((name for name in self.declared if "_" in name and name.strip("_") in words), None)
+        operator = next((name for name in self.declared if "◌" in name and name.strip("◌") in words), None)
         if operator:
-            patterns = [Parser(part).whole() for part in left.split(operator.strip("_"))]
+            patterns = [Parser(part).whole() for part in left.split(operator.strip("◌"))]
         elif words[0] in self.declared:
             parser, patterns = Parser(left.partition(words[0])[2]), []
             while parser.peek()[0] != "end":
@@ -309,7 +317,7 @@ class Sessions:
     def binary(self, file, tree, bound):
         sign, left, right = tree[1:]
         if sign in ("⇒", "⇛"):
-            return self.known(file, f"_{sign}_")(self.value(file, left, bound))(self.value(file, right, bound))
+            return self.known(file, f"◌{sign}◌")(self.value(file, left, bound))(self.value(file, right, bound))
         a, b = self.value(file, left, bound), self.value(file, right, bound)
         if sign == "∷":
             return [a] + b
@@ -360,9 +368,10 @@ class Sessions:
         for crate in CRATES:
             text = self.read(f"crates/{crate}/src/lib.rt")
             brought = {name.strip(): self.files[crate, file].declared[name.strip()]
-                       for file, names in re.findall(rf"use Rattle·{crate}·specs\.specs\.(\w+)\.\{{([^}}]*)\}};", text)
+                       for file, names in re.findall(rf"use Rattle\.{crate}\.specs\.(\w+)\.\{{([^}}]*)\}};", text)
                        if (crate, file) in self.files for name in names.split(",")}
-            for said in re.findall(r"⌜ (.*?) ⌝", text):
+            for said in re.findall(r"^    ensures (?:\w+ )?\{\s(.*?)\s\}$", text, re.M | re.S):
+                said = " ".join(said.split())
                 if set(re.findall(r"[\w·.]+", said)) & set(brought):
                     yield brought, said
 

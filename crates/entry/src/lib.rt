@@ -1,6 +1,6 @@
-// The entry for C (include/oysterbrim.h): the till is a block of 45,677 numbers that the caller keeps, a sheet is bytes
-// with a length, and the caller lends 2,048 numbers to work on and four for the answer. Closing and opening are in
-// crate entry_text.
+// The calls that C makes (include/oysterbrim.h): the till is a block of 45,677 numbers that the caller keeps, a sheet is
+// bytes with a length, and the caller lends 2,048 numbers to work on and four for the answer. Closing and opening are in
+// crate entry_text. Crate entry_c has the exports, which call these functions.
 #![tactic(auto)]
 
 ghost use Rattle.std.specs.Prelude.{◌≡◌};
@@ -24,45 +24,39 @@ use store::Store;
 const EDITION: u32 = 2;
 
 // The edition, under a name that only a library of this edition has: the header's till_start and till_open refer to it.
-#[unsafe(no_mangle)]
-pub extern "C" fn till_edition_2() -> u32
+pub fn till_edition_2() -> u32
     ensures { result ≡ edition }
 {
     EDITION
 }
 
 // The edition; how many numbers a till has, and how many are lent to work on; the most bytes of a sheet.
-#[unsafe(no_mangle)]
-pub extern "C" fn till_edition() -> u32
+pub fn till_edition() -> u32
     ensures { result ≡ edition }
 {
     till_edition_2()
 }
 
-#[unsafe(no_mangle)]
-pub extern "C" fn till_numbers() -> usize
+pub fn till_numbers() -> usize
     ensures { result ≡ cells }
 {
     store_cells::CELLS
 }
 
-#[unsafe(no_mangle)]
-pub extern "C" fn till_scratch() -> usize
+pub fn till_scratch() -> usize
     ensures { result ≡ step_cells }
 {
     step_rows::STEP_CELLS
 }
 
-#[unsafe(no_mangle)]
-pub extern "C" fn till_sheet_bytes() -> usize
+pub fn till_sheet_bytes() -> usize
     ensures { result ≡ max_bytes }
 {
     ranges::MAX_BYTES
 }
 
 // Makes the block an empty till.
-#[unsafe(no_mangle)]
-pub extern "C" fn till_start(till: &mut Store)
+pub fn till_start(till: &mut Store)
     ensures { StandsFor till.new empty }
 {
     store::start(till);
@@ -91,13 +85,7 @@ pub fn numbers_compute()
 {}
 
 // Answers a sheet: {1, n, 0, 0} accepted with a value, {3, open, shut, placed} a tally, {0, refusal, step, 0} refused.
-#[unsafe(no_mangle)]
-pub extern "C" fn till_call(
-    till: &mut Store,
-    sheet: &[u8],
-    scratch: &mut StepRows,
-    answer: &mut [u32; 4],
-)
+pub fn till_call(till: &mut Store, sheet: &[u8], scratch: &mut StepRows, answer: &mut [u32; 4])
     requires { Good till.old }
     ensures entered { Entered till.old sheet.now answer.new
         till.new }

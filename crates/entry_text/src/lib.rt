@@ -1,5 +1,4 @@
-// Closing and opening from C (document 02, ask 5). They are compiled apart from till_call, with which they share code,
-// so that a sheet costs what it did.
+// Closing and opening from C (document 02, ask 5). Crate entry_text_c has the exports, which call these functions.
 #![tactic(auto)]
 
 ghost use Rattle.std.specs.Prelude.{◌≡◌};
@@ -11,8 +10,7 @@ ghost use Rattle.entry_text.specs.Statements.{SavedOpens, OpenedSaves};
 use store::Store;
 
 // The most bytes of a text.
-#[unsafe(no_mangle)]
-pub extern "C" fn till_text_bytes() -> usize
+pub fn till_text_bytes() -> usize
     ensures { result ≡ longest_text }
 {
     text_read::LONGEST_TEXT
@@ -20,8 +18,7 @@ pub extern "C" fn till_text_bytes() -> usize
 
 // Closes the till (document 02, ask 5): writes it as text into the lent buffer: {1, bytes, 0, 0}, or {0, 52, 0, 0} and
 // the buffer as it was.
-#[unsafe(no_mangle)]
-pub extern "C" fn till_close(till: &Store, buffer: &mut [u8], answer: &mut [u32; 4])
+pub fn till_close(till: &Store, buffer: &mut [u8], answer: &mut [u32; 4])
     requires { Good till.now }
     ensures closed { Closed till.now buffer.old answer.new
         buffer.new }
@@ -33,8 +30,7 @@ pub extern "C" fn till_close(till: &Store, buffer: &mut [u8], answer: &mut [u32;
 
 // Opens a text: {1, bytes, 0, 0}, and the till is the text's, or {0, 50, 0, 0} or {0, 51, 0, 0} and the block as it
 // was, whatever it held. The spare block is lent to work on.
-#[unsafe(no_mangle)]
-pub extern "C" fn till_open(till: &mut Store, spare: &mut Store, text: &[u8], answer: &mut [u32; 4])
+pub fn till_open(till: &mut Store, spare: &mut Store, text: &[u8], answer: &mut [u32; 4])
     ensures opened { Reopened till.old text.now answer.new
         till.new }
     ensures lent { text.now ≡ text.now }
