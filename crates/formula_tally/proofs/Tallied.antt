@@ -211,7 +211,8 @@ module _ (t : Ledger) (s m d : ℕ) (bits : ℕ → ℕ) where
     adding_small b =
         let limit : (f : ℕ → ℕ) → ((k : ℕ) → f k ≤ most_given) → over_set d (set_gives bits f)
         ≤ set_lines * (set_lines * most_given) =
-        λ f q. over_le d (set_lines * most_given) (set_gives bits f) (λ w. over_le (bits w) most_given _ (λ j. q _)) in (
+        λ f q.
+        over_le d (set_lines * most_given) (set_gives bits f) (λ w. over_le (bits w) most_given _ (λ j. q _)) in (
           omega (arith, adding_next.opens, limit (open_at t s m) (λ k. (small t s m b k).opens)),
           omega (arith, adding_next.seats, limit (seats_at t s m) (λ k. (small t s m b k).seats)),
           omega (arith, adding_next.places, limit (places_at t s m) (λ k. (small t s m b k).places)),
