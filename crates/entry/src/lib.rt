@@ -89,7 +89,7 @@ pub fn till_call(till: &mut Store, sheet: &[u8], scratch: &mut StepRows, answer:
     requires { Good till.old }
     ensures entered { Entered till.old sheet.now answer.new
         till.new }
-    ensures lent { sheet.now ≡ sheet.now }
+    ensures lent { sheet.exit.now ≡ sheet.entry.now }
 {
     let a = call::call(till, sheet, scratch);
     tell(a, answer);

@@ -70,7 +70,7 @@ pub extern "C" fn till_call(
     requires { Good till.old }
     ensures entered { Entered till.old sheet.now answer.new
         till.new }
-    ensures lent { sheet.now ≡ sheet.now }
+    ensures lent { sheet.exit.now ≡ sheet.entry.now }
 {
     entry::till_call(till, sheet, scratch, answer);
 }

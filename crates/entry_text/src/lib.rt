@@ -22,7 +22,7 @@ pub fn till_close(till: &Store, buffer: &mut [u8], answer: &mut [u32; 4])
     requires { Good till.now }
     ensures closed { Closed till.now buffer.old answer.new
         buffer.new }
-    ensures lent { till.now ≡ till.now }
+    ensures lent { till.exit.now ≡ till.entry.now }
 {
     let a = text_close::close(till, buffer);
     entry::tell(a, answer);
@@ -33,7 +33,7 @@ pub fn till_close(till: &Store, buffer: &mut [u8], answer: &mut [u32; 4])
 pub fn till_open(till: &mut Store, spare: &mut Store, text: &[u8], answer: &mut [u32; 4])
     ensures opened { Reopened till.old text.now answer.new
         till.new }
-    ensures lent { text.now ≡ text.now }
+    ensures lent { text.exit.now ≡ text.entry.now }
 {
     let a = text_open::open(till, spare, text);
     entry::tell(a, answer);

@@ -25,7 +25,7 @@ pub extern "C" fn till_close(till: &Store, buffer: &mut [u8], answer: &mut [u32;
     requires { Good till.now }
     ensures closed { Closed till.now buffer.old answer.new
         buffer.new }
-    ensures lent { till.now ≡ till.now }
+    ensures lent { till.exit.now ≡ till.entry.now }
 {
     entry_text::till_close(till, buffer, answer);
 }
@@ -36,7 +36,7 @@ pub extern "C" fn till_close(till: &Store, buffer: &mut [u8], answer: &mut [u32;
 pub extern "C" fn till_open(till: &mut Store, spare: &mut Store, text: &[u8], answer: &mut [u32; 4])
     ensures opened { Reopened till.old text.now answer.new
         till.new }
-    ensures lent { text.now ≡ text.now }
+    ensures lent { text.exit.now ≡ text.entry.now }
 {
     entry_text::till_open(till, spare, text, answer);
 }
