@@ -34,22 +34,22 @@ parts_row (Line.named p s k) = refl
 parts_row (Line.for_every i) = refl
 
 -- a line's intervals are those of its row; one that it has not fails no test that `no_interval` passes
-module _ (test : Interval → Bool) (None-passes : test no_interval ≡ false) where
+module _ (test : Interval → Bool) (none_passes : test no_interval ≡ false) where
   line_tested : (l : Line) → (test (row_of l).first || test (row_of l).second) ≡ any_of test (line_intervals l)
   unfolding any_of
-  line_tested (Line.atom p s) = rw None-passes
-  line_tested Line.one = rw None-passes
-  line_tested (Line.tensor i j) = rw None-passes
-  line_tested (Line.with i j) = rw None-passes
-  line_tested (Line.plus i j) = rw None-passes
-  line_tested (Line.lolli i j) = rw None-passes
-  line_tested (Line.implies i j) = rw None-passes
-  line_tested (Line.bang i) = rw None-passes
-  line_tested (Line.at i w) = rw None-passes
-  line_tested (Line.says k i) = rw None-passes
+  line_tested (Line.atom p s) = rw none_passes
+  line_tested Line.one = rw none_passes
+  line_tested (Line.tensor i j) = rw none_passes
+  line_tested (Line.with i j) = rw none_passes
+  line_tested (Line.plus i j) = rw none_passes
+  line_tested (Line.lolli i j) = rw none_passes
+  line_tested (Line.implies i j) = rw none_passes
+  line_tested (Line.bang i) = rw none_passes
+  line_tested (Line.at i w) = rw none_passes
+  line_tested (Line.says k i) = rw none_passes
   line_tested (Line.superset v w) = ap (λ b. test v || b) (sym (or-false (test w)))
-  line_tested (Line.named p s k) = rw None-passes
-  line_tested (Line.for_every i) = rw None-passes
+  line_tested (Line.named p s k) = rw none_passes
+  line_tested (Line.for_every i) = rw none_passes
 
   pub row_tested : (x : Row) {r : Bool} → r ≡ (test x.first || test x.second)
       → (l : Line) → row_of l ≡ x → r ≡ any_of test (line_intervals l)

@@ -12,7 +12,7 @@ use Rattle.call.proofs.SheetOutcomes.{Begun, line_as, no_request, word_canonical
 use Rattle.call.proofs.call.Statement.{statement}
 use Rattle.call.proofs.call.Tie as tie
 
--- the way back to the start from where 1 has passed, and from where the first line has been read
+-- where 1 has passed
 within : (c : tie.In-Passed) → length c.args.sheet.now ≤ max_bytes
 within c = ltb-false _ _ (by_verdict (c.tested-short.ensures 1) c.in-Passed.is)
 

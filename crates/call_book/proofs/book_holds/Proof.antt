@@ -10,7 +10,6 @@ use Rattle.call_book_laws.proofs.BookingOutcomes.{held_as}
 use Rattle.call_book.proofs.book_holds.Statement.{statement}
 use Rattle.call_book.proofs.book_holds.Tie as tie
 
--- the way back to the start from where the holds are live
 hold-all-requires : tie.Need-hold_all-held-requires
 hold-all-requires c κs =
     (c.requires.lines.good, c.requires.lines.held)

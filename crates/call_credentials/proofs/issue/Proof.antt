@@ -12,7 +12,6 @@ use Rattle.call_credentials.proofs.CallOutcomes.{Given, issue_gives, issue_done}
 use Rattle.call_credentials.proofs.issue.Statement.{statement}
 use Rattle.call_credentials.proofs.issue.Tie as tie
 
--- the way back to the start from where the interval is well formed, and where the formula is there
 returns : tie.Need-returns-in_default
 returns c =
     issue_reversed c.requires c.check_ordered-ordered.ensures
@@ -60,7 +59,6 @@ returns_4 c =
     refused c.requires (past_10 c.before.before).1
     (shown c.check_bound-bound.ensures c.in_default-bound.is)
 
--- where the formula has no unbound holder, the way back to where it is there
 check-issuable-requires : tie.Need-check_issuable-issuable-requires
 check-issuable-requires c κs =
     let found = by_verdict c.check_present-present.ensures c.in-Passed-present.is in

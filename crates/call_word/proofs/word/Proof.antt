@@ -21,7 +21,6 @@ returns_2 c =
     (past_3 _ _ c.check_line_ordered-ordered.ensures c.in-Passed.is)
     c.check_line_unbroken-unbroken.ensures c.in_default-unbroken.is
 
--- the way back to the start from where the intervals are well formed
 -- 3 and 43 have passed
 abbrev past_intervals : (c : tie.In-Passed-unbroken) →
     let a = c.args in

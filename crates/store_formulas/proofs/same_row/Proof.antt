@@ -1,4 +1,4 @@
--- `same_row_holds` meets its contract: what is left of `same_row` after each test.
+-- `same_row` meets its contract: what is left of the definition `same_row` after each test.
 use mathlib.Core.Path.{◌≡◌, refl, sym, ◌∙◌}
 use mathlib.Core.Bool.{Bool, true, false, ◌&&◌}
 use borrow.Author.Rules.{rules}
