@@ -1,6 +1,6 @@
-// The calls that C makes (include/oysterbrim.h): the till is a block of 45,677 numbers that the caller keeps, a sheet is
-// bytes with a length, and the caller lends 2,048 numbers to work on and four for the answer. Closing and opening are in
-// crate entry_text. Crate entry_c has the exports, which call these functions.
+// The calls that C makes (include/oysterbrim.h): the till is a block of 45,677 numbers that the caller keeps, a sheet
+// is bytes with a length, and the caller lends 2,048 numbers to work on and four for the answer. Closing and opening
+// are in crate entry_text. Crate entry_c has the exports, which call these functions.
 #![tactic(auto)]
 
 ghost use Rattle.std.specs.Prelude.{◌≡◌};

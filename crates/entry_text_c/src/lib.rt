@@ -1,6 +1,6 @@
 // The entry for C, of closing and opening (include/oysterbrim.h): each export calls the function of its name in crate
-// entry_text, under the same clauses. They are compiled apart from till_call, with which they share code, so that a sheet
-// costs what it did.
+// entry_text, under the same clauses. They are compiled apart from till_call, with which they share code, so that a
+// sheet costs what it did.
 #![tactic(auto)]
 
 ghost use Rattle.std.specs.Prelude.{◌≡◌};

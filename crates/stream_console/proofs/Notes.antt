@@ -1,6 +1,7 @@
 -- A note, field by field, and what it says of the bytes that passed. Nothing outside this crate can name these laws, so
 -- that there bytes came in or went out only where a contract says so.
-use Rattle.std.proofs.Common.{◌≡◌, ℕ, ◌+◌, ◌%◌, ◌^◌, ◌≤◌, Bool, eqb, List, ◌++◌, length, take, ℤ, pos, negsuc, sym, refl, ap, ◌∙◌, arith, length-append, length-take-le}
+use Rattle.std.proofs.Common.{◌≡◌, ℕ, ◌+◌, ◌%◌, ◌^◌, ◌≤◌, Bool, eqb, List, ◌++◌, length, take, ℤ, pos, negsuc, sym}
+use Rattle.std.proofs.Common.{refl, ap, ◌∙◌, arith, length-append, length-take-le}
 use native.Mathlib.Nat.{min-le_right, mod-add-mod}
 use lib.Signed.{lt_z}
 use Rattle.stream_passed.specs.Passed.{Came, Went}

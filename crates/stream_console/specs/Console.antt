@@ -1,6 +1,7 @@
 -- The notes of what is read and written: from which descriptor and to which, how much, and how it ended. Counts are
 -- modulo 2^64.
-use Rattle.std.specs.Prelude.{◌≡◌, ℕ, ◌+◌, ◌-◌, ◌%◌, ◌^◌, ◌<◌, ◌≤◌, Bool, true, false, ◌⊎◌, min, List, ◌++◌, length, take, ℤ, pos, negsuc, ◌==◌, int_lt}
+use Rattle.std.specs.Prelude.{◌≡◌, ℕ, ◌+◌, ◌-◌, ◌%◌, ◌^◌, ◌<◌, ◌≤◌, Bool, true, false, ◌⊎◌, min, List, ◌++◌, length}
+use Rattle.std.specs.Prelude.{take, ℤ, pos, negsuc, ◌==◌, int_lt}
 pub use Rattle.stream_passed.specs.Passed.{Came, Went}
 use Rattle.stream_console.specs.declared.Input.{Input}
 use Rattle.stream_console.specs.declared.Output.{Output}

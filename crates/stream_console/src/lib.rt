@@ -1,8 +1,8 @@
 // Standard input, output and error. No contract can say which bytes a read gives and where a write puts them. So
-// `receive` and `send`, a call of the library's each, are to be read, with `read_once` and `write_whole`, which make it:
-// that the piece which `receive` leaves is the one that was read into, that `send` writes the text's first bytes, that
-// each descriptor is that of its stream, and that the call's answer is what is noted. The notes no other crate can make
-// or change, and of which bytes came in and went out it knows what these two contracts say.
+// `receive` and `send`, a call of the library's each, are to be read, with `read_once` and `write_whole`, which make
+// it: that the piece which `receive` leaves is the one that was read into, that `send` writes the text's first bytes,
+// that each descriptor is that of its stream, and that the call's answer is what is noted. The notes no other crate
+// can make or change, and of which bytes came in and went out it knows what these two contracts say.
 #![tactic(auto)]
 
 ghost use Rattle.std.specs.Prelude.{◌≡◌, ◌≢◌, ◌≤◌, [], length, take, pos, negsuc, false};
