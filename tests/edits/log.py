@@ -3,7 +3,7 @@ import re
 
 
 class Log:
-    """The log of a check of a crate, of slips.Crate."""
+    """The log of a check of a crate, of slips.Crate, with the slips of a group."""
 
     STATE = re.compile(r"^fn (\w+)::([\w:]+): (proved|not proved|no proof)(.*)$", re.M)
     # what it says may go on in lines that are indented
@@ -25,8 +25,9 @@ class Log:
     LOOP = re.compile(r"(?:invariant|decreases)[-_]")  # what a loop keeps and what falls is no fact: refused, it does not fit
     FOLLOWS = re.compile(r"\d+ declarations? that depends? on `|`([^`]+)` was not admitted")
 
-    def __init__(self, crate, text):
+    def __init__(self, crate, text, group=()):
         self.crate, self.text = crate, text
+        self.read = {function for slip in group if slip.gives_up for function in slip.refused}
         self.states = {name: (state, more) for c, name, state, more in self.STATE.findall(text) if c == crate.name}
         self.errors = [(file, name, said) for file, _, _, name, said in self.ERROR.findall(text)]
         self.refused = set(self.places())
@@ -37,7 +38,7 @@ class Log:
             if not self.FOLLOWS.match(said) and not self.misfit(name, said):
                 yield self.crate.proofs.place(file, name, int(line), int(column))
         for function, (state, more) in self.states.items():
-            if state == "no proof" and self.FOUND_NONE.search(more) and not self.gave_up(function):
+            if state == "no proof" and self.FOUND_NONE.search(more) and (function in self.read or not self.gave_up(function)):
                 yield function
 
     def gave_up(self, function):
