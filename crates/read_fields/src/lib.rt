@@ -87,7 +87,8 @@ pub fn number(s: &[u8], at: u32, first: u32, last: u32, stop: u8) -> Decimal
     }
     let d = (b - 48) as u32;
     if s[i + 1] == stop {
-        if d < first {
+        let below = d < first;
+        if below {
             return Decimal::Broken;
         }
         return Decimal::Number(d, at + 2);

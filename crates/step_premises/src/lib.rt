@@ -58,7 +58,8 @@ pub fn begin(table: &mut LabelRows, next: u32, r: u64, p: Premise) -> Begun
             Begun::Begins(sequent(r, labels::insert(d, next), g), next + 1)
         }
         Fresh::Both(h, k) => {
-            if ranges::LABEL_LAST <= next {
+            let full = ranges::LABEL_LAST <= next;
+            if full {
                 return Begun::Full;
             }
             label_rows::put_label(table, next, h);

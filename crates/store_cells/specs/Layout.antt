@@ -12,8 +12,9 @@
 --                      goes through the formula's parts again; two numbers between which all sessions of its atoms are,
 --                      so that a tally passes it by; and what the formula gives of the lower of these sessions, in one
 --                      number
---   group_base ..       64 rows of 8: for each group of sessions a set of lines, in seven numbers, 32 lines a number,
---                      bit j of number w for line 32 w + j; then a number whose bit w is set where number w is not 0.
+--   group_base ..       64 rows of 8: for each group of sessions a set of lines, in seven numbers, 32 lines to a
+--                      number, bit j of number w for line 32 w + j; then a number whose bit w is set where number w is
+--                      not 0.
 --                      Session s is of group s mod 64, and every line between whose two numbers a session is stands in
 --                      the set of that session's group: a tally looks at one set alone
 --   credential_base ..  4,096 rows of 8: a credential's (a coupon's) serial, kind (0 linear: single-use, 1

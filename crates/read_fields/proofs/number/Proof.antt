@@ -60,10 +60,10 @@ number_spec =
     (λ c. search rules)
     (λ c. search rules)
     (λ c. sym (second c.before.before.before ∙ step_small _ _ _ c.requires.stops _ _ c.if-s-i-2.true
-    c.if-d-first.true))
+    c.if-below.true))
     (λ c. search rules)
     (λ c. sym (second c.before.before.before ∙ step_stop _ _ _ c.requires.stops _ _ c.if-s-i-2.true
-    c.if-d-first.false (omega (arith, range c.before.before.before))))
+    c.if-below.false (omega (arith, range c.before.before.before))))
     (λ c. sym (second c.before.before.before ∙ step_zero _ _ _ _ _ c.if-s-i-2.false c.if-d-eq0.true))
     (λ c. search rules)
     (λ c κs. (c.requires, omega (arith, c.if-d-eq0.false), omega (arith, range c.before.before.before)))

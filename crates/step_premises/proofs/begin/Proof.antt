@@ -12,8 +12,8 @@ returns c = sym (nothing_full _ _ _ _ c.in-Nothing.is c.if-next-gt-LABELS.true)
 returns_2 : tie.Need-returns-then-next-ge-LABELS
 returns_2 c = sym (linear_full _ _ _ _ c.in-Linear.is c.if-next-ge-LABELS.true)
 
-returns_3 : tie.Need-returns-then-next-ge-LABEL_LAST
-returns_3 c = sym (both_full _ _ _ _ c.in-Both.is c.if-next-ge-LABEL_LAST.true)
+returns_3 : tie.Need-returns-then-full
+returns_3 c = sym (both_full _ _ _ _ c.in-Both.is c.if-full.true)
 
 returns_4 : tie.Need-returns-then-next-ge-LABELS-2
 returns_4 c = sym (unrestricted_full _ _ _ _ c.in-Unrestricted.is c.if-next-ge-LABELS-2.true)
@@ -28,7 +28,7 @@ returns_6 c =
     simp (c.sequent-in-Linear.ensures, c.insert.ensures, c.put_label.ensures)
     (sym (linear_begins _ _ _ _ c.in-Linear.is c.if-next-ge-LABELS.false))
 
-returns_7 : tie.Need-returns-else-next-ge-LABEL_LAST
+returns_7 : tie.Need-returns-else-full
 returns_7 c =
     simp (
       c.sequent-in-Both.ensures,
@@ -37,7 +37,7 @@ returns_7 c =
       c.put_label-in-Both-2.ensures,
       c.put_label-in-Both.ensures,
     )
-    (sym (both_begins _ _ _ _ c.in-Both.is c.if-next-ge-LABEL_LAST.false))
+    (sym (both_begins _ _ _ _ c.in-Both.is c.if-full.false))
 
 returns_8 : tie.Need-returns-else-next-ge-LABELS-2
 returns_8 c =
