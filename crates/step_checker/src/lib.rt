@@ -87,14 +87,17 @@ fn check_step(
             check_premise(store, steps, table, total, left, free, q)
         }
         Plan::Two(p, p2) => {
-            let Begun::Begins(q, free) = step_premises::begin(table, next, r, p) else {
+            // one variable for both premises: a step's frame has one place for it
+            let mut begun = step_premises::begin(table, next, r, p);
+            let Begun::Begins(q, free) = begun else {
                 return Outcome::Stopped(41, n);
             };
             let first = check_premise(store, steps, table, total, left, free, q);
             let Outcome::Done(left2, next2) = first else {
                 return first;
             };
-            let Begun::Begins(q2, free2) = step_premises::begin(table, next2, r, p2) else {
+            begun = step_premises::begin(table, next2, r, p2);
+            let Begun::Begins(q2, free2) = begun else {
                 return Outcome::Stopped(41, n);
             };
             check_premise(store, steps, table, total, left2, free2, q2)

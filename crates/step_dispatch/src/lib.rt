@@ -112,7 +112,9 @@ fn at_left(store: &Store, steps: &StepRows, table: &LabelRows, at: u32, q: Seque
     }
 }
 
-// What the step in row `at` does at a sequent (document 01: the table of steps).
+// What the step in row `at` does at a sequent (document 01: the table of steps). It is compiled apart,
+// so that a step's frame stays small.
+#[inline(never)]
 pub fn rule(store: &Store, steps: &StepRows, table: &LabelRows, at: u32, q: Sequent) -> Plan
     requires { at < max_steps }
     ensures { result ≡ plan_of (instance_row (row_at store.now)) (label_at table.now)

@@ -165,8 +165,8 @@ fn complain(streams: Streams, errors: Output, run: Run) -> Output
     )
 }
 
-// How many arguments the program was started with, its own name among them. By a bound the proofs would rest on all
-// that the system says of its surroundings, and not on this one call.
+// How many arguments the program was started with, its own name among them. It takes the runtime as it is and not by a
+// trait, so that the check rests on the one call that it makes.
 fn arg_count(rt: &HostRuntime) -> usize {
     let mut front = [0u8; 1];
     for i in 0..usize::MAX {

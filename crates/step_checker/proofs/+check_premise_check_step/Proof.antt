@@ -55,21 +55,21 @@ step_returns t c =
     one_full _ c.in-One.is c.in_default.is
     c.begin.ensures
 
-step_returns_2 : (t : ℕ) → step_lts.Need-returns-in_default-begin (step_with t) (step_at_holds t) step.Post
+step_returns_2 : (t : ℕ) → step_lts.Need-returns-in_default-begun (step_with t) (step_at_holds t) step.Post
 step_returns_2 t c =
-    first_full _ c.in-Two.is c.in_default-begin.is
-    c.begin-in-Two.ensures
+    first_full _ c.in-Two.is c.in_default-begun.is
+    c.begin-begun.ensures
 
 step_returns_3 : (t : ℕ) → step_lts.Need-returns-in_default-first (step_with t) (step_at_holds t) step.Post
 step_returns_3 t c =
-    first_stops c.in-Two.is c.in-Begins-begin.is
-    c.begin-in-Two.ensures c.in_default-first.is c.check_premise-first.ensures
+    first_stops c.in-Two.is c.in-Begins-begun.is
+    c.begin-begun.ensures c.in_default-first.is c.check_premise-first.ensures
 
-step_returns_4 : (t : ℕ) → step_lts.Need-returns-in_default-begin-2 (step_with t) (step_at_holds t) step.Post
+step_returns_4 : (t : ℕ) → step_lts.Need-returns-in_default-begun-2 (step_with t) (step_at_holds t) step.Post
 step_returns_4 t c =
-    second_full c.in-Two.is c.in-Begins-begin.is
-    c.begin-in-Two.ensures c.in-Done.is c.check_premise-first.ensures _
-    c.in_default-begin-2.is c.begin-in-Two-2.ensures
+    second_full c.in-Two.is c.in-Begins-begun.is
+    c.begin-begun.ensures c.in-Done.is c.check_premise-first.ensures _
+    c.in_default-begun-2.is c.begin-begun-in-Two.ensures
 
 step_premise_requires_3 : (t : ℕ) → step_lts.Need-check_premise-requires-in-Two (step_with t) (step_at_holds t)
     step.Post
@@ -89,11 +89,11 @@ step_returns_7 t c =
     one c.in-One.is c.in-Begins.is
     c.begin.ensures c.check_premise.ensures
 
-step_returns_8 : (t : ℕ) → step_lts.Need-returns-in-Begins-begin-2 (step_with t) (step_at_holds t) step.Post
+step_returns_8 : (t : ℕ) → step_lts.Need-returns-in-Begins-begun-2 (step_with t) (step_at_holds t) step.Post
 step_returns_8 t c =
-    both c.in-Two.is c.in-Begins-begin.is
-    c.begin-in-Two.ensures c.in-Done.is c.check_premise-first.ensures
-    c.in-Begins-begin-2.is c.begin-in-Two-2.ensures c.check_premise-in-Two.ensures
+    both c.in-Two.is c.in-Begins-begun.is
+    c.begin-begun.ensures c.in-Done.is c.check_premise-first.ensures
+    c.in-Begins-begun-2.is c.begin-begun-in-Two.ensures c.check_premise-in-Two.ensures
 
 pub +check_premise_check_step_spec : {M : Type 1} → statement M
 +check_premise_check_step_spec =
