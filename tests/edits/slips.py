@@ -10,7 +10,7 @@ A slip is a file crates/NAME/slips/LABEL.edit:
     new: what takes its place
 
 The functions are named as a check prints them, without the crate: `book_steps`, `formulas::interval`. A slip of a
-definition that only laws for other crates rest on names such a law: `Rows.stays-credential`, of proofs/Rows.antt.
+definition that only laws for other crates rest on names such a law: `CellWrites.stays_credential`, of proofs/CellWrites.antt.
 
 The line '# at:' names every place at which the slip is refused when it is tried by itself (proofs.py says what a place
 is called); tests/edits/run NAME --at writes it. A line '# apart: LABEL LABEL ..' names slips that hide it if they are
