@@ -76,6 +76,8 @@ class Log:
         states = {name: self.states.get(name, ("not in the log", ""))[0] for name in slip.refused if "." not in name}
         found = [f"{name} is {state}" for name, state in states.items() if state not in ("not proved", "no proof")]
         found += [f"{law}: no error of its own" for law in slip.refused if "." in law and law not in self.refused]
+        if slip.misfits:
+            return found
         own = slip.own(group)
         if slip.bodies:
             found += filter(None, (self.code_fault(function, own) for function in slip.refused))

@@ -15,7 +15,8 @@ definition that only laws for other crates rest on names such a law: `CellWrites
 The line '# at:' names every place at which the slip is refused when it is tried by itself (proofs.py says what a place
 is called); tests/edits/run NAME --at writes it. A line '# apart: LABEL LABEL ..' names slips that hide it if they are
 tried with it: wrong together, they come out right. A line '# gives up: WHY' says of a slip in a function whose proof the
-check finds by itself why the fact is false, where the check only gives up at it: that was read, and is not shown.
+check finds by itself why the fact is false, where the check only gives up at it: that was read, and is not shown. So does a
+line '# misfits: WHY' of a slip that takes away a name which Rattle makes of the code, and which the proof cites.
 """
 import glob
 import os
@@ -192,12 +193,15 @@ class Slip:
     def __init__(self, crate, path):
         self.crate, self.label = crate, os.path.basename(path)[: -len(".edit")]
         self.says, self.refused, self.at, self.apart, self.gives_up, self.pairs, self.body = "", [], [], [], "", [], []
+        self.misfits = ""
         file = old = ""
         for line in read(path).splitlines():
             if line.startswith("# refused:"):
                 self.refused = line[len("# refused:") :].split()
             elif line.startswith("# at:"):
                 self.at += [place for word in line[len("# at:") :].split() for place in each_place(word)]
+            elif line.startswith("# misfits:"):
+                self.misfits = line[len("# misfits:") :].strip()
             elif line.startswith("# gives up:"):
                 self.gives_up = line[len("# gives up:") :].strip()
             elif line.startswith("# apart:"):
