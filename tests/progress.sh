@@ -81,11 +81,7 @@ names_of() { # the crates that crates.txt lists
 }
 
 at_work() { # the crates in whose folders a process works
-  local at
-  for at in /proc/[0-9]*/cwd; do
-    at=$(readlink "$at" 2>/dev/null)
-    [[ $at != "$PWD"/crates/* ]] || basename "$at"
-  done | sort -u
+  readlink /proc/[0-9]*/cwd 2>/dev/null | grep -F "$PWD/crates/" | sed 's|.*/||' | sort -u
 }
 
 how_far() { # how_far LOG CRATES EDITS: where rt is that prints into LOG

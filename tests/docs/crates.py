@@ -212,19 +212,27 @@ class Calls:
     """Who calls whom: functions as (crate, name), in the order of the caller's text."""
 
     def __init__(self, names):
-        self.bodies, self.brought, self.crates = {}, {}, set(names)
+        self.bodies, self.brought, self.crates, self.methods = {}, {}, set(names), {}
         for name in names:
             crate = Crate(name)
             for function in crate.functions.values():
-                own = function.name.split("::")[-1]
+                *outer, own = function.name.split("::")
                 self.bodies[name, own] = function
+                if outer and outer[-1][0].isupper():
+                    self.methods[name, own] = outer[-1]
                 uses = brought("\n".join(crate.lines(function.file)))
                 self.brought[name, own] = {last: other for other, last in uses if other in self.crates}
 
     def of(self, at):
-        found = []
-        for before, own in re.findall(r"(?<![\w:])(?:(\w+)::(?:\w+::)*)?(\w+)\(", self.bodies[at].text):
-            crate = self.brought[at].get(before or own) or (before if before in self.crates else at[0])
+        found, text = [], self.bodies[at].text
+        for call in re.finditer(r"(?<![\w:])(?:(\w+)::(?:\w+::)*)?(\w+)\(", text):
+            before, own = call.groups()
+            if text[call.start() - 1] == ".":
+                # a method, of this crate or of a type that is brought in
+                brought_in = (other for last, other in self.brought[at].items() if self.methods.get((other, own)) == last)
+                crate = at[0] if (at[0], own) in self.methods else next(brought_in, None)
+            else:
+                crate = self.brought[at].get(before or own) or (before if before in self.crates else at[0])
             if (crate, own) in self.bodies and (crate, own) not in found:
                 found.append((crate, own))
         return found
@@ -253,14 +261,15 @@ def way(names):
 
 
 def handed(names):
-    """The calls, from ENTRY on, that hand bytes on to another function that takes a `&[u8]`: pairs of functions, each
-    function reached once, in the order of the callers' texts."""
+    """The calls, from ENTRY on, that hand bytes on to another function that takes a `&[u8]` or a `Reader`: pairs of
+    functions, each function reached once, in the order of the callers' texts."""
     calls, takes, seen, found = Calls(names), set(), set(), []
     for name in names:
         for path, text in sources(name).items():
             if path.endswith(".rt"):
                 heads = re.findall(r'^(?:pub )?(?:extern "C" )?fn (\w+)\((.*?)\)(?= ->|\n| \{)', plain(text), re.M | re.S)
-                takes.update((name, own) for own, head in heads if "&[u8]" in head)
+                takes.update((name, own) for own, head in heads if "&[u8]" in head or "Reader" in head)
+    takes.update(at for at, owner in calls.methods.items() if owner == "Reader")
 
     def walk(at):
         for other in calls.of(at):

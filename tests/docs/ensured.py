@@ -50,9 +50,9 @@ def stated(path, name):
 
 
 def ensures(path, name):
-    """What a function ensures, or None where it is not in the file."""
-    head = re.search(rf"^(?:pub )?(?:extern \"C\" )?fn {re.escape(name)}\((.*?)^\{{", read(path), re.M | re.S)
-    return head and "".join(head[1].partition("ensures")[1:])
+    """What a function or a method ensures, or None where it is not in the file."""
+    head = re.search(rf"^( *)(?:pub )?(?:extern \"C\" )?fn {re.escape(name)}\((.*?)^\1\{{", read(path), re.M | re.S)
+    return head and "".join(head[2].partition("ensures")[1:])
 
 
 def says(text, name):

@@ -26,7 +26,9 @@ from proofs import FILES, Proofs, declaration_of
 
 ROOT = os.path.dirname(os.path.dirname(os.path.dirname(os.path.abspath(__file__))))
 FUNCTION = re.compile(r'(?:pub )?(?:extern "C" )?fn (\w+)')
+IMPL = re.compile(r"impl(?:<.*?>)? (?:\w+(?:<.*>)? for )?(\w+)")
 CYCLE = re.compile(r"#\[cycle\((\w+)\)\]")
+BODY = re.compile(r"[^\s/].*\{\}?$|\{\}?$")
 CALL = re.compile(r"(?:(\w+)::)?(\w+)\(")
 
 
@@ -112,17 +114,22 @@ class Crate:
     def take_functions(self, file):
         module = file[len("src/") : -len(".rt")].replace("/", "::")
         module = "" if module in ("lib", "main") else module + "::"
-        lines, i, cycle = self.lines(file), 0, ""
+        lines, i, cycle, owner, margin = self.lines(file), 0, "", "", ""
         while i < len(lines):
-            found, attribute = FUNCTION.match(lines[i]), CYCLE.match(lines[i])
+            impl = IMPL.match(lines[i])
+            if impl or lines[i] == "}":
+                # a method's margin is one step in, and its name is the type's with its own
+                owner, margin = (f"{impl[1]}::", "    ") if impl else ("", "")
+            line = lines[i].removeprefix(margin)
+            found, attribute = FUNCTION.match(line), CYCLE.match(line)
             if attribute:
                 cycle = attribute[1]
             if found:
                 # the body opens in a line at the margin, alone or after the head, and closes in one
-                body = next(k for k in range(i, len(lines)) if re.match(r"[^\s/].*\{\}?$|\{\}?$", lines[k]))
-                end = body if lines[body].endswith("{}") else lines.index("}", body)
+                body = next(k for k in range(i, len(lines)) if BODY.match(lines[k].removeprefix(margin)))
+                end = body if lines[body].endswith("{}") else lines.index(margin + "}", body)
                 text = re.sub(r"//.*", "", "\n".join(lines[body + 1 : end + 1]))
-                name = module + found[1]
+                name = module + owner + found[1]
                 self.functions[name] = Function(name, file, body, end, text, cycle or found[1])
                 i, cycle = end, ""
             i += 1

@@ -2,9 +2,7 @@
 use mathlib.Core.Path.{◌≡◌, sym, ap, subst, ◌∙◌}
 use mathlib.Core.List.{List}
 use mathlib.Core.Option.{Option, none, some}
-use Prim.Native.Nat.{ℕ, ◌≤◌}
-use lib.ListN.{length}
-use Rattle.request.specs.Range.{max_bytes}
+use Prim.Native.Nat.{ℕ}
 use Rattle.request.specs.Request.{Line, Request, word}
 use Rattle.request.specs.Read.{request_of}
 use Rattle.steps.specs.declared.Row.{Row}
@@ -15,14 +13,9 @@ use Rattle.store.proofs.LinesOfRows.{line_of_row, row_canonical}
 use Rattle.read_heads.specs.declared.First.{First}
 use Rattle.read_heads.specs.First.{WordIs, FormBroken, LineIs}
 
--- 1 has passed, and the first line has been read
-pub record Begun (b : List ℕ) (f : First) : Type 0 where
-  pub short : length b ≤ max_bytes
-  pub line : LineIs (request_of b) b f
-
--- what it is, by the match on it
-pub line_as : {b : List ℕ} {f g : First} → Begun b f → f ≡ g → LineIs (request_of b) b g
-line_as {b} s e = subst (LineIs (request_of b) b) e s.line
+-- what the first line is, by the match on it
+pub line_as : (b c : List ℕ) {f g : First} → LineIs (request_of b) c f → f ≡ g → LineIs (request_of b) c g
+line_as b c l e = subst (LineIs (request_of b) c) e l
 
 -- 2 fails where there is no request
 pub no_request : {q : Option Request} → FormBroken q → q ≡ none

@@ -5,8 +5,9 @@ ghost use Rattle.store.specs.Store.{Good};
 ghost use Rattle.call_contracts.specs.Called.{Called};
 
 use call_checks::Verdict;
-use ledger::Answer;
-use read_heads::{First, FirstRead};
+use ledger::{Answer, Refusal};
+use read_fields::Reader;
+use read_heads::First;
 use request::ranges;
 use step_rows::StepRows;
 use store::Store;
@@ -18,11 +19,12 @@ pub fn call(store: &mut Store, sheet: &[u8], rows: &mut StepRows) -> Answer
 {
     let short = call_checks::tested(ranges::MAX_BYTES < sheet.len());
     let Verdict::Passed = short else {
-        return Answer::Refused(1, 0);
+        return Answer::Refused(Refusal::TooLong as u32, 0);
     };
-    let read = read_heads::requests::read_first(sheet);
-    let FirstRead::Read(first) = read else {
-        return Answer::Refused(2, 0);
+    let mut r = Reader { rest: sheet };
+    let read = read_heads::requests::read_first(&mut r);
+    let Some(first) = read else {
+        return Answer::Refused(Refusal::BadForm as u32, 0);
     };
     match first {
         First::Word(row) => call_word::word(store, row),
@@ -31,6 +33,6 @@ pub fn call(store: &mut Store, sheet: &[u8], rows: &mut StepRows) -> Answer
         ),
         First::Withdraw(serial) => call_credentials::withdraw(store, serial),
         First::Tally(session, minute) => call_credentials::tally(store, session, minute),
-        First::Book(head) => call_book::book(store, sheet, rows, head),
+        First::Book(head) => call_book::book(store, &mut r, rows, head),
     }
 }

@@ -10,11 +10,11 @@ ghost use Rattle.call_book_laws.specs.BookingFound.{booking_at, Steppable};
 
 use call_checks::Verdict;
 use call_holds::Sides;
-use ledger::Answer;
+use ledger::{Answer, Refusal};
 use read_heads::Head;
 use request::Kind;
-use step_checker::Checked;
-use step_rows::{LabelRows, Serials, StepRows};
+use step_checker::Stop;
+use step_rows::{LabelRows, StepRows};
 use steps::{Goal, Sequent};
 use store::Store;
 
@@ -23,22 +23,20 @@ fn opening(head: Head, sides: Sides) -> Sequent
     ensures { result ≡ sequent sides.unrestricted sides.linear
         (Goal.Holds head.formula head.interval) }
 {
-    let interval = head.interval;
-    let goal = Goal::Holds(head.formula, interval);
     Sequent {
         unrestricted: sides.unrestricted,
         linear: sides.linear,
-        goal,
+        goal: Goal::Holds(head.formula, head.interval),
     }
 }
 
 // The refusal of steps that are stopped; it is not asked for where they are closed.
-fn refusal(c: Checked) -> Answer
-    ensures { result ≡ refused_by (refusal_of c) }
+fn refusal(checked: Result<(), Stop>) -> Answer
+    ensures { result ≡ refused_by (refusal_of checked) }
 {
-    match c {
-        Checked::Stopped(number, step) => Answer::Refused(number, step),
-        Checked::Closed => Answer::Refused(0, 0),
+    match checked {
+        Err(stop) => Answer::Refused(stop.refusal, stop.step),
+        Ok(()) => Answer::Refused(0, 0),
     }
 }
 
@@ -46,7 +44,7 @@ fn refusal(c: Checked) -> Answer
 pub fn book_steps(
     store: &mut Store,
     head: Head,
-    serials: &Serials,
+    serials: &[u32],
     rows: &StepRows,
     table: &mut LabelRows,
     sides: Sides,
@@ -63,19 +61,19 @@ pub fn book_steps(
         opening(head, sides),
         head.holds,
     );
-    let Checked::Closed = checked else {
+    let Ok(()) = checked else {
         return refusal(checked);
     };
     let room = call_checks::check_room(store, sides.linears);
     let Verdict::Passed = room else {
-        return Answer::Refused(22, 0);
+        return Answer::Refused(Refusal::CredentialsFull as u32, 0);
     };
     let unused = call_checks::check_unused(store);
     let Verdict::Passed = unused else {
-        return Answer::Refused(23, 0);
+        return Answer::Refused(Refusal::SerialsUsedUp as u32, 0);
     };
     let serial = store::next_serial(store);
-    call_holds::spend(store, serials, head.holds);
+    call_holds::spend(store, serials);
     store_credentials::give(store, Kind::Linear, head.formula, head.interval);
     Answer::Accepted(serial)
 }

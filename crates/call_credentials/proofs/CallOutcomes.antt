@@ -6,6 +6,7 @@ use Prim.Native.Nat.{ℕ, ◌-◌}
 use lib.ListN.{length}
 use borrow.Author.Tests.{leb-false, ltb-false}
 use native.Mathlib.Omega.{arith}
+use Rattle.std.specs.Prelude.{Some, None}
 use Rattle.logic.specs.declared.Interval.{Interval}
 use Rattle.logic.specs.Interval.{reversed, broken}
 use Rattle.logic.specs.Formula.{unbound}
@@ -21,7 +22,6 @@ use Rattle.ledger.specs.Statements.{from_start, ◌▸◌}
 use Rattle.ledger.proofs.Firsts.{if_false, no_intervals}
 use Rattle.store_cells.specs.Layout.{credential_at}
 use Rattle.store.specs.Store.{ledger_of, Good, StandsFor, Givable}
-use Rattle.store_lookup.specs.declared.Place.TheVariants.{At, Nothing}
 use Rattle.store_lookup.specs.Lookup.{LooksUp}
 use Rattle.store_lookup.proofs.Places.{its_serial}
 use Rattle.formula_tally.specs.declared.Figures.{Figures}
@@ -36,12 +36,12 @@ use Rattle.call_credentials.specs.Issue.{last_checks, Past, Issuable}
 
 -- Withdraw
 
-pub withdraw_dead : {l : List ℕ} {n : ℕ} → Good l → LooksUp l n Nothing → Handled l (withdraw n) (Refused 24 0) l
+pub withdraw_dead : {l : List ℕ} {n : ℕ} → Good l → LooksUp l n None → Handled l (withdraw n) (Refused 24 0) l
 unfolding checks intervals
 withdraw_dead {l} {n} g h =
     refused g (no_intervals (ledger_of l) (withdraw n) refl) (sym h.check)
 
-pub withdraw_done : {l l' : List ℕ} {n i : ℕ} → Good l → LooksUp l n (At i)
+pub withdraw_done : {l l' : List ℕ} {n i : ℕ} → Good l → LooksUp l n (Some i)
     → StandsFor l' (with_live (ledger_of l) (without_serial (ledger_of l).live (credential_at l i).serial))
     → Handled l (withdraw n) (Accepted n) l'
 unfolding checks intervals accept

@@ -7,11 +7,10 @@ ghost use Rattle.store.specs.Store.{Good};
 ghost use Rattle.call_contracts.specs.Called.{Handled};
 
 use call_checks::Verdict;
-use ledger::Answer;
+use ledger::{Answer, Refusal};
 use logic::Interval;
 use request::Kind;
 use store::Store;
-use store_lookup::Place;
 
 // Issue: 3, 43, 10, 53, 20 or 21 by the kind, 22, 23.
 pub fn issue(store: &mut Store, kind: Kind, formula: u32, interval: Interval) -> Answer
@@ -20,19 +19,19 @@ pub fn issue(store: &mut Store, kind: Kind, formula: u32, interval: Interval) ->
 {
     let ordered = call_checks::check_ordered(interval);
     let Verdict::Passed = ordered else {
-        return Answer::Refused(3, 0);
+        return Answer::Refused(Refusal::IntervalReversed as u32, 0);
     };
     let unbroken = call_checks::check_unbroken(interval);
     let Verdict::Passed = unbroken else {
-        return Answer::Refused(43, 0);
+        return Answer::Refused(Refusal::BreakNotInside as u32, 0);
     };
     let present = call_checks::check_present(store, formula);
     let Verdict::Passed = present else {
-        return Answer::Refused(10, 0);
+        return Answer::Refused(Refusal::NoSuchFormula as u32, 0);
     };
     let bound = call_checks::check_bound(store, formula);
     let Verdict::Passed = bound else {
-        return Answer::Refused(53, 0);
+        return Answer::Refused(Refusal::HolderMisplaced as u32, 0);
     };
     let issuable = call_checks::check_issuable(store, kind, formula);
     let Verdict::Passed = issuable else {
@@ -40,11 +39,11 @@ pub fn issue(store: &mut Store, kind: Kind, formula: u32, interval: Interval) ->
     };
     let room = call_checks::check_room(store, 0);
     let Verdict::Passed = room else {
-        return Answer::Refused(22, 0);
+        return Answer::Refused(Refusal::CredentialsFull as u32, 0);
     };
     let unused = call_checks::check_unused(store);
     let Verdict::Passed = unused else {
-        return Answer::Refused(23, 0);
+        return Answer::Refused(Refusal::SerialsUsedUp as u32, 0);
     };
     let serial = store::next_serial(store);
     store_credentials::give(store, kind, formula, interval);
@@ -57,8 +56,8 @@ pub fn withdraw(store: &mut Store, serial: u32) -> Answer
     ensures { Handled store.old (withdraw_request serial) result store.new }
 {
     let found = store_lookup::locate(store, serial);
-    let Place::At(at) = found else {
-        return Answer::Refused(24, 0);
+    let Some(at) = found else {
+        return Answer::Refused(Refusal::NotLive as u32, 0);
     };
     store_credentials::withdraw(store, at);
     Answer::Accepted(serial)

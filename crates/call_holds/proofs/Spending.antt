@@ -4,6 +4,7 @@ use mathlib.Core.List.{List, [], ◌∷◌}
 use mathlib.Core.Bool.{true, false}
 use Prim.Native.Nat.{ℕ, ◌+◌}
 use lib.ListN.{drop}
+use Rattle.std.specs.Prelude.{Some, None}
 use Rattle.logic.specs.Multiset.{Every}
 use Rattle.logic.proofs.Tests.{no_truth}
 use Rattle.request.specs.declared.Kind.{Kind}
@@ -15,7 +16,6 @@ use Rattle.ledger.specs.Calls.{with_live}
 use Rattle.ledger.proofs.Credentials.{Alive, Apart, any_none, twice_apart, spend_first, alive_after}
 use Rattle.store_cells.specs.Layout.{credential_at}
 use Rattle.store.specs.Store.{ledger_of, Good, StandsFor}
-use Rattle.store_lookup.specs.declared.Place.TheVariants.{At, Nothing}
 use Rattle.store_lookup.specs.Lookup.{LooksUp}
 use Rattle.store_lookup.proofs.Places.{none_found, one_found}
 use Rattle.call_holds.specs.Holds.{spent}
@@ -32,11 +32,11 @@ not_linear Linear e = absurd (no_truth (sym e))
 not_linear Unrestricted e = refl
 
 module _ {l : List ℕ} {n : ℕ} (g : Good l) where
-  pub spent_nothing : LooksUp l n Nothing → StandsFor l (with_live (ledger_of l) (spent (ledger_of l).live n))
+  pub spent_nothing : LooksUp l n None → StandsFor l (with_live (ledger_of l) (spent (ledger_of l).live n))
   unfolding held spend
   spent_nothing h = record { good = g; ledger = rw (none_found g h, held, spend) }
 
-  module _ {i : ℕ} (h : LooksUp l n (At i)) where
+  module _ {i : ℕ} (h : LooksUp l n (Some i)) where
     pub spent_unrestricted : is_kind Linear (credential_at l i).kind ≡ false
         → StandsFor l (with_live (ledger_of l) (spent (ledger_of l).live n))
     unfolding held spend

@@ -89,20 +89,32 @@ counted l e h = reworded h (ap (leb max_formulas) e)
 module _ {l : List ℕ} {x : Row} {z : ℕ} (f : Fitting l x z) where
   pub word_added : {p b u w : Bool} → p ≡ plain (form (formula (ledger_of l)) (line_of x))
       → b ≡ balanced (form (formula (ledger_of l)) (line_of x)) → HoldersOf l x u w → {y : Span}
-      → SpanOf (form (formula (ledger_of l)) (line_of x)) y → Wordable l x z p b u w y.low y.high y.gives
+      → SpanOf (form (formula (ledger_of l)) (line_of x)) y
+      → Wordable l x (record {
+        size = z;
+        plain = p;
+        balanced = b;
+        unbound = u;
+        quantified = w;
+        low = y.low;
+        high = y.high;
+        gives = y.gives;
+      })
   word_added q y h s = record {
     good = f.named.good;
     room = leb-false max_formulas (length (ledger_of l).lines) f.room;
     canonical = f.named.canonical;
     there = (named_formable f.named).there;
-    sized = f.sized;
-    plain_kept = q;
-    balancedly = y;
-    unbound_kept = h.unbound;
-    quantified_kept = h.quantified;
+    facts = record {
+      sized = f.sized;
+      plain_kept = q;
+      balancedly = y;
+      unbound_kept = h.unbound;
+      quantified_kept = h.quantified;
+      spanned = s.between;
+      given = s.given;
+    };
     small = ltb-false max_size z f.small;
-    spanned = s.between;
-    given = s.given;
   }
 
   pub word_done : {l' : List ℕ} {n : ℕ} → n ≡ length (ledger_of l).lines

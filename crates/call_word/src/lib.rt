@@ -8,11 +8,12 @@ ghost use Rattle.call_contracts.specs.Called.{Handled};
 ghost use Rattle.call_word.specs.Wording.{Named, Fitting};
 
 use call_checks::Verdict;
-use ledger::Answer;
+use ledger::{Answer, Refusal};
 use steps::Row;
-use store::Store;
+use store::{Facts, Store};
 
 // A line that has passed all checks is added, with what is known of its formula.
+#[tactic(auto, using(crate::proofs::WordOutcomes::named_formable))]
 fn add(store: &mut Store, row: Row, size: u32) -> Answer
     requires { Fitting store.old row size }
     ensures { Handled store.old (word_request (line_of row)) result store.new }
@@ -21,19 +22,18 @@ fn add(store: &mut Store, row: Row, size: u32) -> Answer
     let balanced = formula_weights::row_balanced(store, row);
     let holders = formula_facts::row_holders(store, row);
     let span = formula_facts::row_span(store, row);
-    let number = store::formula_count(store);
-    store_formulas::add_row(
-        store,
-        row,
+    let facts = Facts {
         size,
         plain,
         balanced,
-        holders.unbound,
-        holders.quantified,
-        span.low,
-        span.high,
-        span.gives,
-    );
+        unbound: holders.unbound,
+        quantified: holders.quantified,
+        low: span.low,
+        high: span.high,
+        gives: span.gives,
+    };
+    let number = store::formula_count(store);
+    store_formulas::add_row(store, row, facts);
     Answer::Accepted(number)
 }
 
@@ -44,21 +44,21 @@ fn word_named(store: &mut Store, row: Row) -> Answer
 {
     let apart = call_checks::tested(formula_facts::row_nested(store, row));
     let Verdict::Passed = apart else {
-        return Answer::Refused(53, 0);
+        return Answer::Refused(Refusal::HolderMisplaced as u32, 0);
     };
     let size = formula_facts::row_size(store, row);
     let small = call_checks::tested(ledger::MAX_SIZE < size);
     let Verdict::Passed = small else {
-        return Answer::Refused(12, 0);
+        return Answer::Refused(Refusal::FormulaTooLarge as u32, 0);
     };
     let new = call_checks::tested(store_formulas::has_row(store, row));
     let Verdict::Passed = new else {
-        return Answer::Refused(13, 0);
+        return Answer::Refused(Refusal::FormulaThere as u32, 0);
     };
     let number = store::formula_count(store);
     let free = call_checks::tested(ledger::MAX_FORMULAS <= number);
     let Verdict::Passed = free else {
-        return Answer::Refused(14, 0);
+        return Answer::Refused(Refusal::FormulasFull as u32, 0);
     };
     add(store, row, size)
 }
@@ -70,15 +70,15 @@ pub fn word(store: &mut Store, row: Row) -> Answer
 {
     let ordered = call_checks::check_line_ordered(row);
     let Verdict::Passed = ordered else {
-        return Answer::Refused(3, 0);
+        return Answer::Refused(Refusal::IntervalReversed as u32, 0);
     };
     let unbroken = call_checks::check_line_unbroken(row);
     let Verdict::Passed = unbroken else {
-        return Answer::Refused(43, 0);
+        return Answer::Refused(Refusal::BreakNotInside as u32, 0);
     };
     let present = call_checks::check_names_present(store, row);
     let Verdict::Passed = present else {
-        return Answer::Refused(10, 0);
+        return Answer::Refused(Refusal::NoSuchFormula as u32, 0);
     };
     word_named(store, row)
 }

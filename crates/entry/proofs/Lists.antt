@@ -1,14 +1,10 @@
 -- Calls in a row are the definition's, and the demands hold of them.
 use mathlib.Core.Path.{◌≡◌, refl, sym, ap, ap₂, subst, ◌∙◌}
-use mathlib.Core.List.{List, [], ◌∷◌, ◌++◌, map}
+use mathlib.Core.List.{List, [], ◌∷◌, map}
 use mathlib.Core.Option.{some}
-use mathlib.Core.Bool.{true}
 use Prim.Native.Nat.{ℕ}
 use native.Mathlib.Omega.{arith}
-use lib.ListN.{length, take}
-use Rattle.logic.specs.declared.Interval.{Interval}
-use Rattle.logic.specs.Interval.{◌⊇◌, WellFormed, has}
-use Rattle.request.specs.Request.{Booking, Request, book, tally}
+use Rattle.request.specs.Request.{Booking, book, tally}
 use Rattle.request.specs.Read.{request_of}
 use Rattle.request.specs.Write.{write}
 use Rattle.ledger.specs.Ledger.{Ledger}

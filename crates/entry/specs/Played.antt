@@ -9,10 +9,9 @@ use Rattle.request.specs.InRange.{◌in_range◌}
 use Rattle.request.specs.Request.{Booking, Request, book, tally}
 use Rattle.request.specs.Read.{request_of}
 use Rattle.request.specs.Write.{write}
-use Rattle.ledger.specs.declared.Answer.{Answer}
 use Rattle.ledger.specs.Ledger.{Ledger, empty}
 use Rattle.ledger.specs.Checks.{Refusal, checks_of}
-use Rattle.ledger.specs.Calls.{Told, told, accept, after, answers}
+use Rattle.ledger.specs.Calls.{told, accept, after, answers}
 use Rattle.ledger.specs.Statements.{Pass, FirstFails}
 use Rattle.store.specs.Store.{ledger_of, Good, StandsFor}
 use Rattle.snapshot.specs.Reached.{Begins}

@@ -62,21 +62,16 @@ pub fn till_start(till: &mut Store)
     store::start(till);
 }
 
-// An answer in four numbers.
+// An answer in four numbers. (No `From`: it would stand in crate ledger, and `numbers` is a definition of this crate,
+// which an edit of its own, numbers_step_first, turns.)
 pub fn tell(a: Answer, answer: &mut [u32; 4])
     ensures { answer.new ≡ numbers (told a) }
 {
-    match a {
-        Answer::Accepted(n) => {
-            *answer = [1, n, 0, 0];
-        }
-        Answer::Counted(open, shut, placed) => {
-            *answer = [3, open, shut, placed];
-        }
-        Answer::Refused(n, k) => {
-            *answer = [0, n, k, 0];
-        }
-    }
+    *answer = match a {
+        Answer::Accepted(n) => [1, n, 0, 0],
+        Answer::Counted(open, shut, placed) => [3, open, shut, placed],
+        Answer::Refused(n, k) => [0, n, k, 0],
+    };
 }
 
 // Answers in numbers, computed. The function does nothing: its `ensures` is what is proved.

@@ -8,7 +8,8 @@ use Rattle.ledger.specs.Checks.{any_of}
 use Rattle.ledger.specs.Bounds.{There}
 use Rattle.store.specs.Store.{line_of, ledger_of, Canonical, Good}
 
--- the row of a line whose numbers the store has, so that it stands for a formula
+-- the row of a line whose numbers the store has, so that it stands for a formula: a fact of two values, which no type
+-- of one has
 pub record Formable (l : List ℕ) (r : Row) : Type 0 where
   pub good : Good l
   pub canonical : Canonical r

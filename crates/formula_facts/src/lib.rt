@@ -37,8 +37,10 @@ pub fn row_size(store: &Store, row: Row) -> u32
 {
     match formula_parts::parts_of(row) {
         Parts::Nothing => 1,
-        Parts::One(i) => 1 + store::size_at(store, i),
-        Parts::Two(i, j) => 1 + (store::size_at(store, i) + store::size_at(store, j)),
+        Parts::One(i) => 1 + store::facts_at(store, i).size,
+        Parts::Two(i, j) => {
+            1 + (store::facts_at(store, i).size + store::facts_at(store, j).size)
+        }
     }
 }
 
@@ -52,8 +54,8 @@ pub fn row_plain(store: &Store, row: Row) -> bool
     }
     match formula_parts::parts_of(row) {
         Parts::Nothing => true,
-        Parts::One(i) => store::plain_at(store, i),
-        Parts::Two(i, j) => store::plain_at(store, i) && store::plain_at(store, j),
+        Parts::One(i) => store::facts_at(store, i).plain,
+        Parts::Two(i, j) => store::facts_at(store, i).plain && store::facts_at(store, j).plain,
     }
 }
 
@@ -74,14 +76,21 @@ fn parts_holders(store: &Store, row: Row) -> Holders
             unbound: false,
             quantified: false,
         },
-        Parts::One(i) => Holders {
-            unbound: store::unbound_at(store, i),
-            quantified: store::quantified_at(store, i),
-        },
-        Parts::Two(i, j) => Holders {
-            unbound: store::unbound_at(store, i) | store::unbound_at(store, j),
-            quantified: store::quantified_at(store, i) | store::quantified_at(store, j),
-        },
+        Parts::One(i) => {
+            let x = store::facts_at(store, i);
+            Holders {
+                unbound: x.unbound,
+                quantified: x.quantified,
+            }
+        }
+        Parts::Two(i, j) => {
+            let x = store::facts_at(store, i);
+            let y = store::facts_at(store, j);
+            Holders {
+                unbound: x.unbound | y.unbound,
+                quantified: x.quantified | y.quantified,
+            }
+        }
     }
 }
 
@@ -107,7 +116,7 @@ pub fn row_nested(store: &Store, row: Row) -> bool
     if row.letter != letters::FOR_EVERY {
         return false;
     }
-    store::quantified_at(store, row.a)
+    store::facts_at(store, row.a).quantified
 }
 
 // Two numbers between which the sessions of a formula's atoms are, so that a tally of another session passes it by, and
@@ -117,18 +126,6 @@ pub struct Span {
     pub low: u32,
     pub high: u32,
     pub gives: u32,
-}
-
-fn least(a: u32, b: u32) -> u32
-    ensures { (result ≤ a) × (result ≤ b) }
-{
-    if a < b { a } else { b }
-}
-
-fn most(a: u32, b: u32) -> u32
-    ensures { (a ≤ result) × (b ≤ result) }
-{
-    if a < b { b } else { a }
 }
 
 // What a formula has of a session that is no higher than its lowest.
@@ -146,10 +143,10 @@ fn both(x: Span, y: Span) -> Span
     requires { (x.gives ≤ most_gives) × (y.gives ≤ most_gives) }
     ensures { BothOf x y result }
 {
-    let low = least(x.low, y.low);
+    let low = x.low.min(y.low);
     Span {
-        low: low,
-        high: most(x.high, y.high),
+        low,
+        high: x.high.max(y.high),
         gives: given(x, low) + given(y, low),
     }
 }
@@ -159,10 +156,11 @@ fn span_at(store: &Store, n: u32) -> Span
     requires { Good store.now × (n < length (ledger_of store.now).lines) }
     ensures { SpanOf (formula (ledger_of store.now) n) result }
 {
+    let kept = store::facts_at(store, n);
     Span {
-        low: store::low_at(store, n),
-        high: store::high_at(store, n),
-        gives: store::gives_at(store, n),
+        low: kept.low,
+        high: kept.high,
+        gives: kept.gives,
     }
 }
 
@@ -197,9 +195,8 @@ pub fn row_span(store: &Store, row: Row) -> Span
     let parts = parts_span(store, row);
     if row.letter == letters::SAYS {
         return Span {
-            low: parts.low,
-            high: parts.high,
             gives: gives::said(row.a, parts.gives),
+            ..parts
         };
     }
     parts

@@ -18,7 +18,7 @@ ghost use Rattle.formula_tally.specs.Sets.{Named, SetAdded};
 
 use logic::Interval;
 use request::Kind;
-use store::Store;
+use store::{Facts, Store};
 
 // The sums of a tally over the live linear credentials: "Open now counts only seats whose nearest ⟨K⟩ above them is
 // principal 1, in a window that has the minute. All other seats, bare ones too, go to shut"; placed are the places.
@@ -50,14 +50,19 @@ fn count_formula(store: &Store, formula: u32, session: u32) -> u32
     requires { Good store.now × (formula < length (ledger_of store.now).lines) }
     ensures { result ≡ gives session (formula_of (ledger_of store.now) formula) }
 {
-    let low = store::low_at(store, formula);
+    let Facts {
+        low,
+        high,
+        gives,
+        ..
+    } = store::facts_at(store, formula);
     if session == low {
-        return store::gives_at(store, formula) % formula_parts::UNDER_UNIT;
+        return gives % formula_parts::UNDER_UNIT;
     }
     if session < low {
         return 0;
     }
-    if store::high_at(store, formula) < session {
+    if high < session {
         return 0;
     }
     walk::walk(store, formula, false, session)
@@ -94,6 +99,7 @@ fn count_singles(store: &Store, formula: u32, minute: u32) -> Singles
     let mut inside = 0;
     let mut all = 0;
     let mut next = store::last_row(store, formula);
+    // a chain of rows is no range: each row leads to the one before it
     while 0 < next {
         let c = store::credential_at(store, next - 1);
         let kind = c.kind;
@@ -140,6 +146,7 @@ fn add_set(store: &Store, base: u32, bits: u32, session: u32, minute: u32) -> Su
     let mut open = 0;
     let mut seats = 0;
     let mut places = 0;
+    // the bits of a set are no range: the lowest is taken off each time, so that no empty one is looked at
     while 0 < rest {
         let formula = base + u32::trailing_zeros(rest);
         rest = rest & (rest - 1);
@@ -167,6 +174,7 @@ fn add_up(store: &Store, session: u32, minute: u32) -> Sums
     let mut open = 0;
     let mut seats = 0;
     let mut places = 0;
+    // as in `add_set`: the bits that are set, one after the other
     while 0 < numbers {
         let w = u32::trailing_zeros(numbers);
         numbers = numbers & (numbers - 1);

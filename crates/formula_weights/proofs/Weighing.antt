@@ -13,7 +13,7 @@ use Rattle.logic.specs.Formula.{Formula, atom, one, tensor, with, plus, lolli, i
 use Rattle.logic.specs.Formula.{for_every, size}
 use Rattle.logic.specs.Counts.{up, down, even, level, sessions_of, all_of, balanced}
 use Rattle.logic.specs.Multiset.{sum, Every}
-use Rattle.logic.proofs.Tests.{bit_le, left_true, right_true}
+use Rattle.logic.proofs.Tests.{bit_le, no_truth}
 use Rattle.request.specs.Request.{Line}
 use Rattle.steps.specs.declared.Row.{Row}
 use Rattle.ledger.specs.Table.{form, names, row_of}
@@ -28,9 +28,13 @@ use Rattle.formula_parts.specs.Parts.{parts_of, numbers, atomic}
 use Rattle.formula_facts.specs.Facts.{Formable}
 use Rattle.formula_facts.proofs.Named.{parts_are, parts_there, parts_size}
 use Rattle.formula_weights.specs.declared.Weight.{Weight}
-use Rattle.formula_weights.specs.declared.Tried.{Tried}
+use Rattle.std.specs.Prelude.{Option as Maybe, Some, Result, Ok, Err}
+use Rattle.std.specs.Result.{IsErr}
 use Rattle.formula_weights.specs.RowWeights.{weight_of, alone_weight, under_weight, joined_weight, Light}
 use Rattle.formula_weights.specs.RowWeights.{Sure, Tries}
+
+abbrev pub Tried : Type 0
+Tried = Result (Maybe ℕ) ℕ
 
 -- by the parts' weights, and by their sessions
 abbrev pub weighed : ℕ → Row → List Weight → Weight
@@ -216,32 +220,29 @@ module _ (f : ℕ → Bool) where
   pub tries_at : {ss zs : List ℕ} {x : Tried} → ss ≡ zs → Tries f ss x → Tries f zs x
   tries_at {x = x} e h = subst (λ (xs : List ℕ). Tries f xs x) e h
 
-  -- the session was tried before, or it is tried
-  pub tries_known : (x : Tried) (s : ℕ) → Sure f x → (x.sure && eqb x.session s) ≡ true
-      → Tries f (s ∷ []) (record { all = true; sure = true; session = s })
+  -- of one session
+  pub tries_so : (s : ℕ) → f s ≡ true → Tries f (s ∷ []) (Ok (Some s))
   unfolding all_of
-  tries_known x s h e =
-      let y = eqb-true x.session s (right_true x.sure (eqb x.session s) e) in
-      let z : f s ≡ true = ap f (sym y) ∙ h (left_true x.sure (eqb x.session s) e) in
-      record { all = sym (and-true (f s) ∙ z); sure = λ q. z }
+  tries_so s e = record { all = sym (and-true (f s) ∙ e); sure = e }
 
-  pub tries_new : (s : ℕ) {b : Bool} → b ≡ f s → Tries f (s ∷ []) (record { all = b; sure = b; session = s })
+  pub tries_not : (s : ℕ) → f s ≡ false → Tries f (s ∷ []) (Err s)
   unfolding all_of
-  tries_new s h = record { all = h ∙ sym (and-true (f s)); sure = λ q. sym h ∙ q }
+  tries_not s e = record { all = sym (and-true (f s) ∙ e); sure = tt }
 
   -- of a row without parts
   pub tries_atom : (r : Row) {x : Tried} → atomic r.letter ≡ true → Tries f (r.b ∷ []) x → Tries f (gathered r []) x
   tries_atom r e h = rw e h
 
-  pub tries_other : (r : Row) (x : Tried) → atomic r.letter ≡ false → Sure f x
-      → Tries f (gathered r []) (record { all = true; sure = x.sure; session = x.session })
+  pub tries_other : (r : Row) (x : Maybe ℕ) → atomic r.letter ≡ false → Sure f x → Tries f (gathered r []) (Ok x)
   unfolding all_of
   tries_other r x n h = rw n (record { all = refl; sure = h })
 
-  -- of two parts: what the left one is not, both are not; if it is, the right one decides
-  module _ (xs ys : List ℕ) {x : Tried} (h : Tries f xs x) where
-    pub tries_left : x.all ≡ false → Tries f (xs ++ ys) x
-    tries_left q = record { all = q ∙ sym (all_append xs ys ∙ rw (sym h.all, q)); sure = h.sure }
+  -- of two parts: what the left one is not, both are not, whichever session the answer names; if it is, the right one
+  -- decides
+  module _ (xs ys : List ℕ) where
+    pub tries_left : {s : ℕ} → Tries f xs (Err s) → (x : Tried) → IsErr x → Tries f (xs ++ ys) x
+    tries_left h (Ok x) e = absurd (no_truth e)
+    tries_left h (Err s) e = record { all = sym (all_append xs ys ∙ rw (sym h.all)); sure = tt }
 
-    pub tries_right : x.all ≡ true → {y : Tried} → Tries f ys y → Tries f (xs ++ ys) y
-    tries_right q k = record { all = k.all ∙ sym (all_append xs ys ∙ rw (sym h.all, q)); sure = k.sure }
+    pub tries_right : {x : Maybe ℕ} {y : Tried} → Tries f xs (Ok x) → Tries f ys y → Tries f (xs ++ ys) y
+    tries_right h k = record { all = k.all ∙ sym (all_append xs ys ∙ rw (sym h.all)); sure = k.sure }

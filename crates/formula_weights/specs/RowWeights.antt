@@ -1,5 +1,7 @@
 -- A formula's weight by its row, from the weights of its parts.
 use Rattle.std.specs.Prelude.{◌≡◌, List, Bool, true, ◌&&◌, ℕ, ◌+◌, ◌≤◌, eqb}
+use Rattle.std.specs.Prelude.{Option as Maybe, Some, None, Result, Ok, Err}
+use Rattle.std.specs.Result.{is_ok}
 use Prim.Native.Char.{code}
 use Rattle.logic.specs.Choice.{pick}
 use Rattle.logic.specs.Formula.{Formula}
@@ -9,7 +11,6 @@ use Rattle.steps.specs.declared.Row.{Row}
 use Rattle.ledger.specs.Checks.{max_size}
 use Rattle.formula_parts.specs.Parts.{atomic}
 use Rattle.formula_weights.specs.declared.Weight.{Weight}
-use Rattle.formula_weights.specs.declared.Tried.{Tried}
 
 abbrev pub weight_of : ℕ → Formula → Weight
 weight_of s a = record { up = up s a; down = down s a; even = even s a }
@@ -51,11 +52,16 @@ pub record Light (x : Weight) : Type 0 where
   pub up : x.up ≤ max_size
   pub down : x.down ≤ max_size
 
--- where it is said to be sure, the test holds of the session
-abbrev pub Sure : (ℕ → Bool) → Tried → Type 0
-Sure f x = x.sure ≡ true → f x.session ≡ true
+-- the test holds of the session, where there is one
+abbrev pub Sure : (ℕ → Bool) → Maybe ℕ → Type 0
+Sure f None = Unit {0}
+Sure f (Some s) = f s ≡ true
+
+abbrev pub SureOf : (ℕ → Bool) → Result (Maybe ℕ) ℕ → Type 0
+SureOf f (Ok last) = Sure f last
+SureOf f (Err s) = Unit {0}
 
 -- whether the test holds of all these sessions
-pub record Tries (f : ℕ → Bool) (ss : List ℕ) (x : Tried) : Type 0 where
-  pub all : x.all ≡ all_of f ss
-  pub sure : Sure f x
+pub record Tries (f : ℕ → Bool) (ss : List ℕ) (x : Result (Maybe ℕ) ℕ) : Type 0 where
+  pub all : is_ok x ≡ all_of f ss
+  pub sure : SureOf f x

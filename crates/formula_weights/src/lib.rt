@@ -132,39 +132,27 @@ fn neutral(store: &Store, row: Row, session: u32) -> bool
     (w.up == w.down) & w.even
 }
 
-// What was found of sessions: whether the formula is neutral for all that were asked, and, where it is `sure`, one for
-// which it is. Most formulas are of one session, which is weighed once.
-#[derive(Clone, Copy)]
-struct Tried {
-    all: bool,
-    sure: bool,
-    session: u32,
-}
+// What was found of sessions: one that was asked last and for which the formula is neutral, if any was asked; or a
+// session for which it is not. Most formulas are of one session, which is weighed once.
+type Tried = Result<Option<u32>, u32>;
 
-// Whether the row's formula is neutral for the session; `last` is what was found before.
-fn neutral_for(store: &Store, row: Row, session: u32, last: Tried) -> Tried
+// Whether the row's formula is neutral for the session; `last` is one for which it is, if any was asked.
+fn neutral_for(store: &Store, row: Row, session: u32, last: Option<u32>) -> Tried
     requires { Formable store.now row
         × Sure (neutral_for (form (formula (ledger_of store.now)) (line_of row))) last }
     ensures { Tries (neutral_for (form (formula (ledger_of store.now)) (line_of row)))
         (session ∷ []) result }
 {
-    if last.sure & (last.session == session) {
-        return Tried {
-            all: true,
-            sure: true,
-            session,
-        };
-    }
-    let all = neutral(store, row, session);
-    Tried {
-        all,
-        sure: all,
-        session,
+    let known = last == Some(session);
+    if known || neutral(store, row, session) {
+        Ok(Some(session))
+    } else {
+        Err(session)
     }
 }
 
 // Whether the formula of `row` is so for every session that stands in the formula of `part`.
-fn neutral_within(store: &Store, row: Row, part: Row, last: Tried) -> Tried
+fn neutral_within(store: &Store, row: Row, part: Row, last: Option<u32>) -> Tried
     requires { Formable store.now row × Formable store.now part
         × Sure (neutral_for (form (formula (ledger_of store.now)) (line_of row))) last }
     ensures { Tries (neutral_for (form (formula (ledger_of store.now)) (line_of row)))
@@ -175,18 +163,11 @@ fn neutral_within(store: &Store, row: Row, part: Row, last: Tried) -> Tried
             if (part.letter == letters::ATOM) | (part.letter == letters::NAMED) {
                 return neutral_for(store, row, part.b, last);
             }
-            Tried {
-                all: true,
-                sure: last.sure,
-                session: last.session,
-            }
+            Ok(last)
         }
         Parts::One(i) => neutral_within(store, row, store::line_at(store, i), last),
         Parts::Two(i, j) => {
-            let left = neutral_within(store, row, store::line_at(store, i), last);
-            if !left.all {
-                return left;
-            }
+            let left = neutral_within(store, row, store::line_at(store, i), last)?;
             neutral_within(store, row, store::line_at(store, j), left)
         }
     }
@@ -198,13 +179,8 @@ pub fn row_balanced(store: &Store, row: Row) -> bool
     ensures { result ≡ balanced (form (formula (ledger_of store.now)) (line_of row)) }
 {
     if let Parts::One(i) = formula_parts::parts_of(row) {
-        return store::balanced_at(store, i);
+        return store::facts_at(store, i).balanced;
     }
-    let none = Tried {
-        all: true,
-        sure: false,
-        session: 0,
-    };
-    let tried = neutral_within(store, row, row, none);
-    tried.all
+    let tried = neutral_within(store, row, row, None);
+    tried.is_ok()
 }

@@ -1,9 +1,11 @@
-// The tests of an interval (document 01: a window). Code above asks these, and does not take an interval apart.
+// The tests of an interval (document 01: a window), and its four numbers in a row. Code above asks these, and does not
+// take an interval apart.
 #![tactic(auto)]
 
-ghost use Rattle.std.specs.Prelude.{◌≡◌, min, max};
+ghost use Rattle.std.specs.Prelude.{◌≡◌, ◌+◌, ◌≤◌, length};
 ghost use Rattle.logic.specs.Interval.{contains as contains_of, covers as covers_of, has as has_of, same_interval};
 ghost use Rattle.logic.specs.Interval.{reversed as reversed_of, broken as broken_of, no_interval};
+ghost use Rattle.intervals.specs.Numbers.{interval_at, put_interval};
 
 use logic::Interval;
 
@@ -13,10 +15,13 @@ pub fn contains(i: Interval, j: Interval) -> bool
 {
     let from = j.from as u64;
     let end = j.to as u64 + 1;
-    if j.last == 0 {
+    let unbroken = j.last == 0;
+    if unbroken {
         return covers(i, from, end);
     }
-    covers(i, from, lesser(end, j.first as u64)) & covers(i, greater(from, j.last as u64 + 1), end)
+    let before = end.min(j.first as u64);
+    let after = from.max(j.last as u64 + 1);
+    covers(i, from, before) & covers(i, after, end)
 }
 
 // The interval has all minutes from p to before q. As a u64, to + 1 cannot overflow.
@@ -28,18 +33,6 @@ fn covers(i: Interval, p: u64, q: u64) -> bool
             & ((q <= i.to as u64 + 1)
                 & ((i.last == 0)
                     | ((i.last < i.first) | (((i.last as u64) < p) | (q <= i.first as u64))))))
-}
-
-fn lesser(a: u64, b: u64) -> u64
-    ensures { result ≡ min a b }
-{
-    if a < b { a } else { b }
-}
-
-fn greater(a: u64, b: u64) -> u64
-    ensures { result ≡ max a b }
-{
-    if a < b { b } else { a }
 }
 
 // The interval has the minute: it lies between the ends and not in the break.
@@ -81,5 +74,28 @@ pub fn none() -> Interval
 pub fn same(i: Interval, j: Interval) -> bool
     ensures { result ≡ same_interval i j }
 {
-    ((i.from == j.from) & (i.to == j.to)) & ((i.first == j.first) & (i.last == j.last))
+    i == j
+}
+
+// The interval whose four numbers stand from a place on: its ends, then those of its break.
+pub fn read(numbers: &[u32], at: usize) -> Interval
+    requires { (at + 4) ≤ length numbers.now }
+    ensures { result ≡ interval_at numbers.now at }
+{
+    Interval {
+        from: numbers[at],
+        to: numbers[at + 1],
+        first: numbers[at + 2],
+        last: numbers[at + 3],
+    }
+}
+
+pub fn put(numbers: &mut [u32], at: usize, v: Interval)
+    requires { (at + 4) ≤ length numbers.old }
+    ensures { numbers.new ≡ put_interval numbers.old at v }
+{
+    numbers[at] = v.from;
+    numbers[at + 1] = v.to;
+    numbers[at + 2] = v.first;
+    numbers[at + 3] = v.last;
 }

@@ -1,4 +1,5 @@
-// Sets of labels: a u64 whose bit k stands for label k. specs/ has the definitions.
+// Sets of labels: a u64 whose bit k stands for label k. specs/ has the definitions. A label is a number and no type of
+// its own: sheets write any number, and each is tested where it is used, so that a type would be made for one call.
 #![tactic(auto)]
 
 ghost use Rattle.std.specs.Prelude.{◌≡◌, ◌^◌, ◌<◌};

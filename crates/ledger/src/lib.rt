@@ -30,6 +30,35 @@ pub struct Credential {
     pub interval: logic::Interval,
 }
 
+// Why a request or a text is refused, by document 01's numbers: those of specs/Checks.antt, and of 50 to 52
+// snapshot/specs/Reopen.antt. An answer has the number itself, as the definition of a call makes it (`decide`, in
+// specs/Calls.antt); the names are those of the header for C.
+#[derive(Clone, Copy, PartialEq, Eq)]
+pub enum Refusal {
+    TooLong = 1,
+    BadForm = 2,
+    IntervalReversed = 3,
+    NoSuchFormula = 10,
+    FormulaTooLarge = 12,
+    FormulaThere = 13,
+    FormulasFull = 14,
+    NotPlain = 20,
+    NotBalanced = 21,
+    CredentialsFull = 22,
+    SerialsUsedUp = 23,
+    NotLive = 24,
+    NowOutside = 30,
+    HeldTwice = 31,
+    StepBreaksRule = 40,
+    NoLabelLeft = 41,
+    StepsEndApart = 42,
+    BreakNotInside = 43,
+    BadText = 50,
+    TextBreaksRule = 51,
+    BufferTooShort = 52,
+    HolderMisplaced = 53,
+}
+
 // The answer to a request; `told` in specs/Calls.antt gives document 01's values for each case.
 #[derive(Clone, Copy)]
 pub enum Answer {

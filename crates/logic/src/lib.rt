@@ -4,7 +4,7 @@
 
 // The minutes from `from` to `to`, both included (document 01: a window), without those from `first` to `last`
 // (document 02, ask 2: the break); 0, 0 is no break.
-#[derive(Clone, Copy)]
+#[derive(Clone, Copy, PartialEq, Eq)]
 pub struct Interval {
     pub from: u32,
     pub to: u32,

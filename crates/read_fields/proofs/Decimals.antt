@@ -1,19 +1,20 @@
 -- A decimal number, a digit at a time.
-use mathlib.Core.Path.{◌≡◌, refl, sym, ap, ◌∙◌}
+use mathlib.Core.Path.{◌≡◌, refl, ap, ◌∙◌}
 use mathlib.Core.List.{List, [], ◌∷◌}
 use mathlib.Core.Option.{Option, none, some}
-use mathlib.Core.Bool.{Bool, true, false, ◌&&◌, ◌||◌}
+use mathlib.Core.Bool.{false, ◌&&◌}
 use Prim.Native.Nat.{ℕ, ◌+◌, ◌*◌, ◌-◌, ◌≤◌, ◌<◌}
 use native.Mathlib.Omega.{arith}
-use lib.Dec.{eqb, leb, ltb}
-use lib.ListN.{length, drop, length-drop}
-use borrow.Author.Tests.{eq-eqb, ne_eqb, eqb-true, eqb-false, le-leb, lt-leb, ltb-true, ltb-false}
-use Rattle.logic.proofs.Tests.{and_decides, le_decides, no_truth}
+use lib.Dec.{eqb, leb}
+use lib.ListN.{length, get_or, drop}
+use borrow.Author.Tests.{eq-eqb, ne_eqb, eqb-true, eqb-false, le-leb, lt-leb}
+use Rattle.logic.proofs.Tests.{and_decides, le_decides}
 use Rattle.request.specs.Range.{Range}
 use Rattle.request.specs.Text.{and_then, reads, decimal_digit, decimal, number_in}
 use Rattle.request.proofs.Gives.{Gives, nothing, just, given, gives_then, gives_so, gives_if}
 use Rattle.read_fields.specs.Field.{ends, Stop, field_to, more, within, more_in}
 use Rattle.read_fields.proofs.Then.{by_test}
+use Rattle.read_fields.proofs.Bytes.{here}
 use Rattle.read_fields.proofs.FieldBytes.{field_end, field_stop, field_on, field_no, field_short, field_bad}
 use Rattle.read_fields.proofs.FieldBytes.{digit_inside}
 
@@ -25,24 +26,25 @@ digit_byte x =
     gives_if (leb 48 x && leb x 57)
     (λ e. let h = (and_decides (le_decides 48 x) (le_decides x 57)).0 e in just (omega (arith, h.0))) (λ e. nothing)
 
--- the code's test, whether a byte is no digit
-abbrev outside : ℕ → Bool
-outside x = ltb x 48 || ltb 57 x
-
-pub digit_range : (x : ℕ) → outside x ≡ false → (48 ≤ x) × (x ≤ 57)
-digit_range x e =
-    by_test (ltb x 48) (λ h. absurd (no_truth (sym (rw h at e))))
-    (λ h. (ltb-false x 48 h, ltb-false 57 x (rw h at e)))
-
-pub digit_of : (x : ℕ) → outside x ≡ false → decimal_digit x ≡ some (x - 48)
+pub digit_of : (x : ℕ) → 48 ≤ x → x ≤ 57 → decimal_digit x ≡ some (x - 48)
 unfolding decimal_digit
-digit_of x e = rw (le-leb 48 x (digit_range x e).0, le-leb x 57 (digit_range x e).1, decimal_digit)
+digit_of x h k = rw (le-leb 48 x h, le-leb x 57 k, decimal_digit)
 
-pub digit_none : (x : ℕ) → outside x ≡ true → decimal_digit x ≡ none
+pub digit_below : (x : ℕ) → x < 48 → decimal_digit x ≡ none
 unfolding decimal_digit
-digit_none x e =
-    by_test (ltb x 48) (λ h. rw (lt-leb 48 x (ltb-true x 48 h), decimal_digit))
-    (λ h. rw (le-leb 48 x (ltb-false x 48 h), lt-leb x 57 (ltb-true 57 x (rw h at e)), decimal_digit))
+digit_below x h = rw (lt-leb 48 x h, decimal_digit)
+
+pub digit_above : (x : ℕ) → 57 < x → decimal_digit x ≡ none
+unfolding decimal_digit
+digit_above x h = rw (le-leb 48 x (omega arith), lt-leb x 57 h, decimal_digit)
+
+pub ruleset digit_bytes = (digit_of, digit_below, digit_above)
+
+pub digit_small : (x d : ℕ) → decimal_digit x ≡ some d → d ≤ 9
+unfolding decimal_digit
+digit_small x d e =
+    given {P = λ d. d ≤ 9} (gives_if (leb 48 x && leb x 57)
+    (λ e. let h = (and_decides (le_decides 48 x) (le_decides x 57)).0 e in just (omega (arith, h))) (λ e. nothing)) e
 
 digit_on : (x d : ℕ) → decimal_digit x ≡ some d → (v : ℕ) (t : List ℕ)
     → reads decimal_digit 10 v (x ∷ t) ≡ reads decimal_digit 10 (v * 10 + d) t
@@ -131,9 +133,9 @@ unfolding decimal_digit
 digit_is_inside = digit_inside decimal_digit refl refl
 
 module _ (r : Range) (stop : ℕ) where
-  pub number_short : (s : List ℕ) (i : ℕ) → length s ≤ i + 1 → field_to stop (number_in r) (drop i s) ≡ none
+  pub number_short : (s : List ℕ) → length s < 2 → field_to stop (number_in r) s ≡ none
   unfolding number_in decimal and_then
-  number_short s i h = field_short stop (drop i s) (λ t l. go t (omega (arith, l, length-drop i s)))
+  number_short s h = field_short stop s (λ t l. go t (omega (arith, l)))
     where
       go : (t : List ℕ) → length t < 1 → number_in r t ≡ none
       go [] l = refl
@@ -177,3 +179,10 @@ module _ (r : Range) (stop : ℕ) where
     pub step_on : (x d : ℕ) (xs : List ℕ) → decimal_digit x ≡ some d → 1 ≤ v
         → field_to stop (more_in r v) (x ∷ xs) ≡ field_to stop (more_in r (v * 10 + d)) xs
     step_on x d xs e h = field_on stop (more_in r v) x xs (digit_is_inside x d e) (more_on r x d v e h)
+
+-- where a byte follows the first, which is a digit
+module _ (r : Range) (stop : ℕ) where
+  pub second : (s : List ℕ) (d : ℕ) → 2 ≤ length s → decimal_digit (get_or s 0 0) ≡ some d
+      → field_to stop (number_in r) s ≡ field_to stop (more_in r d) (get_or s 1 0 ∷ drop 2 s)
+  second s d h e =
+      rw (here s 0 (omega arith)) (start_on r stop _ d _ e ∙ rw (here s 1 (omega arith)))

@@ -1,65 +1,65 @@
 -- A set of labels, a digit at a time.
-use mathlib.Core.Path.{◌≡◌, refl, sym, ◌∙◌}
-use mathlib.Core.Bool.{true, false, ◌&&◌, ◌||◌}
+use mathlib.Core.Path.{◌≡◌, refl, ◌∙◌}
 use mathlib.Core.List.{List, [], ◌∷◌}
 use mathlib.Core.Option.{none, some}
 use Prim.Native.Nat.{ℕ, ◌+◌, ◌*◌, ◌-◌, ◌^◌, ◌≤◌, ◌<◌}
 use native.Mathlib.Omega.{arith}
 use native.Mathlib.Nat.{pow-suc, pow-le-pow_right}
 use native.Mathlib.Numerals.{add-one}
-use lib.Dec.{eqb, leb, ltb}
-use lib.ListN.{length, drop, length-drop}
-use borrow.Author.Tests.{ne_eqb, eqb-true, eqb-false, le-leb, lt-leb, ltb-true, ltb-false}
-use Rattle.logic.proofs.Tests.{no_truth}
+use lib.Dec.{eqb}
+use lib.ListN.{length}
+use borrow.Author.Tests.{ne_eqb, eqb-true, eqb-false, le-leb, lt-leb}
 use Rattle.request.specs.Text.{and_then, reads, hex_first, hex_last, hex_shift, hex_digit, label_set_in}
 use Rattle.read_fields.specs.Field.{DigitRead, Stop, field_to, set_in}
 use Rattle.read_fields.proofs.Then.{by_test}
-use Rattle.read_fields.proofs.Decimals.{digit_range}
 use Rattle.read_fields.proofs.FieldBytes.{field_stop, field_on, field_no, field_same, field_short, digit_inside}
 
 -- Digits
 
-pub hex_number : (v x : ℕ) → (ltb x 48 || ltb 57 x) ≡ false → DigitRead v x (v * 16 + (x - 48))
+pub hex_number : (v x : ℕ) → 48 ≤ x → x ≤ 57 → DigitRead v x (v * 16 + (x - 48))
 unfolding hex_digit
-hex_number v x e =
-    let r = digit_range x e in
-    record {
-      digit = x - 48;
-      is = rw (le-leb 48 x r.0, le-leb x 57 r.1, hex_digit);
-      below = omega (arith, r);
-      value = refl;
-    }
+hex_number v x h k = record {
+  digit = x - 48;
+  is = rw (le-leb 48 x h, le-leb x 57 k, hex_digit);
+  below = omega arith;
+  value = refl;
+}
 
-pub letter_range : (x : ℕ) → (ltb x hex_first || ltb hex_last x) ≡ false → (hex_first ≤ x) × (x ≤ hex_last)
-letter_range x e =
-    by_test (ltb x hex_first) (λ h. absurd (no_truth (sym (rw h at e))))
-    (λ h. (ltb-false x hex_first h, ltb-false hex_last x (rw h at e)))
-
-pub hex_letter : (v x : ℕ) → (ltb x hex_first || ltb hex_last x) ≡ false → DigitRead v x (v * 16 + (x - hex_shift))
+pub hex_letter : (v x : ℕ) → hex_first ≤ x → x ≤ hex_last → DigitRead v x (v * 16 + (x - hex_shift))
 unfolding hex_digit
-hex_letter v x e =
-    let r = letter_range x e in
-    record {
-      digit = x - hex_shift;
-      is = rw (
-        le-leb 48 x (omega (arith, r)),
-        lt-leb x 57 (omega (arith, r)),
-        le-leb hex_first x r.0,
-        le-leb x hex_last r.1,
-        hex_digit,
-      );
-      below = omega (arith, r);
-      value = refl;
-    }
+hex_letter v x h k = record {
+  digit = x - hex_shift;
+  is = rw (
+    le-leb 48 x (omega arith),
+    lt-leb x 57 (omega arith),
+    le-leb hex_first x h,
+    le-leb x hex_last k,
+    hex_digit,
+  );
+  below = omega arith;
+  value = refl;
+}
 
-pub hex_none : (x : ℕ) → (ltb x 48 || ltb 57 x) ≡ true → (ltb x hex_first || ltb hex_last x) ≡ true → hex_digit x ≡ none
+pub hex_below : (x : ℕ) → x < 48 → hex_digit x ≡ none
 unfolding hex_digit
-hex_none x e f = rw (range 48 57 x e, range hex_first hex_last x f, hex_digit)
-  where
-    range : (a b x : ℕ) → (ltb x a || ltb b x) ≡ true → (leb a x && leb x b) ≡ false
-    range a b x e =
-        by_test (ltb x a) (λ h. rw (lt-leb a x (ltb-true x a h)))
-        (λ h. rw (le-leb a x (ltb-false x a h), lt-leb x b (ltb-true b x (rw h at e))))
+hex_below x h = rw (lt-leb 48 x h, lt-leb hex_first x (omega arith), hex_digit)
+
+pub hex_between : (x : ℕ) → 57 < x → x < hex_first → hex_digit x ≡ none
+unfolding hex_digit
+hex_between x h k = rw (le-leb 48 x (omega arith), lt-leb x 57 h, lt-leb hex_first x k, hex_digit)
+
+pub hex_above : (x : ℕ) → hex_last < x → hex_digit x ≡ none
+unfolding hex_digit
+hex_above x h =
+    rw (
+      le-leb 48 x (omega arith),
+      lt-leb x 57 (omega arith),
+      le-leb hex_first x (omega arith),
+      lt-leb x hex_last h,
+      hex_digit,
+    )
+
+pub ruleset other_bytes = (hex_below, hex_between, hex_above)
 
 -- Texts
 
@@ -90,11 +90,10 @@ set_long v x t = rw (ne_eqb (16 + length (x ∷ t)) 16 (λ e. omega arith))
 -- A field, a byte at a time
 
 module _ (stop : ℕ) where
-  pub labels_short : (s : List ℕ) (i : ℕ) → length s < i + 17 → field_to stop label_set_in (drop i s) ≡ none
+  pub labels_short : (s : List ℕ) → length s < 17 → field_to stop label_set_in s ≡ none
   unfolding label_set_in
-  labels_short s i h =
-      field_short stop (drop i s)
-      (λ t l. rw (label_set_in, ne_eqb (length t) 16 (λ e. omega (arith, l, e, length-drop i s))))
+  labels_short s h =
+      field_short stop s (λ t l. rw (label_set_in, ne_eqb (length t) 16 (λ e. omega (arith, l, e))))
 
   pub set_start : (b : List ℕ) → field_to stop label_set_in b ≡ field_to stop (set_in 0 0) b
   set_start b = field_same stop set_begins b
@@ -121,8 +120,8 @@ module _ (stop : ℕ) where
 
 -- The value
 
-pub hex_below : (k v d : ℕ) → v < 16 ^ k → d < 16 → v * 16 + d < 16 ^ (k + 1)
-hex_below k v d h l = rw (add-one, pow-suc) (omega arith)
+pub hex_smaller : (k v d : ℕ) → v < 16 ^ k → d < 16 → v * 16 + d < 16 ^ (k + 1)
+hex_smaller k v d h l = rw (add-one, pow-suc) (omega arith)
 
 pub hex_room : (k v : ℕ) → k < 16 → v < 16 ^ k → v < 1152921504606846976
 hex_room k v i h =

@@ -1,7 +1,8 @@
 -- A text that the bytes begin with, a byte at a time.
-use mathlib.Core.Path.{◌≡◌, refl}
+use mathlib.Core.Path.{◌≡◌, refl, sym, ap, ◌∙◌}
 use mathlib.Core.List.{List, [], ◌∷◌}
-use mathlib.Core.Option.{none, some}
+use mathlib.Core.Option.{Option, none, some}
+use mathlib.Core.Bool.{true, false}
 use Prim.Native.Nat.{ℕ, ◌<◌}
 use native.Mathlib.Omega.{arith}
 use lib.Dec.{eqb}
@@ -13,10 +14,6 @@ use Rattle.read_fields.proofs.Then.{by_test}
 pub strip_done : (b : List ℕ) → strip [] b ≡ some b
 unfolding strip
 strip_done b = refl
-
-pub strip_empty : (w b : List ℕ) → length w ≡ 0 → strip w b ≡ some b
-strip_empty [] b e = strip_done b
-strip_empty (x ∷ w) b e = absurd (omega arith)
 
 pub strip_short : (w b : List ℕ) → length b < length w → strip w b ≡ none
 unfolding strip
@@ -32,3 +29,7 @@ strip_on x y w b e = rw (eq-eqb y x e, strip)
 pub strip_no : (x y : ℕ) (w b : List ℕ) → (y ≡ x → ⊥) → strip (x ∷ w) (y ∷ b) ≡ none
 unfolding strip
 strip_no x y w b n = rw (ne_eqb y x n, strip)
+
+-- the same bytes, after a text that they do not begin with
+pub strip_still : (w : List ℕ) {b c : List ℕ} {o : Option (List ℕ)} → c ≡ b → strip w c ≡ o → strip w b ≡ o
+strip_still w e f = sym (ap (strip w) e) ∙ f

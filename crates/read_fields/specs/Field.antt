@@ -1,23 +1,11 @@
--- Fields of bytes: what the code's contracts say is read from the bytes from a position on. What a text reads as is
--- the definition's own (crate request, Text.antt).
+-- Fields of bytes: what the code's contracts say is read from the bytes that a reader still has. What a text reads as
+-- is the definition's own (crate request, Text.antt).
 use Rattle.std.specs.Prelude.{◌≡◌, List, [], ◌∷◌, Bool, true, false, ◌||◌, ◌&&◌, ℕ, ◌+◌, ◌*◌, ◌≤◌, ◌<◌, eqb, leb}
-use Rattle.std.specs.Prelude.{length, drop}
+use Rattle.std.specs.Prelude.{length, Option as Read, Some, None}
 use Rattle.std.proofs.Math.Option.{Option, none, some}
 use Rattle.request.specs.Range.{Range}
 use Rattle.request.specs.Text.{and_then, reads, decimal_digit, hex_digit}
 use Rattle.logic.specs.Choice.{pick}
-use Rattle.read_fields.specs.declared.Decimal.{Decimal}
-use Rattle.read_fields.specs.declared.Decimal.TheVariants.{Number, Broken as NoNumber}
-use Rattle.read_fields.specs.declared.Labels.{Labels}
-use Rattle.read_fields.specs.declared.Labels.TheVariants.{Set, Broken as NoSet}
-use Rattle.read_fields.specs.declared.Digits.{Digits}
-use Rattle.read_fields.specs.declared.Digits.TheVariants.{Value, Broken as NoDigits}
-use Rattle.read_fields.specs.declared.Prefix.{Prefix}
-use Rattle.read_fields.specs.declared.Prefix.TheVariants.{Past, Absent}
-
--- the longest text that is read by positions: they fit 32 bits
-abbrev pub max_reach : ℕ
-max_reach = 1000000
 
 -- the bytes that end a field: a comma (44) and a line's end (10)
 abbrev pub ends : ℕ → Bool
@@ -42,19 +30,20 @@ strip [] b = some b
 strip (x ∷ w) [] = none
 strip (x ∷ w) (y ∷ b) = pick (eqb y x) (strip w b) none
 
--- What an answer of the code says of the bytes s: the value, and the bytes from the position on
+-- What an answer of the code says of the bytes, where it leaves those of c: the value, and the bytes after it
+abbrev pub read_of : {A : Type 0} → Read A → List ℕ → Option (A × List ℕ)
+read_of (Some a) c = some (a, c)
+read_of None c = none
 
-abbrev pub decimal_of : List ℕ → Decimal → Option (ℕ × List ℕ)
-decimal_of s (Number n i) = some (n, drop i s)
-decimal_of s NoNumber = none
+-- whether the bytes b begin with the text w; c is what follows it, or else all of b
+abbrev pub Past : List ℕ → List ℕ → List ℕ → Bool → Type 0
+Past w b c true = strip w b ≡ some c
+Past w b c false = (strip w b ≡ none) × (c ≡ b)
 
-abbrev pub labels_of : List ℕ → Labels → Option (ℕ × List ℕ)
-labels_of s (Set d i) = some (d, drop i s)
-labels_of s NoSet = none
-
-abbrev pub past_of : List ℕ → Prefix → Option (List ℕ)
-past_of s (Past i) = some (drop i s)
-past_of s Absent = none
+-- and where it is the value alone
+abbrev pub answer_of : {A : Type 0} → Read A → Option A
+answer_of (Some a) = some a
+answer_of None = none
 
 -- a number of which the digits before t have the value v: after a zero none may follow
 unfoldable pub more : ℕ → List ℕ → Option ℕ
@@ -79,13 +68,12 @@ pub record DigitRead (v x w : ℕ) : Type 0 where
   pub below : digit < 16
   pub value : w ≡ v * 16 + digit
 
-abbrev pub DigitsAre : ℕ → ℕ → Digits → Type 0
-DigitsAre v x (Value w) = DigitRead v x w
-DigitsAre v x NoDigits = hex_digit x ≡ none
+abbrev pub DigitsAre : ℕ → ℕ → Read ℕ → Type 0
+DigitsAre v x (Some w) = DigitRead v x w
+DigitsAre v x None = hex_digit x ≡ none
 
--- what the reader of numbers asks: a length within reach, a byte that ends the field, a bound of some digits
-pub record NumberAsked (s : List ℕ) (last stop : ℕ) : Type 0 where
-  pub short : length s ≤ max_reach
+-- what the reader of numbers asks: a byte that ends the field, a bound of some digits
+pub record NumberAsked (last stop : ℕ) : Type 0 where
   pub stops : Stop stop
   pub least : 9 ≤ last
   pub most : last ≤ 99999999

@@ -1,11 +1,11 @@
-// Fields of bytes, read by positions: decimal numbers, sets of labels, and texts that are looked for.
+// Fields of bytes, read one after another: decimal numbers, sets of labels, and texts that are looked for.
 #![tactic(auto)]
 
-ghost use Rattle.std.specs.Prelude.{◌≡◌, ◌≤◌, ◌<◌, length, drop};
+ghost use Rattle.std.specs.Prelude.{◌≡◌, ◌≤◌, ◌<◌, drop};
 ghost use Rattle.request.specs.Range.{◌‥◌};
-ghost use Rattle.request.specs.Text.{number_in, label_set_in};
-ghost use Rattle.read_fields.specs.Field.{max_reach, Stop, NumberAsked, field_to, strip, more_in, decimal_of};
-ghost use Rattle.read_fields.specs.Field.{DigitsAre, labels_of, past_of};
+ghost use Rattle.request.specs.Text.{decimal_digit, number_in, label_set_in};
+ghost use Rattle.read_fields.specs.Field.{Stop, NumberAsked, field_to, more_in, answer_of};
+ghost use Rattle.read_fields.specs.Field.{DigitsAre, Past, read_of};
 
 // The letters of hexadecimal digits, and how far above their value they stand.
 const HEX_FIRST: u8 = b'a';
@@ -14,148 +14,124 @@ const HEX_LAST: u8 = b'f';
 
 const HEX_SHIFT: u8 = HEX_FIRST - 10;
 
-// A number of a range and the position after the byte that ends it.
+// The bytes that are still to be read. Where a reader's answer is none, nothing more is read, so it does not matter
+// which bytes are left then; `past` alone leaves all of them.
 #[derive(Clone, Copy)]
-pub enum Decimal {
-    Number(u32, u32),
-    Broken,
+pub struct Reader<'a> {
+    pub rest: &'a [u8],
 }
 
-// A set of labels (document 01: a share) and the position after the byte that ends it.
-#[derive(Clone, Copy)]
-pub enum Labels {
-    Set(u64, u32),
-    Broken,
-}
-
-// The value of the digits read so far.
-#[derive(Clone, Copy)]
-enum Digits {
-    Value(u64),
-    Broken,
-}
-
-// The position after a text that stands at a position.
-#[derive(Clone, Copy)]
-pub enum Prefix {
-    Past(u32),
-    Absent,
-}
-
-// The digits from `from` on, after those of the value `start`, which is not zero.
-fn more_digits(s: &[u8], from: usize, start: u32, first: u32, last: u32, stop: u8) -> Decimal
-    requires { NumberAsked s.now last stop × (1 ≤ start) × (start ≤ last) }
-    ensures { decimal_of s.now result
-        ≡ field_to stop (more_in (first ‥ last) start) (drop from s.now) }
+// The value of a decimal digit.
+#[tactic(auto, using(crate::proofs::Decimals::digit_bytes))]
+fn digit(b: u8) -> Option<u32>
+    ensures { answer_of result ≡ decimal_digit b }
 {
-    let mut i = from;
-    let mut v = start;
-    while i < s.len() {
-        let b = s[i];
-        i += 1;
-        if (b < 48) | (57 < b) {
-            if b != stop {
-                return Decimal::Broken;
-            }
-            if v < first {
-                return Decimal::Broken;
-            }
-            return Decimal::Number(v, i as u32);
-        }
-        v = v * 10 + (b - 48) as u32;
-        if last < v {
-            return Decimal::Broken;
-        }
+    match b {
+        b'0'..=b'9' => Some(u32::from(b - b'0')),
+        _ => None,
     }
-    Decimal::Broken
-}
-
-// A decimal number from `first` to `last`, without leading zeros, which the byte `stop` ends. A number of one digit
-// is read here, and a zero can only be that.
-pub fn number(s: &[u8], at: u32, first: u32, last: u32, stop: u8) -> Decimal
-    requires { NumberAsked s.now last stop }
-    ensures { decimal_of s.now result
-        ≡ field_to stop (number_in (first ‥ last)) (drop at s.now) }
-{
-    let i = at as usize;
-    if s.len() <= i + 1 {
-        return Decimal::Broken;
-    }
-    let b = s[i];
-    if (b < 48) | (57 < b) {
-        return Decimal::Broken;
-    }
-    let d = (b - 48) as u32;
-    if s[i + 1] == stop {
-        let below = d < first;
-        if below {
-            return Decimal::Broken;
-        }
-        return Decimal::Number(d, at + 2);
-    }
-    if d == 0 {
-        return Decimal::Broken;
-    }
-    more_digits(s, i + 1, d, first, last, stop)
 }
 
 // The value of hexadecimal digits, lower case, once the byte b is read after those of the value v.
-fn with_digit(v: u64, b: u8) -> Digits
+#[tactic(auto, using(crate::proofs::LabelSets::other_bytes))]
+fn with_digit(v: u64, b: u8) -> Option<u64>
     requires { v < 1152921504606846976 }
     ensures { DigitsAre v b result }
 {
-    if (b < 48) | (57 < b) {
-        if (b < HEX_FIRST) | (HEX_LAST < b) {
-            return Digits::Broken;
-        }
-        return Digits::Value(v * 16 + (b - HEX_SHIFT) as u64);
+    match b {
+        b'0'..=b'9' => Some(v * 16 + u64::from(b - b'0')),
+        HEX_FIRST..=HEX_LAST => Some(v * 16 + u64::from(b - HEX_SHIFT)),
+        _ => None,
     }
-    Digits::Value(v * 16 + (b - 48) as u64)
 }
 
-// A set of labels (document 01: a share): 16 hexadecimal digits, which the byte `stop` ends.
-pub fn label_set(s: &[u8], at: u32, stop: u8) -> Labels
-    requires { (length s.now ≤ max_reach) × Stop stop }
-    ensures { labels_of s.now result ≡ field_to stop label_set_in (drop at s.now) }
-{
-    let from = at as usize;
-    if s.len() < from + 17 {
-        return Labels::Broken;
-    }
-    let mut v: u64 = 0;
-    let mut k: usize = 0;
-    while k < 16 {
-        let read = with_digit(v, s[from + k]);
-        let Digits::Value(w) = read else {
-            return Labels::Broken;
+impl Reader<'_> {
+    // A decimal number from `first` to `last`, without leading zeros, which the byte `stop` ends. A number of one digit
+    // is read here, and a zero can only be that.
+    pub fn number(&mut self, first: u32, last: u32, stop: u8) -> Option<u32>
+        requires { NumberAsked last stop }
+        ensures { read_of result self.new.rest.now
+            ≡ field_to stop (number_in (first ‥ last)) self.old.rest.now }
+    {
+        let [x, y, after @ ..] = self.rest else {
+            return None;
         };
-        v = w;
-        k += 1;
+        let d = digit(*x)?;
+        if *y == stop {
+            let below = d < first;
+            if below {
+                return None;
+            }
+            self.rest = after;
+            return Some(d);
+        }
+        let zero = d == 0;
+        if zero {
+            return None;
+        }
+        self.more_digits(d, first, last, stop)
     }
-    if s[from + 16] != stop {
-        return Labels::Broken;
-    }
-    Labels::Set(v, at + 17)
-}
 
-// The position after the text w, if that stands at `at`. The empty text stands at every position.
-pub fn past(s: &[u8], at: u32, w: &[u8]) -> Prefix
-    requires { length s.now ≤ max_reach }
-    ensures { past_of s.now result ≡ strip w.now (drop at s.now) }
-{
-    let i = at as usize;
-    if s.len() < i + w.len() {
-        if w.len() == 0 {
-            return Prefix::Past(at);
+    // The digits after the first, of the value `start`, which is not zero.
+    fn more_digits(&mut self, start: u32, first: u32, last: u32, stop: u8) -> Option<u32>
+        requires { NumberAsked last stop × (1 ≤ start) × (start ≤ last) }
+        ensures { read_of result self.new.rest.now
+            ≡ field_to stop (more_in (first ‥ last) start) (drop 1 self.old.rest.now) }
+    {
+        let s = self.rest;
+        let mut v = start;
+        for i in 1..s.len() {
+            let Some(d) = digit(s[i]) else {
+                if s[i] != stop || v < first {
+                    return None;
+                }
+                self.rest = &s[i + 1..];
+                return Some(v);
+            };
+            v = v * 10 + d;
+            if last < v {
+                return None;
+            }
         }
-        return Prefix::Absent;
+        None
     }
-    let mut k = 0;
-    while k < w.len() {
-        if s[i + k] != w[k] {
-            return Prefix::Absent;
+
+    // A set of labels (document 01: a share): 16 hexadecimal digits, which the byte `stop` ends.
+    pub fn label_set(&mut self, stop: u8) -> Option<u64>
+        requires { Stop stop }
+        ensures { read_of result self.new.rest.now ≡ field_to stop label_set_in self.old.rest.now }
+    {
+        let s = self.rest;
+        if s.len() < 17 {
+            return None;
         }
-        k += 1;
+        let mut v: u64 = 0;
+        for k in 0..16 {
+            v = with_digit(v, s[k])?;
+        }
+        if s[16] != stop {
+            return None;
+        }
+        self.rest = &s[17..];
+        Some(v)
     }
-    Prefix::Past((i + w.len()) as u32)
+
+    // Whether the text w is next, which is then passed.
+    pub fn past(&mut self, w: &[u8]) -> bool
+        ensures { Past w.now self.old.rest.now self.new.rest.now result }
+    {
+        let s = self.rest;
+        if s.len() < w.len() {
+            return false;
+        }
+        // a slice's `==` would be a call for each of these few bytes
+        for k in 0..w.len() {
+            let other = s[k] != w[k];
+            if other {
+                return false;
+            }
+        }
+        self.rest = &s[w.len()..];
+        true
+    }
 }

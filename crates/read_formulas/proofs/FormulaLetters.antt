@@ -3,10 +3,10 @@ use mathlib.Core.Path.{◌≡◌, refl, sym, ap, ◌∙◌}
 use mathlib.Core.List.{List, [], ◌∷◌}
 use mathlib.Core.Option.{Option, none, some}
 use mathlib.Core.Logic.{inl, inr}
-use Prim.Native.Nat.{ℕ, ◌+◌, ◌≤◌, ◌<◌}
+use Prim.Native.Nat.{ℕ, ◌≤◌, ◌<◌}
 use Prim.Native.Char.{code}
 use native.Mathlib.Omega.{arith}
-use lib.ListN.{length, get_or, drop, length-drop}
+use lib.ListN.{length, get_or}
 use Rattle.request.specs.Range.{predicate, session, holder, formula_number, ◌‥◌}
 use Rattle.request.specs.Text.{bytes, same_bytes, and_then, number_in}
 use Rattle.request.specs.Reader.{Reader, return, ◌>>=◌, next, named, choose}
@@ -15,10 +15,10 @@ use Rattle.request.specs.Read.{number, interval, part, parts, formula_line, form
 use Rattle.steps.specs.declared.Row.{Row}
 use Rattle.ledger.specs.Table.{lettered, row_of}
 use Rattle.read_fields.specs.Field.{field_to}
-use Rattle.read_formulas.specs.Line.{read_line, row, one_field, two_fields, at_fields, superset_fields, named_fields}
+use Rattle.read_formulas.specs.Line.{read_line, one_field, two_fields, at_fields, superset_fields, named_fields}
 use Rattle.read_formulas.specs.Line.{rowed}
 use Rattle.read_fields.proofs.Then.{then_then, then_same, then_pair}
-use Rattle.read_fields.proofs.Bytes.{here2}
+use Rattle.read_fields.proofs.Bytes.{beyond, here2}
 use Rattle.read_formulas.proofs.Cut.{whole_none}
 use Rattle.read_formulas.proofs.Shapes.{Shape, number_shape, interval_shape, both_last}
 use Rattle.read_formulas.proofs.WordTables.{inside, onward, onward_comma, onward_bare, onward_none, word_line}
@@ -91,46 +91,47 @@ letters =
     code "o" ∷ code "q" ∷ code "n" ∷ code "w" ∷ code "u" ∷ code "t" ∷ code "p" ∷ code "l" ∷ code "s" ∷ code "h" ∷
     code "g" ∷ code "b" ∷ code "a" ∷ []
 
-module _ (s : List ℕ) (i : ℕ) where
-  pub letter_short : length s ≤ i + 1 → read_line formula_line (drop i s) ≡ none
+module _ (s : List ℕ) where
+  pub letter_short : length s < 2 → read_line formula_line s ≡ none
   unfolding formula_line_with bytes inside
-  letter_short h = word_short 1 _ refl refl (drop i s) (omega (arith, length-drop i s))
+  letter_short h = word_short 1 _ refl refl s (omega arith)
 
-  letter_line : i + 1 < length s → read_line formula_line (drop i s)
-      ≡ onward (get_or s (i + 1) 0) (λ ts. formula_line ((get_or s i 0 ∷ []) ∷ ts)) (drop (i + 2) s)
+  letter_line : 2 ≤ length s → read_line formula_line s
+      ≡ onward (get_or s 1 0) (λ ts. formula_line ((get_or s 0 0 ∷ []) ∷ ts)) (beyond s 2)
   unfolding formula_line_with bytes inside
-  letter_line h = rw (here2 s i h)
-      (word_line 1 _ refl refl (get_or s i 0 ∷ []) (get_or s (i + 1) 0) (drop (i + 2) s) refl)
+  letter_line h =
+      ap (read_line formula_line) (here2 s h)
+      ∙ word_line 1 _ refl refl (get_or s 0 0 ∷ []) (get_or s 1 0) (beyond s 2) refl
 
-  module _ (h : i + 1 < length s) where
+  module _ (h : 2 ≤ length s) where
     -- a letter and a comma
-    pub letter_fields : (x : ℕ) → get_or s i 0 ≡ x → get_or s (i + 1) 0 ≡ 44
-        → read_line formula_line (drop i s) ≡ read_line (λ ts. formula_line ((x ∷ []) ∷ ts)) (drop (i + 2) s)
+    pub letter_fields : (x : ℕ) → get_or s 0 0 ≡ x → get_or s 1 0 ≡ 44
+        → read_line formula_line s ≡ read_line (λ ts. formula_line ((x ∷ []) ∷ ts)) (beyond s 2)
     letter_fields x q k =
-        letter_line h ∙ onward_comma _ (drop (i + 2) s) k
-        ∙ ap (λ y. read_line (λ ts. formula_line ((y ∷ []) ∷ ts)) (drop (i + 2) s)) q
+        letter_line h ∙ onward_comma _ (beyond s 2) k
+        ∙ ap (λ y. read_line (λ ts. formula_line ((y ∷ []) ∷ ts)) (beyond s 2)) q
 
     -- `o`, which has no field
-    pub letter_one : get_or s i 0 ≡ code "o" → get_or s (i + 1) 0 ≡ 10
-        → read_line formula_line (drop i s) ≡ some (Line.one, drop (i + 2) s)
+    pub letter_one : get_or s 0 0 ≡ code "o" → get_or s 1 0 ≡ 10
+        → read_line formula_line s ≡ some (Line.one, beyond s 2)
     unfolding formula_line_with choose named same_bytes bytes
-    letter_one q k = letter_line h ∙ rw q (onward_end Line.one (drop (i + 2) s) k)
+    letter_one q k = letter_line h ∙ rw q (onward_end Line.one (beyond s 2) k)
 
-    pub letter_one_bare : get_or s i 0 ≡ code "o" → (get_or s (i + 1) 0 ≡ 10 → ⊥) → read_line formula_line (drop i s)
+    pub letter_one_bare : get_or s 0 0 ≡ code "o" → (get_or s 1 0 ≡ 10 → ⊥) → read_line formula_line s
         ≡ none
     unfolding formula_line_with choose named same_bytes bytes
-    letter_one_bare q k = letter_line h ∙ rw q (onward_on Line.one (drop (i + 2) s) k)
+    letter_one_bare q k = letter_line h ∙ rw q (onward_on Line.one (beyond s 2) k)
 
     -- a letter of a line with fields, and no comma
-    pub letter_bare : (get_or s i 0 ≡ code "o" → ⊥) → (get_or s (i + 1) 0 ≡ 44 → ⊥) → read_line formula_line (drop i s)
+    pub letter_bare : (get_or s 0 0 ≡ code "o" → ⊥) → (get_or s 1 0 ≡ 44 → ⊥) → read_line formula_line s
         ≡ none
     unfolding formula_line_with bytes number interval part parts next ◌>>=◌ and_then
     letter_bare n k =
-        letter_line h ∙ onward_bare _ (drop (i + 2) s) k
-        (no_field (get_or s i 0 ∷ []) _ (
+        letter_line h ∙ onward_bare _ (beyond s 2) k
+        (no_field (get_or s 0 0 ∷ []) _ (
           inr refl,
           (
-            inl (one_other (get_or s i 0) (code "o") n),
+            inl (one_other (get_or s 0 0) (code "o") n),
             (
               inr refl,
               (
@@ -151,25 +152,25 @@ module _ (s : List ℕ) (i : ℕ) where
         ))
 
     -- a letter x, a comma and two numbers, by what the code reads of them
-    pub numbers_line : (x m n : ℕ) (make : ℕ → ℕ → Line) {o : Option (Row × List ℕ)} → get_or s i 0 ≡ x
-        → get_or s (i + 1) 0 ≡ 44
+    pub numbers_line : (x m n : ℕ) (make : ℕ → ℕ → Line) {o : Option (Row × List ℕ)} {y : ℕ} → y ≡ get_or s 0 0
+        → y ≡ x → get_or s 1 0 ≡ 44
         → ((b : List ℕ) → read_line (λ ts. formula_line ((x ∷ []) ∷ ts)) b
         ≡ read_line (number (0 ‥ m) >>= (λ j. number (0 ‥ n) >>= (λ k. return (make j k)))) b)
         → ((j k : ℕ) → row_of (make j k) ≡ lettered x j k)
-        → o ≡ two_fields (get_or s i 0) m n (drop (i + 2) s) → o ≡ rowed (read_line formula_line (drop i s))
-    numbers_line x m n make q comma reads rows e =
-        e ∙ sym (ap rowed (letter_fields x q comma ∙ reads _)
+        → o ≡ two_fields y m n (beyond s 2) → o ≡ rowed (read_line formula_line s)
+    numbers_line x m n make w q comma reads rows e =
+        e ∙ sym (ap rowed (letter_fields x (sym w ∙ q) comma ∙ reads _)
         ∙ numbers_row _ m n make (λ j k. rows j k ∙ ap (λ l. lettered l j k) (sym q)) _)
 
     -- no letter of a formula line
-    letter_none : Others (get_or s i 0) letters → (ts : List (List ℕ)) → formula_line ((get_or s i 0 ∷ []) ∷ ts) ≡ none
+    letter_none : Others (get_or s 0 0) letters → (ts : List (List ℕ)) → formula_line ((get_or s 0 0 ∷ []) ∷ ts) ≡ none
     unfolding formula_line_with bytes
     letter_none n ts =
-        choose_lookup _ (get_or s i 0 ∷ []) ts
-        ∙ ap (λ (r : Reader Line). r ts) (no_key (get_or s i 0 ∷ []) letters n _ _ refl)
+        choose_lookup _ (get_or s 0 0 ∷ []) ts
+        ∙ ap (λ (r : Reader Line). r ts) (no_key (get_or s 0 0 ∷ []) letters n _ _ refl)
 
-    pub letter_other : Others (get_or s i 0) letters
-        → read_line formula_line (drop i s) ≡ none
+    pub letter_other : Others (get_or s 0 0) letters
+        → read_line formula_line s ≡ none
     unfolding formula_line_with bytes
     letter_other n =
         letter_line h ∙ onward_none _ (λ ts. whole_none _ ts (letter_none n ts)) _ _

@@ -13,7 +13,7 @@ use Rattle.request.specs.Text.{and_then, number_in}
 use Rattle.request.specs.Reader.{Reader, return, ◌>>=◌, next, whole, ended}
 use Rattle.request.specs.Read.{number, interval}
 use Rattle.logic.specs.Choice.{pick}
-use Rattle.read_fields.specs.Field.{ends, Stop, cut, field_to}
+use Rattle.read_fields.specs.Field.{Stop, cut, field_to}
 use Rattle.read_formulas.specs.Line.{read_line, interval_to}
 use Rattle.read_fields.proofs.Then.{then_then, then_same, then_given, then_pair, by_test}
 use Rattle.read_formulas.proofs.Cut.{at_stop, line_cut, line_same, line_return, whole_none, stop_none, cut_stop}

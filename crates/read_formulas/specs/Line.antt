@@ -1,6 +1,6 @@
--- Lines of bytes: what the code's contracts say is read from the line at a position. The readers of a line's fields are
--- those of the definition of a request (crate request, Read.antt).
-use Rattle.std.specs.Prelude.{List, [], ◌∷◌, ℕ, ◌≤◌, eqb, length, drop}
+-- Lines of bytes: what the code's contracts say is read from the first line of the bytes that a reader still has. The
+-- readers of a line's fields are those of the definition of a request (crate request, Read.antt).
+use Rattle.std.specs.Prelude.{List, [], ◌∷◌, ℕ, ◌≤◌, eqb}
 use Rattle.std.proofs.Math.Option.{Option, none, some}
 use Prim.Native.String.{String}
 use Rattle.logic.specs.declared.Interval.{Interval}
@@ -11,12 +11,8 @@ use Rattle.request.specs.Reader.{Reader, whole}
 use Rattle.request.specs.Request.{Line}
 use Rattle.steps.specs.declared.Row.{Row}
 use Rattle.ledger.specs.Table.{lettered, row_of}
-use Rattle.read_formulas.specs.declared.Span.{Span}
-use Rattle.read_formulas.specs.declared.Span.TheVariants.{Minutes, Broken as NoSpan}
-use Rattle.read_formulas.specs.declared.FormulaLine.{FormulaLine}
-use Rattle.read_formulas.specs.declared.FormulaLine.TheVariants.{Formula, Broken as NoFormula}
 use Rattle.logic.specs.Choice.{pick}
-use Rattle.read_fields.specs.Field.{max_reach, field_to}
+use Rattle.read_fields.specs.Field.{field_to}
 
 -- the first line, and what follows its byte 10
 unfoldable pub split : List ℕ → Option (List ℕ × List ℕ)
@@ -83,18 +79,7 @@ named_fields letter b =
 unfoldable pub rowed : Option (Line × List ℕ) → Option (Row × List ℕ)
 rowed o = and_then o (λ p. some (row_of p.0, p.1))
 
--- What an answer of the code says of the bytes s
-
-abbrev pub span_of : List ℕ → Span → Option (Interval × List ℕ)
-span_of s (Minutes w i) = some (w, drop i s)
-span_of s NoSpan = none
-
-abbrev pub formula_of : List ℕ → FormulaLine → Option (Row × List ℕ)
-formula_of s (Formula x i) = some (x, drop i s)
-formula_of s NoFormula = none
-
 -- what a reader of two numbers asks
-pub record TwoAsked (s : List ℕ) (m n : ℕ) : Type 0 where
-  pub short : length s ≤ max_reach
+pub record TwoAsked (m n : ℕ) : Type 0 where
   pub first : (9 ≤ m) × (m ≤ 99999999)
   pub second : (9 ≤ n) × (n ≤ 99999999)

@@ -1,48 +1,33 @@
 // Intervals and formula lines (document 01: windows and wording lines).
-ghost use Rattle.std.specs.Prelude.{◌≡◌, ◌≤◌, length, drop};
+ghost use Rattle.std.specs.Prelude.{◌≡◌};
 ghost use Rattle.request.specs.Read.{formula_line};
 ghost use Rattle.ledger.specs.Table.{lettered as lettered_of};
-ghost use Rattle.read_fields.specs.Field.{max_reach, Stop};
+ghost use Rattle.read_fields.specs.Field.{Stop, read_of};
 ghost use Rattle.read_formulas.specs.Line.{read_line, interval_to, one_field, two_fields, at_fields, superset_fields};
 ghost use Rattle.read_formulas.specs.Line.{named_fields, rowed};
-ghost use Rattle.read_formulas.specs.Line.{span_of, formula_of, TwoAsked};
+ghost use Rattle.read_formulas.specs.Line.{TwoAsked};
 
-use crate::{FormulaLine, Span};
 use logic::Interval;
-use read_fields::{Decimal, number};
+use read_fields::Reader;
 use request::ranges;
 use steps::{Row, letters};
 
 // `from,to,first,last`, which the byte `stop` ends.
-pub fn interval(s: &[u8], at: u32, stop: u8) -> Span
-    requires { (length s.now ≤ max_reach) × Stop stop }
-    ensures { span_of s.now result ≡ interval_to stop (drop at s.now) }
+#[tactic(auto, unfolding(crate::specs::Line::interval_to, request::specs::Text::and_then))]
+pub fn interval(r: &mut Reader<'_>, stop: u8) -> Option<Interval>
+    requires { Stop stop }
+    ensures { read_of result r.new.rest.now ≡ interval_to stop r.old.rest.now }
 {
-    let f = number(s, at, 0, ranges::MINUTE_LAST, b',');
-    let Decimal::Number(from, i) = f else {
-        return Span::Broken;
-    };
-    let g = number(s, i, 0, ranges::MINUTE_LAST, b',');
-    let Decimal::Number(to, j) = g else {
-        return Span::Broken;
-    };
-    let h = number(s, j, 0, ranges::MINUTE_LAST, b',');
-    let Decimal::Number(first, k) = h else {
-        return Span::Broken;
-    };
-    let l = number(s, k, 0, ranges::MINUTE_LAST, stop);
-    let Decimal::Number(last, end) = l else {
-        return Span::Broken;
-    };
-    Span::Minutes(
-        Interval {
-            from,
-            to,
-            first,
-            last,
-        },
-        end,
-    )
+    let from = r.number(0, ranges::MINUTE_LAST, b',')?;
+    let to = r.number(0, ranges::MINUTE_LAST, b',')?;
+    let first = r.number(0, ranges::MINUTE_LAST, b',')?;
+    let last = r.number(0, ranges::MINUTE_LAST, stop)?;
+    Some(Interval {
+        from,
+        to,
+        first,
+        last,
+    })
 }
 
 // A letter and two numbers, without holder and intervals.
@@ -60,148 +45,107 @@ fn lettered(letter: u32, a: u32, b: u32) -> Row
     }
 }
 
-fn one_field(s: &[u8], at: u32, letter: u32) -> FormulaLine
-    requires { length s.now ≤ max_reach }
-    ensures { formula_of s.now result ≡ one_field letter (drop at s.now) }
+#[tactic(auto, unfolding(crate::specs::Line::one_field, request::specs::Text::and_then))]
+fn one_field(r: &mut Reader<'_>, letter: u32) -> Option<Row>
+    ensures { read_of result r.new.rest.now ≡ one_field letter r.old.rest.now }
 {
-    let f = number(s, at, 0, ranges::FORMULA_LAST, b'\n');
-    let Decimal::Number(a, i) = f else {
-        return FormulaLine::Broken;
-    };
-    FormulaLine::Formula(lettered(letter, a, 0), i)
+    let a = r.number(0, ranges::FORMULA_LAST, b'\n')?;
+    Some(lettered(letter, a, 0))
 }
 
-fn two_fields(s: &[u8], at: u32, letter: u32, m: u32, n: u32) -> FormulaLine
-    requires { TwoAsked s.now m n }
-    ensures { formula_of s.now result ≡ two_fields letter m n (drop at s.now) }
+#[tactic(auto, unfolding(crate::specs::Line::two_fields, request::specs::Text::and_then))]
+fn two_fields(r: &mut Reader<'_>, letter: u32, m: u32, n: u32) -> Option<Row>
+    requires { TwoAsked m n }
+    ensures { read_of result r.new.rest.now ≡ two_fields letter m n r.old.rest.now }
 {
-    let f = number(s, at, 0, m, b',');
-    let Decimal::Number(a, i) = f else {
-        return FormulaLine::Broken;
-    };
-    let g = number(s, i, 0, n, b'\n');
-    let Decimal::Number(b, j) = g else {
-        return FormulaLine::Broken;
-    };
-    FormulaLine::Formula(lettered(letter, a, b), j)
+    let a = r.number(0, m, b',')?;
+    let b = r.number(0, n, b'\n')?;
+    Some(lettered(letter, a, b))
 }
 
-fn at_fields(s: &[u8], at: u32, letter: u32) -> FormulaLine
-    requires { length s.now ≤ max_reach }
-    ensures { formula_of s.now result ≡ at_fields letter (drop at s.now) }
+#[tactic(auto, unfolding(crate::specs::Line::at_fields, request::specs::Text::and_then))]
+fn at_fields(r: &mut Reader<'_>, letter: u32) -> Option<Row>
+    ensures { read_of result r.new.rest.now ≡ at_fields letter r.old.rest.now }
 {
-    let f = number(s, at, 0, ranges::FORMULA_LAST, b',');
-    let Decimal::Number(a, i) = f else {
-        return FormulaLine::Broken;
-    };
-    let g = interval(s, i, b'\n');
-    let Span::Minutes(w, j) = g else {
-        return FormulaLine::Broken;
-    };
-    FormulaLine::Formula(
-        Row {
-            letter,
-            a,
-            b: 0,
-            holder: 0,
-            first: w,
-            second: intervals::none(),
-        },
-        j,
-    )
+    let a = r.number(0, ranges::FORMULA_LAST, b',')?;
+    let w = interval(r, b'\n')?;
+    Some(Row {
+        letter,
+        a,
+        b: 0,
+        holder: 0,
+        first: w,
+        second: intervals::none(),
+    })
 }
 
-fn superset_fields(s: &[u8], at: u32, letter: u32) -> FormulaLine
-    requires { length s.now ≤ max_reach }
-    ensures { formula_of s.now result ≡ superset_fields letter (drop at s.now) }
+#[tactic(auto, unfolding(crate::specs::Line::superset_fields, request::specs::Text::and_then))]
+fn superset_fields(r: &mut Reader<'_>, letter: u32) -> Option<Row>
+    ensures { read_of result r.new.rest.now ≡ superset_fields letter r.old.rest.now }
 {
-    let f = interval(s, at, b',');
-    let Span::Minutes(v, i) = f else {
-        return FormulaLine::Broken;
-    };
-    let g = interval(s, i, b'\n');
-    let Span::Minutes(w, j) = g else {
-        return FormulaLine::Broken;
-    };
-    FormulaLine::Formula(
-        Row {
-            letter,
-            a: 0,
-            b: 0,
-            holder: 0,
-            first: v,
-            second: w,
-        },
-        j,
-    )
+    let v = interval(r, b',')?;
+    let w = interval(r, b'\n')?;
+    Some(Row {
+        letter,
+        a: 0,
+        b: 0,
+        holder: 0,
+        first: v,
+        second: w,
+    })
 }
 
 // `n`: a predicate, a session, a holder
-fn named_fields(s: &[u8], at: u32, letter: u32) -> FormulaLine
-    requires { length s.now ≤ max_reach }
-    ensures { formula_of s.now result ≡ named_fields letter (drop at s.now) }
+#[tactic(auto, unfolding(crate::specs::Line::named_fields, request::specs::Text::and_then))]
+fn named_fields(r: &mut Reader<'_>, letter: u32) -> Option<Row>
+    ensures { read_of result r.new.rest.now ≡ named_fields letter r.old.rest.now }
 {
-    let f = number(s, at, 0, ranges::PREDICATE_LAST, b',');
-    let Decimal::Number(a, i) = f else {
-        return FormulaLine::Broken;
-    };
-    let g = number(s, i, 0, ranges::SESSION_LAST, b',');
-    let Decimal::Number(b, j) = g else {
-        return FormulaLine::Broken;
-    };
-    let h = number(s, j, 0, ranges::HOLDER_LAST, b'\n');
-    let Decimal::Number(holder, k) = h else {
-        return FormulaLine::Broken;
-    };
+    let a = r.number(0, ranges::PREDICATE_LAST, b',')?;
+    let b = r.number(0, ranges::SESSION_LAST, b',')?;
+    let holder = r.number(0, ranges::HOLDER_LAST, b'\n')?;
     let none = intervals::none();
-    FormulaLine::Formula(
-        Row {
-            letter,
-            a,
-            b,
-            holder,
-            first: none,
-            second: none,
-        },
-        k,
-    )
+    Some(Row {
+        letter,
+        a,
+        b,
+        holder,
+        first: none,
+        second: none,
+    })
 }
 
 // One of the 13 formula lines.
-pub fn formula_line(s: &[u8], at: u32) -> FormulaLine
-    requires { length s.now ≤ max_reach }
-    ensures { formula_of s.now result ≡ rowed (read_line formula_line (drop at s.now)) }
+pub fn formula_line(r: &mut Reader<'_>) -> Option<Row>
+    ensures { read_of result r.new.rest.now ≡ rowed (read_line formula_line r.old.rest.now) }
 {
-    let i = at as usize;
-    if s.len() <= i + 1 {
-        return FormulaLine::Broken;
-    }
-    let letter = s[i];
-    let stop = s[i + 1];
-    let x = letter as u32;
-    let j = at + 2;
+    let [letter, stop, after @ ..] = r.rest else {
+        return None;
+    };
+    let x = u32::from(*letter);
+    r.rest = after;
     if x == letters::ONE {
-        if stop == b'\n' {
-            return FormulaLine::Formula(lettered(letters::ONE, 0, 0), j);
+        if *stop == b'\n' {
+            return Some(lettered(letters::ONE, 0, 0));
         }
-        return FormulaLine::Broken;
+        return None;
     }
-    if stop != b',' {
-        return FormulaLine::Broken;
+    if *stop != b',' {
+        return None;
     }
+    // One arm a letter, as the document lists the lines: grouped by their fields, the arms are no plainer.
     match x {
-        letters::ATOM => two_fields(s, j, x, ranges::PREDICATE_LAST, ranges::SESSION_LAST),
-        letters::BANG => one_field(s, j, x),
-        letters::SUPERSET => superset_fields(s, j, x),
-        letters::AT => at_fields(s, j, x),
-        letters::SAYS => two_fields(s, j, x, ranges::PRINCIPAL_LAST, ranges::FORMULA_LAST),
-        letters::LOLLI => two_fields(s, j, x, ranges::FORMULA_LAST, ranges::FORMULA_LAST),
-        letters::PLUS => two_fields(s, j, x, ranges::FORMULA_LAST, ranges::FORMULA_LAST),
-        letters::TENSOR => two_fields(s, j, x, ranges::FORMULA_LAST, ranges::FORMULA_LAST),
-        letters::IMPLIES => two_fields(s, j, x, ranges::FORMULA_LAST, ranges::FORMULA_LAST),
-        letters::WITH => two_fields(s, j, x, ranges::FORMULA_LAST, ranges::FORMULA_LAST),
-        letters::NAMED => named_fields(s, j, x),
-        letters::FOR_EVERY => one_field(s, j, x),
-        _ => FormulaLine::Broken,
+        letters::ATOM => two_fields(r, x, ranges::PREDICATE_LAST, ranges::SESSION_LAST),
+        letters::BANG => one_field(r, x),
+        letters::SUPERSET => superset_fields(r, x),
+        letters::AT => at_fields(r, x),
+        letters::SAYS => two_fields(r, x, ranges::PRINCIPAL_LAST, ranges::FORMULA_LAST),
+        letters::LOLLI => two_fields(r, x, ranges::FORMULA_LAST, ranges::FORMULA_LAST),
+        letters::PLUS => two_fields(r, x, ranges::FORMULA_LAST, ranges::FORMULA_LAST),
+        letters::TENSOR => two_fields(r, x, ranges::FORMULA_LAST, ranges::FORMULA_LAST),
+        letters::IMPLIES => two_fields(r, x, ranges::FORMULA_LAST, ranges::FORMULA_LAST),
+        letters::WITH => two_fields(r, x, ranges::FORMULA_LAST, ranges::FORMULA_LAST),
+        letters::NAMED => named_fields(r, x),
+        letters::FOR_EVERY => one_field(r, x),
+        _ => None,
     }
 }

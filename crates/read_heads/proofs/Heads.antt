@@ -3,10 +3,12 @@ use mathlib.Core.Path.{◌≡◌, refl, sym, ap, subst, ◌∙◌}
 use mathlib.Core.List.{List, [], ◌∷◌}
 use mathlib.Core.Option.{Option, none, some}
 use mathlib.Core.Bool.{true}
-use Prim.Native.Nat.{ℕ, ◌≤◌, ◌<◌}
+use Prim.Native.Nat.{ℕ, ◌<◌}
 use Prim.Native.String.{String}
+use native.Mathlib.Omega.{arith}
 use lib.Dec.{eqb}
-use lib.ListN.{length, drop}
+use lib.ListN.{length}
+use Rattle.std.proofs.lemmas.List.{nil_from_length}
 use Rattle.logic.specs.declared.Interval.{Interval}
 use Rattle.request.specs.declared.Kind.{Kind}
 use Rattle.request.specs.declared.Kind.TheVariants.{Linear, Unrestricted}
@@ -26,9 +28,9 @@ use Rattle.ledger.proofs.Firsts.{if_true}
 use Rattle.read_fields.specs.Field.{field_to, strip}
 use Rattle.read_formulas.specs.Line.{read_line, interval_to, rowed}
 use Rattle.read_heads.specs.First.{after, issue_fields, WordIs, FormBroken, FirstIs, request_from}
-use Rattle.read_heads.specs.declared.FirstRead.{FirstRead}
+use Rattle.std.specs.Prelude.{Option as Read}
+use Rattle.read_heads.specs.declared.First.{First}
 use Rattle.read_fields.proofs.Then.{then_same, then_some, then_no, by_test}
-use Rattle.read_fields.proofs.Bytes.{here, past}
 use Rattle.read_heads.proofs.Split.{lines_several, request_first}
 use Rattle.read_formulas.proofs.Cut.{line_same, line_map, gives_pick, cut_stop}
 use Rattle.read_formulas.proofs.RowLines.{row_line, row_none}
@@ -42,14 +44,18 @@ broken {q} e = record { check = sym (if_true 2 (is_none q) (ap is_none e)) }
 
 -- A line that is the whole request
 
-module _ (s : List ℕ) (i : ℕ) {o : Option (FirstLine × List ℕ)} {r : Request} (e : o ≡ some (alone r, drop i s)) where
-  pub whole_request : length s ≤ i → request_from o ≡ some r
+module _ (c : List ℕ) {o : Option (FirstLine × List ℕ)} {r : Request} (e : o ≡ some (alone r, c)) where
+  pub whole_request : length c ≡ 0 → request_from o ≡ some r
   unfolding request_from rest lines whole return ended and_then
-  whole_request h = rw (e, past s i h, and_then)
+  whole_request h = rw (e, nil_from_length c h, and_then)
 
-  pub lines_follow : i < length s → FormBroken (request_from o)
+  pub lines_follow : 0 < length c → FormBroken (request_from o)
   unfolding request_from rest and_then
-  lines_follow h = broken (rw (e, here s i h, and_then) (lines_several r _ _))
+  lines_follow h = broken (rw (e, and_then) (go c h))
+    where
+      go : (c : List ℕ) → 0 < length c → and_then (lines c) (whole (return r)) ≡ none
+      go [] h = absurd (omega arith)
+      go (x ∷ xs) h = lines_several r x xs
 
 none_from : {o : Option (FirstLine × List ℕ)} → o ≡ none → request_from o ≡ none
 unfolding request_from and_then
@@ -68,18 +74,18 @@ module _ (b : List ℕ) where
   pub no_formula : rowed (read_line formula_line b) ≡ none → FormBroken (request_from (read_line (after "word") b))
   no_formula e = no_line (word_line ∙ then_no _ (row_none (read_line formula_line b) e))
 
-  module _ (s : List ℕ) (i : ℕ) {x : Row} (e : rowed (read_line formula_line b) ≡ some (x, drop i s)) where
+  module _ (c : List ℕ) {x : Row} (e : rowed (read_line formula_line b) ≡ some (x, c)) where
     word_is : let l = row_line (read_line formula_line b) e in
-        read_line (after "word") b ≡ some (alone (word l.line), drop i s)
+        read_line (after "word") b ≡ some (alone (word l.line), c)
     word_is = word_line ∙ then_some _ (row_line (read_line formula_line b) e).is
 
-    pub word_follow : i < length s → FormBroken (request_from (read_line (after "word") b))
-    word_follow h = lines_follow s i word_is h
+    pub word_follow : 0 < length c → FormBroken (request_from (read_line (after "word") b))
+    word_follow h = lines_follow c word_is h
 
-    pub word_whole : length s ≤ i → WordIs (request_from (read_line (after "word") b)) x
+    pub word_whole : length c ≡ 0 → WordIs (request_from (read_line (after "word") b)) x
     word_whole h =
         let l = row_line (read_line formula_line b) e in
-        record { line = l.line; reads = whole_request s i word_is h; row = l.row }
+        record { line = l.line; reads = whole_request c word_is h; row = l.row }
 
 -- The others
 
@@ -173,5 +179,5 @@ interval_range stop b e = given {P = λ x. IntervalInRange x.0}
 
 -- The request by another name
 
-pub first_by : {q p : Option Request} (s : List ℕ) (r : FirstRead) → q ≡ p → FirstIs p s r → FirstIs q s r
+pub first_by : {q p : Option Request} (s : List ℕ) (r : Read First) → q ≡ p → FirstIs p s r → FirstIs q s r
 first_by s r e h = subst (λ x. FirstIs x s r) (sym e) h

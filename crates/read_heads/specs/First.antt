@@ -1,5 +1,5 @@
 -- What the code's answer says of the bytes of a request, by `request_of` (crate request, Read.antt).
-use Rattle.std.specs.Prelude.{◌≡◌, List, ◌∷◌, ℕ, drop}
+use Rattle.std.specs.Prelude.{◌≡◌, List, ◌∷◌, ℕ, Option as Read, Some, None}
 use Rattle.std.proofs.Math.Option.{Option, none, some}
 use Prim.Native.String.{String}
 use Rattle.request.specs.declared.Kind.{Kind}
@@ -16,8 +16,6 @@ use Rattle.ledger.specs.Checks.{Check, ◌if◌}
 use Rattle.read_heads.specs.declared.Head.{Head}
 use Rattle.read_heads.specs.declared.First.{First}
 use Rattle.read_heads.specs.declared.First.TheVariants.{Word, Issue, Withdraw, Tally, Book}
-use Rattle.read_heads.specs.declared.FirstRead.{FirstRead}
-use Rattle.read_heads.specs.declared.FirstRead.TheVariants.{Read, Broken}
 use Rattle.read_formulas.specs.Line.{read_line}
 
 -- the request that a first line and the bytes after it make
@@ -53,32 +51,32 @@ pub record WordIs (q : Option Request) (x : Row) : Type 0 where
   pub reads : q ≡ some (word line)
   pub row : row_of line ≡ x
 
--- a booking's head: the request is what the bytes after it say
-pub record BookIs (q : Option Request) (s : List ℕ) (h : Head) : Type 0 where
-  pub reads : q ≡ booking_from h (drop h.next s)
+-- a booking's head: the request is what the bytes c after it say
+pub record BookIs (q : Option Request) (c : List ℕ) (h : Head) : Type 0 where
+  pub reads : q ≡ booking_from h c
   pub range : HeadInRange h
 
--- what was read of bytes s whose request is q
+-- what was read of bytes whose request is q, where those of c are left
 abbrev pub LineIs : Option Request → List ℕ → First → Type 0
-LineIs q s (Word x) = WordIs q x
-LineIs q s (Issue k n i) = q ≡ some (issue k n i)
-LineIs q s (Withdraw n) = q ≡ some (withdraw n)
-LineIs q s (Tally a m) = q ≡ some (tally a m)
-LineIs q s (Book h) = BookIs q s h
+LineIs q c (Word x) = WordIs q x
+LineIs q c (Issue k n i) = q ≡ some (issue k n i)
+LineIs q c (Withdraw n) = q ≡ some (withdraw n)
+LineIs q c (Tally a m) = q ≡ some (tally a m)
+LineIs q c (Book h) = BookIs q c h
 
 -- what the answer says of the check 2, "form, field count, line count or a range is broken; empty": it fails, or as far
 -- as the first line goes it does not
-abbrev pub first_check : FirstRead → Check
-first_check (Read f) = none
-first_check Broken = some (record { number = 2; step = 0 })
+abbrev pub first_check : Read First → Check
+first_check (Some f) = none
+first_check None = some (record { number = 2; step = 0 })
 
 pub record FormBroken (q : Option Request) : Type 0 where
-  pub check : first_check Broken ≡ (2 if is_none q)
+  pub check : first_check None ≡ (2 if is_none q)
 
-abbrev pub FirstIs : Option Request → List ℕ → FirstRead → Type 0
-FirstIs q s (Read f) = LineIs q s f
-FirstIs q s Broken = FormBroken q
+abbrev pub FirstIs : Option Request → List ℕ → Read First → Type 0
+FirstIs q c (Some f) = LineIs q c f
+FirstIs q c None = FormBroken q
 
--- the answer for bytes s that begin with the word w, whose fields begin at a position
-abbrev pub FirstAfter : String → List ℕ → ℕ → FirstRead → Type 0
-FirstAfter w s at r = FirstIs (request_from (read_line (after w) (drop at s))) s r
+-- the answer for the bytes b after the word w, where those of c are left
+abbrev pub FirstAfter : String → List ℕ → List ℕ → Read First → Type 0
+FirstAfter w b c r = FirstIs (request_from (read_line (after w) b)) c r

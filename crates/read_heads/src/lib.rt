@@ -1,4 +1,5 @@
-// The first line of a request (document 01: a sheet), read by positions: a whole request, or the head of a booking.
+// The first line of a request (document 01: a sheet), which a reader has next: a whole request, or the head of a
+// booking.
 // This file has the types of the answers; requests.rt reads the line.
 #![tactic(auto)]
 
@@ -8,7 +9,7 @@ use logic::Interval;
 use request::Kind;
 use steps::Row;
 
-// The head of a booking, `book,now,wording,from,to,first,last,holds,steps`, and the position of the line after it.
+// The head of a booking, `book,now,wording,from,to,first,last,holds,steps`.
 #[derive(Clone, Copy)]
 pub struct Head {
     pub now: u32,
@@ -16,7 +17,6 @@ pub struct Head {
     pub interval: Interval,
     pub holds: u32,
     pub steps: u32,
-    pub next: u32,
 }
 
 // What a request's bytes say: a whole request of one line, or the head of a booking.
@@ -27,11 +27,4 @@ pub enum First {
     Withdraw(u32),
     Tally(u32, u32),
     Book(Head),
-}
-
-// The first line was read, or its form is broken (refusal 2).
-#[derive(Clone, Copy)]
-pub enum FirstRead {
-    Read(First),
-    Broken,
 }

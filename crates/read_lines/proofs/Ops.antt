@@ -2,32 +2,32 @@
 use mathlib.Core.Path.{◌≡◌, refl, sym, ap, ◌∙◌}
 use mathlib.Core.List.{List, [], ◌∷◌, map}
 use mathlib.Core.Option.{Option, none, some}
-use Prim.Native.Nat.{ℕ, ◌+◌, ◌*◌, ◌/◌, ◌%◌, ◌≤◌, ◌<◌}
+use mathlib.Core.Bool.{true, ◌&&◌}
+use Rattle.logic.specs.Choice.{pick}
+use Prim.Native.Nat.{ℕ, ◌≤◌, ◌<◌}
 use Prim.Native.Char.{Char, code}
 use Prim.Native.String.{String}
 use native.Mathlib.Omega.{arith}
 use lib.Dec.{eqb, ltb}
-use lib.ListN.{length, get_or, drop, length-drop}
+use lib.ListN.{length, get_or}
 use borrow.Author.Tests.{ne_eqb, lt-ltb, le-ltb}
-use Rattle.logic.specs.declared.Interval.{Interval}
 use Rattle.request.specs.Range.{label, serial, named_holder}
 use Rattle.request.specs.Text.{bytes, same_bytes, and_then, number_in, label_set_in}
 use Rattle.request.specs.Reader.{Reader, return, ◌>>=◌, next, named, choose, whole}
 use Rattle.request.specs.Request.{Step}
 use Rattle.request.specs.Read.{number, label_set, interval, labelled, step_line, hold_line}
-use Rattle.step_rows.specs.declared.StepRow.{StepRow}
 use Rattle.logic.specs.Interval.{no_interval}
-use Rattle.step_rows.specs.StepRows.{half, step_row, step_of, tr_number, al_number, ll_number, ul_number, no_step}
+use Rattle.step_rows.specs.StepRows.{step_row, step_of, tr_number, al_number, ll_number, ul_number, no_step}
 use Rattle.read_fields.specs.Field.{field_to, strip}
 use Rattle.read_formulas.specs.Line.{read_line, lookup, interval_to}
 use Rattle.read_lines.specs.Step.{ops, op_of, label_reader, step_reader}
 use Rattle.read_fields.proofs.Then.{then_same, by_test}
-use Rattle.read_fields.proofs.Bytes.{here3}
-use Rattle.read_formulas.proofs.Cut.{line_same, line_none, whole_none}
+use Rattle.read_fields.proofs.Bytes.{beyond, here3}
+use Rattle.read_formulas.proofs.Cut.{line_same, whole_none}
 use Rattle.read_formulas.proofs.Shapes.{Shape, next_shape, number_shape, interval_shape, both_last}
 use Rattle.read_formulas.proofs.WordTables.{inside, then_comma, word_found, no_word, onward, word_line, word_short}
-use Rattle.read_formulas.proofs.WordTables.{onward_comma, onward_bare, onward_end, onward_on}
-use Rattle.read_formulas.proofs.WordTables.{Others, no_key, choose_lookup}
+use Rattle.read_formulas.proofs.WordTables.{onward_comma, onward_bare, onward_end, onward_on, onward_none}
+use Rattle.read_formulas.proofs.WordTables.{choose_lookup}
 
 -- one field alone
 alone_shape : {A : Type 0} {r : Reader A} {p : ℕ → List ℕ → Option (A × List ℕ)} → Shape r p
@@ -40,43 +40,47 @@ alone_shape {r} {p} d b =
     again none = refl
     again (some x) = refl
 
+-- what was read, or nothing, and what follows
+pub then_at : {A B : Type 0} (a : A) (k : A → Option B) → and_then (some a) k ≡ k a
+unfolding and_then
+then_at a k = refl
+
+pub then_nothing : {A B : Type 0} (k : A → Option B) → and_then none k ≡ none
+unfolding and_then
+then_nothing k = refl
+
 -- Hold lines
 
-pub hold_found : (b c : List ℕ) → strip (then_comma "hold") b ≡ some c
-    → read_line hold_line b ≡ field_to 10 (number_in serial) c
-unfolding hold_line choose named same_bytes bytes inside
-hold_found b c e = word_found (("hold", number serial) ∷ []) "hold" b c refl e ∙ alone_shape (number_shape serial) c
+pub hold_line_holds : (b : List ℕ)
+    → read_line hold_line b ≡ and_then (strip (then_comma "hold") b) (λ c. field_to 10 (number_in serial) c)
+unfolding hold_line choose named same_bytes bytes inside number next and_then
+hold_line_holds b = go (strip (then_comma "hold") b) refl
+  where
+    go : (o : Option (List ℕ)) → strip (then_comma "hold") b ≡ o
+        → read_line hold_line b ≡ and_then o (λ c. field_to 10 (number_in serial) c)
+    go none e = no_word (("hold", number serial) ∷ []) b refl ((e, refl), tt)
+    go (some c) e =
+        word_found (("hold", number serial) ∷ []) "hold" b c refl e ∙ alone_shape (number_shape serial) c
 
-pub hold_none : (b : List ℕ) → strip (then_comma "hold") b ≡ none → read_line hold_line b ≡ none
-unfolding hold_line bytes inside number next
-hold_none b e = no_word _ b refl ((e, refl), tt)
+pub ruleset hold_fields = (hold_line_holds, then_at, then_nothing)
 
 -- The number of a step
 
--- each letter of a word is below it
-abbrev base : ℕ
-base = 256
+-- what a table has for two letters
+abbrev by_letters : List (Char × Char × ℕ) → ℕ → ℕ → ℕ
+by_letters [] a b = no_step
+by_letters (e ∷ es) a b = pick (eqb a (code e.0) && (eqb b (code e.1) && true)) e.2 (by_letters es a b)
 
-pub op_at : (a b n : ℕ) → b < base → a * base + b ≡ n → op_of (n / base ∷ n % base ∷ []) ≡ op_of (a ∷ b ∷ [])
-op_at a b n h e =
-    let p : n / base ≡ a = omega arith in
-    let q : n % base ≡ b = omega arith in
-    rw (p, q)
+abbrev letters : List (Char × Char × ℕ)
+letters =
+    ("a", "x", 10) ∷ ("c", "p", 11) ∷ ("t", "r", 9) ∷ ("t", "l", 18) ∷ ("o", "r", 1) ∷ ("o", "l", 12) ∷
+    ("w", "r", 8) ∷ ("w", "1", 13) ∷ ("w", "2", 14) ∷ ("p", "1", 3) ∷ ("p", "2", 4) ∷ ("p", "l", 19) ∷
+    ("l", "l", 21) ∷ ("u", "l", 22) ∷ ("b", "r", 5) ∷ ("b", "l", 15) ∷ ("h", "r", 6) ∷ ("h", "l", 16) ∷
+    ("s", "r", 7) ∷ ("a", "f", 0) ∷ ("s", "l", 17) ∷ ("g", "r", 2) ∷ ("a", "l", 20) ∷ []
 
--- a word's two letters as one number
-abbrev word : Char → Char → ℕ
-word a b = code a * base + code b
-
-abbrev keys : List ℕ
-keys =
-    word "u" "l" ∷ word "l" "l" ∷ word "a" "l" ∷ word "p" "l" ∷ word "t" "l" ∷ word "s" "l" ∷ word "h" "l" ∷
-    word "b" "l" ∷ word "w" "2" ∷ word "w" "1" ∷ word "o" "l" ∷ word "c" "p" ∷ word "a" "x" ∷
-    word "t" "r" ∷ word "w" "r" ∷ word "s" "r" ∷ word "h" "r" ∷ word "b" "r" ∷ word "p" "2" ∷
-    word "p" "1" ∷ word "g" "r" ∷ word "o" "r" ∷ word "a" "f" ∷ []
-
-pub op_none : (a b : ℕ) → Others (a * base + b) keys → op_of (a ∷ b ∷ []) ≡ no_step
-unfolding op_of ops bytes
-op_none a b n = no_key (a ∷ b ∷ []) keys n no_step ops refl
+pub op_letters : (a b : ℕ) → op_of (a ∷ b ∷ []) ≡ by_letters letters a b
+unfolding op_of ops lookup bytes same_bytes
+op_letters a b = refl
 
 -- The fields of a step
 
@@ -89,21 +93,21 @@ module _ (op : ℕ) where
   unfolding step_reader
   reader_plain h = rw (lt-ltb op tr_number h)
 
-  reader_label : tr_number ≤ op → (op ≡ tr_number → ⊥) → op < al_number → step_reader op ≡ label_reader op
+  reader_label : tr_number < op → op < al_number → step_reader op ≡ label_reader op
   unfolding step_reader
-  reader_label h n k = rw (le-ltb op tr_number h, ne_eqb op tr_number n, lt-ltb op al_number k)
+  reader_label h k =
+      rw (le-ltb op tr_number (omega arith), ne_eqb op tr_number (λ e. omega arith), lt-ltb op al_number k)
 
-  reader_none : al_number ≤ op → (op ≡ al_number → ⊥) → (op ≡ ll_number → ⊥) → (op ≡ ul_number → ⊥)
-      → step_reader op ≡ (λ ts. none)
+  reader_none : ul_number < op → step_reader op ≡ (λ ts. none)
   unfolding step_reader
-  reader_none h k n m =
+  reader_none h =
       rw (
         le-ltb op tr_number (omega arith),
         ne_eqb op tr_number (λ e. omega arith),
-        le-ltb op al_number h,
-        ne_eqb op al_number k,
-        ne_eqb op ll_number n,
-        ne_eqb op ul_number m,
+        le-ltb op al_number (omega arith),
+        ne_eqb op al_number (λ e. omega arith),
+        ne_eqb op ll_number (λ e. omega arith),
+        ne_eqb op ul_number (λ e. omega arith),
       )
 
   reader_bare : tr_number ≤ op → step_reader op [] ≡ none
@@ -143,23 +147,7 @@ module _ (b : List ℕ) where
   unfolding step_reader
   implies_line = both_last (number_shape label) interval_shape Step.ul b
 
--- a set of labels from its halves
-halves : (v : ℕ) → v / half * half + v % half ≡ v
-halves v = omega arith
-
-pub set_halves : (v : ℕ) (b : List ℕ)
-    → ◌≡◌ {A = Option (Step × List ℕ)} (some (Step.tr (v / half * half + v % half), b))
-    (some (Step.tr v, b))
-set_halves v b = ap (λ x. some (Step.tr x, b)) (halves v)
-
-pub lolli_halves : (l v : ℕ) (j : Interval) (b : List ℕ)
-    → ◌≡◌ {A = Option (Step × List ℕ)} (some (Step.ll l (v / half * half + v % half) j, b))
-    (some (Step.ll l v j, b))
-lolli_halves l v j b = ap (λ x. some (Step.ll l x j, b)) (halves v)
-
-pub step_told : {x y : StepRow} (b : List ℕ) → x ≡ y
-    → ◌≡◌ {A = Option (Step × List ℕ)} (some (step_of x, b)) (some (step_of y, b))
-step_told b e = ap (λ z. some (step_of z, b)) e
+pub ruleset line_fields = (set_line, label_line, holder_line_holds, lolli_line, implies_line, then_at, then_nothing)
 
 -- The word of a step
 
@@ -180,40 +168,48 @@ step_word : (t : List ℕ) (ts : List (List ℕ)) → step_line (t ∷ ts) ≡ s
 unfolding step_line op_of ops step_reader label_reader step_of
 step_word t ts = choose_lookup _ t ts ∙ ap (λ (r : Reader Step). r ts) (lookup_by step_reader ops no_step t)
 
-module _ (s : List ℕ) (i : ℕ) where
-  pub step_short : length s ≤ i + 2 → read_line step_line (drop i s) ≡ none
+module _ (s : List ℕ) where
+  -- the number of the first two letters, the byte after it, and what follows that
+  abbrev op_at : ℕ
+  op_at = op_of (get_or s 0 0 ∷ get_or s 1 0 ∷ [])
+
+  abbrev stop_at : ℕ
+  stop_at = get_or s 2 0
+
+  abbrev rest_at : List ℕ
+  rest_at = beyond s 3
+
+  pub step_short : length s < 3 → read_line step_line s ≡ none
   unfolding step_line bytes inside
-  step_short h = word_short 2 _ refl refl (drop i s) (omega (arith, length-drop i s))
+  step_short h = word_short 2 _ refl refl s (omega arith)
 
-  module _ (h : i + 2 < length s) {op : ℕ} (q : op ≡ op_of (get_or s i 0 ∷ get_or s (i + 1) 0 ∷ [])) where
-    step_at_holds : read_line step_line (drop i s) ≡ onward (get_or s (i + 2) 0) (step_reader op) (drop (i + 3) s)
-    unfolding step_line bytes inside
-    step_at_holds =
-        rw (here3 s i h, q) (word_line 2 _ refl refl (get_or s i 0 ∷ get_or s (i + 1) 0 ∷ []) (get_or s (i + 2) 0)
-        (drop (i + 3) s) refl
-        ∙ onward_same (step_word (get_or s i 0 ∷ get_or s (i + 1) 0 ∷ [])) (get_or s (i + 2) 0) (drop (i + 3) s))
+  step_at_holds : 3 ≤ length s → read_line step_line s ≡ onward stop_at (step_reader op_at) rest_at
+  unfolding step_line bytes inside
+  step_at_holds h =
+      ap (read_line step_line) (here3 s h)
+      ∙ word_line 2 _ refl refl (get_or s 0 0 ∷ get_or s 1 0 ∷ []) stop_at rest_at refl
+      ∙ onward_same (step_word (get_or s 0 0 ∷ get_or s 1 0 ∷ [])) stop_at rest_at
 
-    pub step_plain : op < tr_number → get_or s (i + 2) 0 ≡ 10
-        → read_line step_line (drop i s) ≡ some (step_of (step_row op 0 0 0 no_interval), drop (i + 3) s)
-    step_plain l e = step_at_holds ∙ rw (reader_plain op l) (onward_end _ (drop (i + 3) s) e)
+  pub step_plain : 3 ≤ length s → op_at < tr_number → stop_at ≡ 10
+      → read_line step_line s ≡ some (step_of (step_row op_at 0 0 0 no_interval), rest_at)
+  step_plain h l e = step_at_holds h ∙ rw (reader_plain op_at l) (onward_end _ rest_at e)
 
-    pub step_plain_on : op < tr_number → (get_or s (i + 2) 0 ≡ 10 → ⊥) → read_line step_line (drop i s) ≡ none
-    step_plain_on l n = step_at_holds ∙ rw (reader_plain op l) (onward_on _ (drop (i + 3) s) n)
+  pub step_plain_on : 3 ≤ length s → op_at < tr_number → (stop_at ≡ 10 → ⊥) → read_line step_line s ≡ none
+  step_plain_on h l n = step_at_holds h ∙ rw (reader_plain op_at l) (onward_on _ rest_at n)
 
-    pub step_bare : tr_number ≤ op → (get_or s (i + 2) 0 ≡ 44 → ⊥) → read_line step_line (drop i s) ≡ none
-    step_bare l n = step_at_holds ∙ onward_bare _ (drop (i + 3) s) n (reader_bare op l)
+  pub step_bare : 3 ≤ length s → tr_number ≤ op_at → (stop_at ≡ 44 → ⊥) → read_line step_line s ≡ none
+  step_bare h l n = step_at_holds h ∙ onward_bare _ rest_at n (reader_bare op_at l)
 
-    pub step_fields_holds : get_or s (i + 2) 0 ≡ 44 → (k : ℕ) → op ≡ k
-        → read_line step_line (drop i s) ≡ read_line (step_reader k) (drop (i + 3) s)
-    step_fields_holds e k p =
-        step_at_holds ∙ onward_comma _ (drop (i + 3) s) e ∙ ap (λ x. read_line (step_reader x) (drop (i + 3) s)) p
+  pub step_fields_holds : 3 ≤ length s → stop_at ≡ 44
+      → read_line step_line s ≡ read_line (step_reader op_at) rest_at
+  step_fields_holds h e = step_at_holds h ∙ onward_comma _ rest_at e
 
-    pub step_label : get_or s (i + 2) 0 ≡ 44 → tr_number ≤ op → (op ≡ tr_number → ⊥) → op < al_number
-        → read_line step_line (drop i s) ≡ read_line (label_reader op) (drop (i + 3) s)
-    step_label e l n k = step_fields_holds e op refl ∙ rw (reader_label op l n k)
+  pub step_label : 3 ≤ length s → tr_number < op_at → op_at < al_number → stop_at ≡ 44
+      → read_line step_line s ≡ read_line (label_reader op_at) rest_at
+  step_label h l k e = step_fields_holds h e ∙ rw (reader_label op_at l k)
 
-    pub step_none : get_or s (i + 2) 0 ≡ 44 → al_number ≤ op → (op ≡ al_number → ⊥) → (op ≡ ll_number → ⊥)
-        → (op ≡ ul_number → ⊥) → read_line step_line (drop i s) ≡ none
-    step_none e l k n m =
-        step_fields_holds e op refl
-        ∙ rw (reader_none op l k n m) (line_none _ (λ ts. whole_none _ ts refl) (drop (i + 3) s))
+  pub step_none : 3 ≤ length s → ul_number < op_at → read_line step_line s ≡ none
+  step_none h l = step_at_holds h ∙ rw (reader_none op_at l) (onward_none _ (λ ts. whole_none _ ts refl) _ rest_at)
+
+pub ruleset line_words =
+    (step_short, step_plain, step_plain_on, step_bare, step_fields_holds, step_label, step_none)

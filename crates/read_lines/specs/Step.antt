@@ -1,5 +1,5 @@
--- Hold lines and step lines: what the code's answers say, and the steps by their numbers.
-use Rattle.std.specs.Prelude.{List, [], ◌∷◌, ℕ, eqb, ltb, drop}
+-- Step lines: what the code's answers say, and the steps by their numbers.
+use Rattle.std.specs.Prelude.{List, [], ◌∷◌, ℕ, eqb, ltb, Option as Read, Some, None}
 use Rattle.std.proofs.Math.Option.{Option, none, some}
 use Prim.Native.String.{String}
 use Rattle.request.specs.Range.{label, named_holder}
@@ -8,12 +8,9 @@ use Rattle.request.specs.Request.{Step}
 use Rattle.request.specs.Read.{number, label_set, interval, labelled}
 use Rattle.logic.specs.Interval.{no_interval}
 use Rattle.logic.specs.Choice.{pick}
+use Rattle.step_rows.specs.declared.StepRow.{StepRow}
 use Rattle.step_rows.specs.StepRows.{step_row, step_of, tr_number, al_number, ll_number, ul_number, no_step}
 use Rattle.read_formulas.specs.Line.{lookup}
-use Rattle.read_lines.specs.declared.HoldLine.{HoldLine}
-use Rattle.read_lines.specs.declared.HoldLine.TheVariants.{Serial, Broken as NoHold}
-use Rattle.read_lines.specs.declared.StepLine.{StepLine}
-use Rattle.read_lines.specs.declared.StepLine.TheVariants.{Step as Row, Broken as NoStep}
 
 -- The steps by their numbers
 
@@ -42,12 +39,8 @@ step_reader op =
     (pick (eqb op ll_number) (do l ← number label; s ← label_set; j ← interval; return (Step.ll l s j))
     (pick (eqb op ul_number) (do l ← number label; j ← interval; return (Step.ul l j)) (λ ts. none))))))
 
--- What an answer of the code says of the bytes s
+-- What an answer of the code says of the bytes, where it leaves those of c: the step of its row, and the bytes after it
 
-abbrev pub hold_of : List ℕ → HoldLine → Option (ℕ × List ℕ)
-hold_of s (Serial n i) = some (n, drop i s)
-hold_of s NoHold = none
-
-abbrev pub step_line_of : List ℕ → StepLine → Option (Step × List ℕ)
-step_line_of s (Row r i) = some (step_of r, drop i s)
-step_line_of s NoStep = none
+abbrev pub step_line_of : Read StepRow → List ℕ → Option (Step × List ℕ)
+step_line_of (Some x) c = some (step_of x, c)
+step_line_of None c = none

@@ -1,10 +1,9 @@
 -- What the answers of the readers of several lines come to.
-use mathlib.Core.Path.{◌≡◌, refl, sym, ap, subst, ◌∙◌}
+use mathlib.Core.Path.{◌≡◌, refl, sym, ap, ◌∙◌}
 use mathlib.Core.List.{List}
-use mathlib.Core.Option.{Option, none, some}
-use mathlib.Core.Bool.{Bool}
+use mathlib.Core.Option.{Option, none}
 use Prim.Native.Nat.{ℕ}
-use native.Mathlib.Omega.{arith}
+use Rattle.std.specs.Prelude.{Option as Read, Some, None}
 use lib.ListN.{length}
 use Rattle.request.specs.Request.{Step}
 use Rattle.ledger.specs.Ledger.{is_none}
@@ -12,38 +11,30 @@ use Rattle.ledger.specs.Checks.{◌if◌}
 use Rattle.ledger.proofs.Firsts.{if_true, if_false, if_some, none_there}
 use Rattle.step_rows.specs.LabelRows.{max_holds}
 use Rattle.step_rows.specs.StepRows.{steps_from}
-use Rattle.read_rest.specs.declared.HoldsRead.{HoldsRead}
-use Rattle.read_rest.specs.declared.HoldsRead.TheVariants.{Read, Broken as NoHolds}
-use Rattle.read_rest.specs.declared.StepsRead.TheVariants.{Read as AllRead, Broken as NoSteps}
-use Rattle.read_rest.specs.LinesRead.{holds_check, holds_of, HoldsIs, StepsAre, StepsIs}
+use Rattle.read_rest.specs.declared.Faults.{Faults}
+use Rattle.read_rest.specs.LinesRead.{lines_check, holds_of, HoldsIs, StepsAre, StepsIs}
 
 -- hold lines
-pub holds_told : {q : Option (List ℕ × List ℕ)} {s : List ℕ} {count : ℕ} {serials : List ℕ} (r : HoldsRead)
-    → holds_of s count serials r ≡ q → length serials ≡ max_holds → HoldsIs q s count serials r
+pub holds_told : {q : Option (List ℕ × List ℕ)} {c : List ℕ} {count : ℕ} {serials : List ℕ}
+    (r : Read (Unit {0})) → holds_of c count serials r ≡ q → length serials ≡ max_holds → HoldsIs q c count serials r
 unfolding ◌if◌
-holds_told {q} {s} {count} {serials} r e l =
+holds_told {q} {c} {count} {serials} r e l =
     record { check = go r ∙ ap (λ (o : Option (List ℕ × List ℕ)). 2 if is_none o) e; lines = e; long = l }
   where
-    go : (r : HoldsRead) → holds_check r ≡ (2 if is_none (holds_of s count serials r))
-    go (Read i) = refl
-    go NoHolds = refl
+    go : (r : Read (Unit {0})) → lines_check r ≡ (2 if is_none (holds_of c count serials r))
+    go (Some u) = refl
+    go None = refl
 
 -- step lines: none, or all
 module _ {q : Option (List Step)} {count : ℕ} {rows : List ℕ} where
-  pub none_told : q ≡ none → StepsIs q count rows NoSteps
-  none_told e = record {
-    check = sym (if_true 2 (is_none q) (ap is_none e));
-    lines = λ b x z. absurd (let y : ◌≡◌ {A = ℕ} 0 1 = cc in omega arith);
-  }
+  pub none_told : q ≡ none → StepsIs q count rows None
+  none_told e = record { check = sym (if_true 2 (is_none q) (ap is_none e)); lines = λ f z. absurd (cc) }
 
-  pub all_told : {b x : Bool} → StepsAre q (steps_from rows 0 count) b x → StepsIs q count rows (AllRead b x)
-  all_told {b} {x} h = record {
+  pub all_told : {f : Faults} → StepsAre q (steps_from rows 0 count) f.reversed f.broken → StepsIs q count rows (Some f)
+  all_told {f} h = record {
     check = sym (if_false 2 (is_none q) (ap is_none h.steps));
-    lines = λ c y z.
-        let e : b ≡ c = cc in
-        let f : x ≡ y = cc in
-        rw (← e, ← f) h;
+    lines = λ g z. let e : f ≡ g = cc in rw (← e) h;
   }
 
-  pub no_lines : StepsIs q count rows NoSteps → q ≡ none
+  pub no_lines : StepsIs q count rows None → q ≡ none
   no_lines h = none_there q (if_some 2 (is_none q) (sym h.check))

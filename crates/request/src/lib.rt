@@ -6,7 +6,7 @@ pub mod ranges;
 
 // What a credential is (document 01: a coupon's kind): linear, used just once (s, single-use), or unrestricted, used as
 // often as wanted (r, standing).
-#[derive(Clone, Copy)]
+#[derive(Clone, Copy, PartialEq, Eq)]
 pub enum Kind {
     Linear,
     Unrestricted,

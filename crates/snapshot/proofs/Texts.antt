@@ -25,7 +25,8 @@ use Rattle.request.proofs.LineReaders.{formula_line_exact}
 use Rattle.ledger.specs.Ledger.{Ledger}
 use Rattle.snapshot.specs.declared.Edition.{Edition}
 use Rattle.snapshot.specs.declared.Edition.TheVariants.{First, Second}
-use Rattle.snapshot.specs.Snapshot.{line_count, live_count, Title, title_in, own_edition, edition_fields, title_fields}
+use Rattle.snapshot.specs.declared.Title.{Title}
+use Rattle.snapshot.specs.Snapshot.{line_count, live_count, title_in, own_edition, edition_fields, title_fields}
 use Rattle.snapshot.specs.Snapshot.{credential_fields, texts_in, text, longest_text, counts, edition, title_line}
 use Rattle.snapshot.specs.Snapshot.{credential_line, body, saved_lines, saved_of, same_edition, as_written, snapshot_of}
 use Rattle.snapshot.specs.InForm.{TitleInRange, CredentialInRange, InForm}

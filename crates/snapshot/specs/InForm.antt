@@ -7,7 +7,8 @@ use Rattle.ledger.specs.declared.Credential.{Credential}
 use Rattle.ledger.specs.Ledger.{Ledger}
 use Rattle.ledger.specs.Bounds.{Bounded}
 use Rattle.ledger.specs.Statements.{Pass}
-use Rattle.snapshot.specs.Snapshot.{line_count, live_count, Title, credential_rules, bad_lines}
+use Rattle.snapshot.specs.declared.Title.{Title}
+use Rattle.snapshot.specs.Snapshot.{line_count, live_count, credential_rules, bad_lines}
 
 pub record TitleInRange (h : Title) : Type 0 where
   pub next : h.next in_range next_serial

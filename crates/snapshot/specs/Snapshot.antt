@@ -19,6 +19,7 @@ use Rattle.ledger.specs.Checks.{Check, ◌if◌, first, any_of, max_formulas, ma
 use Rattle.ledger.specs.Checks.{interval_checks}
 use Rattle.snapshot.specs.declared.Edition.{Edition}
 use Rattle.snapshot.specs.declared.Edition.TheVariants.{First, Second}
+use Rattle.snapshot.specs.declared.Title.{Title}
 
 -- The first line
 
@@ -28,13 +29,6 @@ line_count = 0 ‥ max_formulas
 
 abbrev pub live_count : Range
 live_count = 0 ‥ max_live
-
--- what it says: the edition, the next serial, how many formula lines (wordings), how many live credentials (coupons)
-pub record Title : Type 0 where
-  pub edition : Edition
-  pub next : ℕ
-  pub lines : ℕ
-  pub live : ℕ
 
 abbrev pub title_in : Edition → Ledger → Title
 title_in e t = record { edition = e; next = t.next; lines = length t.lines; live = length t.live }

@@ -10,10 +10,20 @@ ghost use Rattle.snapshot.specs.Statements.{NumbersApart, OpenAnswers, CloseAnsw
 ghost use Rattle.snapshot.specs.Cases.{M1Texts, TextsOpen, EditionsOpen, Closings};
 
 // The edition of a text, by its first line's second field: `till,1` or `till,2` (document 02, ask 8).
-#[derive(Clone, Copy)]
+#[derive(Clone, Copy, PartialEq, Eq)]
 pub enum Edition {
     First,
     Second,
+}
+
+// What the first line says: the edition, the next serial, how many formula lines (wordings) and how many live
+// credentials (coupons) follow.
+#[derive(Clone, Copy)]
+pub struct Title {
+    pub edition: Edition,
+    pub next: u32,
+    pub lines: u32,
+    pub live: u32,
 }
 
 // A ledger has one text: what is written is read again, and bytes that are opened are those written.

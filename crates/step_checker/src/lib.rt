@@ -10,23 +10,23 @@ ghost use Rattle.step_rows.specs.LabelRows.{label_at, put_label};
 ghost use Rattle.step_rows.specs.StepRows.{max_steps, steps_from};
 ghost use Rattle.step_checker.specs.Cycle.{Fits, PremiseChecked, StepChecked, Answers};
 
-use step_premises::Begun;
+use ledger::Refusal;
 use step_rows::{LabelRows, StepRows};
 use steps::{Plan, Sequent};
 use store::Store;
 
-// Done: the sequent closes; step lines left, next label. Stopped: the refusal's number and its step.
+// A sequent that closes: the step lines left, the next label.
 #[derive(Clone, Copy)]
-enum Outcome {
-    Done(u32, u32),
-    Stopped(u32, u32),
+struct Closed {
+    left: u32,
+    next: u32,
 }
 
-// What the steps of a booking come to: they close the sequent, or they are stopped.
+// Where the steps of a booking are stopped: the refusal's number, and the step that it names.
 #[derive(Clone, Copy)]
-pub enum Checked {
-    Closed,
-    Stopped(u32, u32),
+pub struct Stop {
+    pub refusal: u32,
+    pub step: u32,
 }
 
 // Judges a sequent by the first of the `left` step lines that are not read yet, of `total`.
@@ -39,13 +39,16 @@ fn check_premise(
     left: u32,
     next: u32,
     q: Sequent,
-) -> Outcome
+) -> Result<Closed, Stop>
     requires { Fits total left }
     ensures { PremiseChecked (record { store = store.entry.now; steps = steps.now; total = total })
         left next table.old q result table.new }
 {
     if left == 0 {
-        return Outcome::Stopped(42, total + 1);
+        return Err(Stop {
+            refusal: Refusal::StepsEndApart as u32,
+            step: total + 1,
+        });
     }
     let plan = step_dispatch::rule(store, steps, table, total - left, q);
     check_step(
@@ -71,36 +74,40 @@ fn check_step(
     next: u32,
     r: u64,
     plan: Plan,
-) -> Outcome
+) -> Result<Closed, Stop>
     requires { Fits total left }
     ensures { StepChecked (record { store = store.entry.now; steps = steps.now; total = total })
         left next table.old r plan result table.new }
 {
     let n = total - left;
+    let no_label = Stop {
+        refusal: Refusal::NoLabelLeft as u32,
+        step: n,
+    };
     match plan {
-        Plan::Refused => Outcome::Stopped(40, n),
-        Plan::Closed => Outcome::Done(left, next),
+        Plan::Refused => Err(Stop {
+            refusal: Refusal::StepBreaksRule as u32,
+            step: n,
+        }),
+        Plan::Closed => Ok(Closed { left, next }),
         Plan::One(p) => {
-            let Begun::Begins(q, free) = step_premises::begin(table, next, r, p) else {
-                return Outcome::Stopped(41, n);
+            let Some((q, free)) = step_premises::begin(table, next, r, p) else {
+                return Err(no_label);
             };
             check_premise(store, steps, table, total, left, free, q)
         }
         Plan::Two(p, p2) => {
             // one variable for both premises: a step's frame has one place for it
             let mut begun = step_premises::begin(table, next, r, p);
-            let Begun::Begins(q, free) = begun else {
-                return Outcome::Stopped(41, n);
+            let Some((q, free)) = begun else {
+                return Err(no_label);
             };
-            let first = check_premise(store, steps, table, total, left, free, q);
-            let Outcome::Done(left2, next2) = first else {
-                return first;
+            let first = check_premise(store, steps, table, total, left, free, q)?;
+            begun = step_premises::begin(table, first.next, r, p2);
+            let Some((q2, free2)) = begun else {
+                return Err(no_label);
             };
-            begun = step_premises::begin(table, next2, r, p2);
-            let Begun::Begins(q2, free2) = begun else {
-                return Outcome::Stopped(41, n);
-            };
-            check_premise(store, steps, table, total, left2, free2, q2)
+            check_premise(store, steps, table, total, first.left, free2, q2)
         }
     }
 }
@@ -113,19 +120,17 @@ pub fn check(
     total: u32,
     q: Sequent,
     next: u32,
-) -> Checked
+) -> Result<(), Stop>
     requires { total ≤ max_steps }
     ensures { Answers (check_of (instance_row (row_at store.now)) label_at put_label total
         (steps_from steps.now 0 total) table.old next q) result table.new }
 {
-    let o = check_premise(store, steps, table, total, total, next, q);
-    match o {
-        Outcome::Stopped(c, n) => Checked::Stopped(c, n),
-        Outcome::Done(left, _) => {
-            if left == 0 {
-                return Checked::Closed;
-            }
-            Checked::Stopped(42, total - left + 1)
-        }
+    let closed = check_premise(store, steps, table, total, total, next, q)?;
+    if closed.left == 0 {
+        return Ok(());
     }
+    Err(Stop {
+        refusal: Refusal::StepsEndApart as u32,
+        step: total - closed.left + 1,
+    })
 }

@@ -1,6 +1,6 @@
 -- Plans over rows with holders put in (instance_row), by the rows as they were worded: a step knows its formula's
 -- letter, so which of the row's numbers are parts.
-use mathlib.Core.Path.{◌≡◌, refl, sym, ap, subst, ◌∙◌}
+use mathlib.Core.Path.{◌≡◌, refl, sym, ap, subst}
 use mathlib.Core.Bool.{Bool, true, false, ◌&&◌, ◌||◌}
 use Prim.Native.Nat.{ℕ}
 use Prim.Native.Char.{Char, code}

@@ -11,9 +11,11 @@ ghost use Rattle.step_rows.specs.StepRows.{max_steps, step_row_at, step_at, ax_n
 
 use logic::Window;
 use request::ranges;
-use step_rows::{LabelRows, StepRows, label_rows, lines, ops};
-use step_rules::{instance, left, right};
-use steps::{Goal, Plan, Sequent};
+use step_rows::{LabelRows, StepRows, lines, ops};
+use step_rules::instance;
+use step_rules::left::{self, Left};
+use step_rules::right::Right;
+use steps::{Goal, Hypothesis, Plan, Sequent};
 use store::Store;
 
 // The right steps and `ax`, at the goal of formula n at i.
@@ -32,29 +34,41 @@ fn at_right(
 {
     let k = instance::formula_of(n);
     let s = lines::step_at(steps, at);
-    let d = q.linear;
+    let right = Right {
+        linear: q.linear,
+        principal: Hypothesis {
+            formula: n,
+            interval: i,
+        },
+    };
     let op = s.op;
     match op {
-        ops::OR => right::or(d, store::row_at(store, k)),
-        ops::GR => right::gr(d, store::row_at(store, k)),
-        ops::P1 => right::p1(d, store::row_at(store, k), n, i),
-        ops::P2 => right::p2(d, store::row_at(store, k), n, i),
-        ops::BR => right::br(d, store::row_at(store, k), n, i),
-        ops::HR => right::hr(d, store::row_at(store, k), n),
-        ops::SR => right::sr(d, store::row_at(store, k), n, i),
-        ops::WR => right::wr(d, store::row_at(store, k), n, i),
+        ops::OR => right.or(store::row_at(store, k)),
+        ops::GR => right.gr(store::row_at(store, k)),
+        ops::P1 => {
+            let x = store::row_at(store, k);
+            right.arm(x, x.a)
+        }
+        ops::P2 => {
+            let x = store::row_at(store, k);
+            right.arm(x, x.b)
+        }
+        ops::BR => right.br(store::row_at(store, k)),
+        ops::HR => right.hr(store::row_at(store, k)),
+        ops::SR => right.sr(store::row_at(store, k)),
+        ops::WR => right.wr(store::row_at(store, k)),
         ops::TR => {
             let t = lines::step_at(steps, at);
-            right::tr(d, store::row_at(store, k), n, i, lines::share(t))
+            right.tr(store::row_at(store, k), lines::share(t))
         }
         // `ax`, the last of them
         _ => {
             if ranges::LABELS <= s.label {
                 return Plan::Refused;
             }
-            let h = label_rows::label_at(table, s.label);
+            let h = table[s.label as usize];
             let y = store::row_at(store, instance::formula_of(h.formula));
-            right::ax(d, store::row_at(store, k), n, i, s.label, h, y)
+            right.ax(store::row_at(store, k), s.label, h, y)
         }
     }
 }
@@ -69,45 +83,44 @@ fn at_left(store: &Store, steps: &StepRows, table: &LabelRows, at: u32, q: Seque
     if !step_plans::has(q.linear, s.label) {
         return Plan::Refused;
     }
-    let h = label_rows::label_at(table, s.label);
-    let n = h.formula;
-    let k = instance::formula_of(n);
-    let d = labels::remove(q.linear, s.label);
-    let g = q.goal;
-    let i = h.interval;
+    let held = table[s.label as usize];
+    let k = instance::formula_of(held.formula);
+    let left = Left {
+        linear: labels::remove(q.linear, s.label),
+        goal: q.goal,
+        principal: held,
+    };
     let op = s.op;
     match op {
-        ops::OL => left::ol(d, g, store::row_at(store, k)),
-        ops::W1 => left::w1(d, g, store::row_at(store, k), n, i),
-        ops::W2 => left::w2(d, g, store::row_at(store, k), n, i),
-        ops::BL => left::bl(d, g, store::row_at(store, k), n, i),
-        ops::HL => left::hl(d, g, store::row_at(store, k), n),
-        ops::SL => match g {
+        ops::OL => left.ol(store::row_at(store, k)),
+        ops::W1 => {
+            let x = store::row_at(store, k);
+            left.arm(x, x.a)
+        }
+        ops::W2 => {
+            let x = store::row_at(store, k);
+            left.arm(x, x.b)
+        }
+        ops::BL => left.bl(store::row_at(store, k)),
+        ops::HL => left.hl(store::row_at(store, k)),
+        ops::SL => match q.goal {
             Goal::Holds(_, _) => Plan::Refused,
-            Goal::Affirms(_, v, p) => left::sl(d, g, store::row_at(store, k), n, i, p, v),
+            Goal::Affirms(_, j, p) => left.sl(store::row_at(store, k), p, j),
         },
-        ops::TL => left::tl(d, g, store::row_at(store, k), n, i),
-        ops::PL => left::pl(d, g, store::row_at(store, k), n, i),
+        ops::TL => left.tl(store::row_at(store, k)),
+        ops::PL => left.pl(store::row_at(store, k)),
         ops::AL => {
             let t = lines::step_at(steps, at);
-            left::al(d, g, store::row_at(store, k), i, t.low)
+            left.al(store::row_at(store, k), t.low)
         }
         ops::LL => {
             let t = lines::step_at(steps, at);
-            left::ll(
-                d,
-                g,
-                store::row_at(store, k),
-                n,
-                i,
-                lines::share(t),
-                t.interval,
-            )
+            left.ll(store::row_at(store, k), lines::share(t), t.interval)
         }
         // `ul`; a row with a number past it reads as `ul` too
         _ => {
             let t = lines::step_at(steps, at);
-            left::ul(d, g, store::row_at(store, k), n, i, t.interval)
+            left.ul(store::row_at(store, k), t.interval)
         }
     }
 }
@@ -126,7 +139,9 @@ pub fn rule(store: &Store, steps: &StepRows, table: &LabelRows, at: u32, q: Sequ
     match op {
         ops::AF => match g {
             Goal::Holds(_, _) => Plan::Refused,
-            Goal::Affirms(n, i, _) => step_plans::goal(true, q.linear, n, i),
+            Goal::Affirms(formula, interval, _) => {
+                step_plans::goal(true, q.linear, Hypothesis { formula, interval })
+            }
         },
         ops::OR..=ops::AX => match g {
             Goal::Holds(n, i) => at_right(store, steps, table, at, q, n, i),

@@ -1,21 +1,14 @@
 -- Laws of plans that stand under a test, and of tests for labels.
 use mathlib.Core.Path.{◌≡◌, refl, sym, ◌∙◌}
-use mathlib.Core.Bool.{Bool, true, false, not, ◌&&◌}
+use mathlib.Core.Bool.{Bool, true, false, not}
 use Prim.Native.Nat.{ℕ, ◌^◌, ◌≤◌, ◌<◌}
 use native.Mathlib.Omega.{arith}
 use borrow.Author.Tests.{ne_eqb, not-true, not-false}
 use lib.Pow.{pow_mono}
 use Rattle.labels.specs.Labels.{member, is_just}
 use Rattle.labels.proofs.Sets.{member_below}
-use Rattle.steps.specs.declared.Plan.{Plan}
 use Rattle.steps.specs.declared.Plan.TheVariants.{Refused}
 use Rattle.steps.specs.Plans.{when}
-
--- one test after another
-pub when_and : (a b : Bool) (p : Plan) → when (a && b) p ≡ when a (when b p)
-unfolding when
-when_and true b p = refl
-when_and false b p = refl
 
 pub when_refused : (b : Bool) → when b Refused ≡ Refused
 unfolding when

@@ -1,16 +1,18 @@
-// Plans under a test, by the numbers that they are made of, and the test for a label. Steps make their plans of these,
-// so that none builds a nested value itself.
+// Plans under a test, by what they are made of, and the test for a label. Steps make their plans of these, so that none
+// builds a nested value itself. D and the goal stand side by side here alone: these functions put them into a
+// `Premise`.
 #![tactic(auto)]
 
 ghost use Rattle.std.specs.Prelude.{◌≡◌};
 ghost use Rattle.labels.specs.Labels.{member};
-ghost use Rattle.steps.specs.Plans.{when as when_of, premise as premise_of, ◌over◌};
+ghost use Rattle.steps.specs.Plans.{when as when_of, premise as premise_of};
+ghost use Rattle.step_plans.specs.Goals.{proves};
 
-use logic::Window;
 use request::ranges;
 use steps::{Fresh, Goal, Hypothesis, Plan, Premise};
 
 // The plan where the test holds.
+#[tactic(auto, unfolding(steps::specs::Plans::when))]
 pub fn when(b: bool, p: Plan) -> Plan
     ensures { result ≡ when_of b p }
 {
@@ -18,47 +20,35 @@ pub fn when(b: bool, p: Plan) -> Plan
 }
 
 // Label k is in d; no number past the last label is.
+#[tactic(auto, using(crate::proofs::PlanTests::no_member))]
 pub fn has(d: u64, k: u32) -> bool
     ensures { result ≡ member d k }
 {
-    if ranges::LABELS <= k {
-        return false;
-    }
-    labels::member(d, k)
+    k < ranges::LABELS && labels::member(d, k)
 }
 
-fn premise(d: u64, goal: Goal, fresh: Fresh) -> Premise
-    ensures { result ≡ premise_of d goal fresh }
+fn premise(linear: u64, goal: Goal, fresh: Fresh) -> Premise
+    ensures { result ≡ premise_of linear goal fresh }
 {
     Premise {
-        linear: d,
-        goal: goal,
-        fresh: fresh,
+        linear,
+        goal,
+        fresh,
     }
 }
 
-// Formula n at i.
-fn over(n: u32, i: Window) -> Hypothesis
-    ensures { result ≡ n over i }
+// A premise with the goal of the formula at the interval that h has, which takes no label.
+fn proving(d: u64, h: Hypothesis) -> Premise
+    ensures { result ≡ premise_of d (proves h) Fresh.Nothing }
 {
-    Hypothesis {
-        formula: n,
-        interval: i,
-    }
+    premise(d, Goal::Holds(h.formula, h.interval), Fresh::Nothing)
 }
 
-// A premise with the goal of formula n at i, which takes no label.
-fn proving(d: u64, n: u32, i: Window) -> Premise
-    ensures { result ≡ premise_of d (Goal.Holds n i) Fresh.Nothing }
+// A premise with a new linear label, for h.
+fn assuming(d: u64, g: Goal, h: Hypothesis) -> Premise
+    ensures { result ≡ premise_of d g (Fresh.Linear h) }
 {
-    premise(d, Goal::Holds(n, i), Fresh::Nothing)
-}
-
-// A premise with a new linear label, for formula n at i.
-fn assuming(d: u64, g: Goal, n: u32, i: Window) -> Premise
-    ensures { result ≡ premise_of d g (Fresh.Linear (n over i)) }
-{
-    premise(d, g, Fresh::Linear(over(n, i)))
+    premise(d, g, Fresh::Linear(h))
 }
 
 // A premise, and what takes new labels in it.
@@ -68,54 +58,54 @@ pub fn one(b: bool, d: u64, g: Goal, fresh: Fresh) -> Plan
     when(b, Plan::One(premise(d, g, fresh)))
 }
 
-// The goal of formula n at i.
-pub fn goal(b: bool, d: u64, n: u32, i: Window) -> Plan
-    ensures { result ≡ when_of b (Plan.One (premise_of d (Goal.Holds n i) Fresh.Nothing)) }
+// The goal of the formula at the interval that h has.
+pub fn goal(b: bool, d: u64, h: Hypothesis) -> Plan
+    ensures { result ≡ when_of b (Plan.One (premise_of d (proves h) Fresh.Nothing)) }
 {
-    when(b, Plan::One(proving(d, n, i)))
+    when(b, Plan::One(proving(d, h)))
 }
 
-// The goals of formulas m and n at i, from d and from e.
-pub fn goals(b: bool, d: u64, m: u32, e: u64, n: u32, i: Window) -> Plan
-    ensures { result ≡ when_of b (Plan.Two (premise_of d (Goal.Holds m i) Fresh.Nothing)
-        (premise_of e (Goal.Holds n i) Fresh.Nothing)) }
+// Such goals of h and of k, from d and from e.
+pub fn goals(b: bool, d: u64, h: Hypothesis, e: u64, k: Hypothesis) -> Plan
+    ensures { result ≡ when_of b (Plan.Two (premise_of d (proves h) Fresh.Nothing)
+        (premise_of e (proves k) Fresh.Nothing)) }
 {
-    when(b, Plan::Two(proving(d, m, i), proving(e, n, i)))
+    when(b, Plan::Two(proving(d, h), proving(e, k)))
 }
 
-// A new linear label, for formula n at i.
-pub fn linear(b: bool, d: u64, g: Goal, n: u32, i: Window) -> Plan
-    ensures { result ≡ when_of b (Plan.One (premise_of d g (Fresh.Linear (n over i)))) }
+// A new linear label, for h.
+pub fn linear(b: bool, d: u64, g: Goal, h: Hypothesis) -> Plan
+    ensures { result ≡ when_of b (Plan.One (premise_of d g (Fresh.Linear h))) }
 {
-    when(b, Plan::One(assuming(d, g, n, i)))
+    when(b, Plan::One(assuming(d, g, h)))
 }
 
-// Two new linear labels in one premise, for formulas m and n at i.
-pub fn both(b: bool, d: u64, g: Goal, m: u32, n: u32, i: Window) -> Plan
-    ensures { result ≡ when_of b (Plan.One (premise_of d g (Fresh.Both (m over i) (n over i)))) }
+// Two new linear labels in one premise, for h and for k.
+pub fn both(b: bool, d: u64, g: Goal, h: Hypothesis, k: Hypothesis) -> Plan
+    ensures { result ≡ when_of b (Plan.One (premise_of d g (Fresh.Both h k))) }
 {
-    one(b, d, g, Fresh::Both(over(m, i), over(n, i)))
+    when(b, Plan::One(premise(d, g, Fresh::Both(h, k))))
 }
 
-// A new unrestricted label, for formula n at i.
-pub fn unrestricted(b: bool, d: u64, g: Goal, n: u32, i: Window) -> Plan
-    ensures { result ≡ when_of b (Plan.One (premise_of d g (Fresh.Unrestricted (n over i)))) }
+// A new unrestricted label, for h.
+pub fn unrestricted(b: bool, d: u64, g: Goal, h: Hypothesis) -> Plan
+    ensures { result ≡ when_of b (Plan.One (premise_of d g (Fresh.Unrestricted h))) }
 {
-    one(b, d, g, Fresh::Unrestricted(over(n, i)))
+    when(b, Plan::One(premise(d, g, Fresh::Unrestricted(h))))
 }
 
-// Two premises, each with a new linear label: for formula m at i, for formula n at i.
-pub fn arms(b: bool, d: u64, g: Goal, m: u32, n: u32, i: Window) -> Plan
-    ensures { result ≡ when_of b (Plan.Two (premise_of d g (Fresh.Linear (m over i)))
-        (premise_of d g (Fresh.Linear (n over i)))) }
+// Two premises, each with a new linear label: for h, for k.
+pub fn arms(b: bool, d: u64, g: Goal, h: Hypothesis, k: Hypothesis) -> Plan
+    ensures { result ≡ when_of b (Plan.Two (premise_of d g (Fresh.Linear h))
+        (premise_of d g (Fresh.Linear k))) }
 {
-    when(b, Plan::Two(assuming(d, g, m, i), assuming(d, g, n, i)))
+    when(b, Plan::Two(assuming(d, g, h), assuming(d, g, k)))
 }
 
-// The goal of formula m at j, from s; then the goal g from d, with a new linear label for formula n at j.
-pub fn applied(b: bool, s: u64, m: u32, d: u64, g: Goal, n: u32, j: Window) -> Plan
-    ensures { result ≡ when_of b (Plan.Two (premise_of s (Goal.Holds m j) Fresh.Nothing)
-        (premise_of d g (Fresh.Linear (n over j)))) }
+// The goal of h, from s; then the goal g from d, with a new linear label for k.
+pub fn applied(b: bool, s: u64, h: Hypothesis, d: u64, g: Goal, k: Hypothesis) -> Plan
+    ensures { result ≡ when_of b (Plan.Two (premise_of s (proves h) Fresh.Nothing)
+        (premise_of d g (Fresh.Linear k))) }
 {
-    when(b, Plan::Two(proving(s, m, j), assuming(d, g, n, j)))
+    when(b, Plan::Two(proving(s, h), assuming(d, g, k)))
 }

@@ -1,21 +1,15 @@
 // What a premise takes as it begins: its new labels.
 #![tactic(auto)]
 
-ghost use Rattle.std.specs.Prelude.{◌≡◌};
+ghost use Rattle.std.specs.Prelude.{◌≡◌, ◌+◌, ◌≤◌, ◌<◌, MatchOption};
+ghost use Rattle.request.specs.Range.{label_count};
 ghost use Rattle.steps.specs.Check.{begin as begin_of};
 ghost use Rattle.step_rows.specs.LabelRows.{put_label};
 ghost use Rattle.step_premises.specs.Begin.{told_begun, sequent as sequent_of};
 
 use request::ranges;
-use step_rows::{LabelRows, label_rows};
+use step_rows::LabelRows;
 use steps::{Fresh, Goal, Premise, Sequent};
-
-// No label is left, or the premise's sequent and the next label.
-#[derive(Clone, Copy)]
-pub enum Begun {
-    Full,
-    Begins(Sequent, u32),
-}
 
 // The goal is made anew, case by case: copied whole, its bytes would be read back in other parts than they were
 // written.
@@ -36,43 +30,48 @@ fn sequent(r: u64, d: u64, g: Goal) -> Sequent
     }
 }
 
-// New labels go from `next` on; r are the unrestricted labels of the step's sequent.
-pub fn begin(table: &mut LabelRows, next: u32, r: u64, p: Premise) -> Begun
+// The label after `count` more from `next` on, if there is room for them.
+fn room(next: u32, count: u32) -> Option<u32>
+    requires { count ≤ 2 }
+    ensures { MatchOption result (label_count < next + count)
+        (λ after. (after ≡ next + count) × (after ≤ label_count)) }
+{
+    if next <= ranges::LABELS - count {
+        Some(next + count)
+    } else {
+        None
+    }
+}
+
+// The premise's sequent and the next label, if there is room for the premise's labels. They go from `next` on; r are
+// the unrestricted labels of the step's sequent. It is compiled apart, so that a step's frame stays small.
+#[inline(never)]
+pub fn begin(table: &mut LabelRows, next: u32, r: u64, p: Premise) -> Option<(Sequent, u32)>
     ensures { told_begun result table.new ≡ begin_of put_label table.old next r p }
 {
-    let fresh = p.fresh;
     let d = p.linear;
     let g = p.goal;
-    match fresh {
+    match p.fresh {
         Fresh::Nothing => {
-            if ranges::LABELS < next {
-                return Begun::Full;
-            }
-            Begun::Begins(sequent(r, d, g), next)
+            let after = room(next, 0)?;
+            Some((sequent(r, d, g), after))
         }
         Fresh::Linear(h) => {
-            if ranges::LABELS <= next {
-                return Begun::Full;
-            }
-            label_rows::put_label(table, next, h);
-            Begun::Begins(sequent(r, labels::insert(d, next), g), next + 1)
+            let after = room(next, 1)?;
+            table[next as usize] = h;
+            Some((sequent(r, labels::insert(d, next), g), after))
         }
         Fresh::Both(h, k) => {
-            let full = ranges::LABEL_LAST <= next;
-            if full {
-                return Begun::Full;
-            }
-            label_rows::put_label(table, next, h);
-            label_rows::put_label(table, next + 1, k);
-            let d2 = labels::insert(labels::insert(d, next), next + 1);
-            Begun::Begins(sequent(r, d2, g), next + 2)
+            let after = room(next, 2)?;
+            table[next as usize] = h;
+            table[next as usize + 1] = k;
+            let both = labels::insert(labels::insert(d, next), next + 1);
+            Some((sequent(r, both, g), after))
         }
         Fresh::Unrestricted(h) => {
-            if ranges::LABELS <= next {
-                return Begun::Full;
-            }
-            label_rows::put_label(table, next, h);
-            Begun::Begins(sequent(labels::insert(r, next), d, g), next + 1)
+            let after = room(next, 1)?;
+            table[next as usize] = h;
+            Some((sequent(labels::insert(r, next), d, g), after))
         }
     }
 }

@@ -1,19 +1,29 @@
-// The rows of numbers that the step checker works on: labels, step lines, held serials. specs/ says how each is
-// read.
+// What the step checker works on: the table of labels, and rows of numbers, step lines and held serials. specs/ says
+// how each is read.
 #![tactic(auto)]
 
-pub mod label_rows;
 pub mod lines;
 pub mod ops;
 
+use logic::Interval;
 use request::ranges;
+use steps::Hypothesis;
 
-// What each label stands for, five numbers a label.
-pub const LABEL_WIDTH: usize = 5;
+// What each label stands for.
+pub const LABELS: usize = ranges::LABELS as usize;
 
-pub const LABEL_CELLS: usize = ranges::LABELS as usize * LABEL_WIDTH;
+pub type LabelRows = [Hypothesis; LABELS];
 
-pub type LabelRows = [u32; LABEL_CELLS];
+// What stands at a label that is not taken.
+pub const NO_HYPOTHESIS: Hypothesis = Hypothesis {
+    formula: 0,
+    interval: Interval {
+        from: 0,
+        to: 0,
+        first: 0,
+        last: 0,
+    },
+};
 
 // The step lines of a booking, eight numbers a step.
 pub const STEP_WIDTH: usize = 8;

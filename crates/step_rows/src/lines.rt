@@ -3,7 +3,6 @@ ghost use Rattle.std.specs.Prelude.{◌≡◌, ◌<◌};
 ghost use Rattle.step_rows.specs.StepRows.{max_steps, share as share_of, step_row_at, put_step_row};
 
 use crate::{STEP_WIDTH, StepRow, StepRows};
-use logic::Interval;
 
 // A set of labels is kept as two numbers, high and low, each below this.
 pub const HALF: u64 = 4_294_967_296;
@@ -16,6 +15,7 @@ pub fn share(r: StepRow) -> u64
 }
 
 // The row of step k, from 0.
+#[tactic(auto, unfolding(crate::specs::StepRows::step_row_at))]
 pub fn step_at(steps: &StepRows, k: u32) -> StepRow
     requires { k < max_steps }
     ensures { result ≡ step_row_at steps.now k }
@@ -26,27 +26,19 @@ pub fn step_at(steps: &StepRows, k: u32) -> StepRow
         label: steps[at + 1],
         high: steps[at + 2],
         low: steps[at + 3],
-        interval: Interval {
-            from: steps[at + 4],
-            to: steps[at + 5],
-            first: steps[at + 6],
-            last: steps[at + 7],
-        },
+        interval: intervals::read(steps, at + 4),
     }
 }
 
+#[tactic(auto, unfolding(crate::specs::StepRows::put_step_row))]
 pub fn put_step(steps: &mut StepRows, k: u32, r: StepRow)
     requires { k < max_steps }
     ensures { steps.new ≡ put_step_row steps.old k r }
 {
     let at = (k as usize) * STEP_WIDTH;
-    let i = r.interval;
     steps[at] = r.op;
     steps[at + 1] = r.label;
     steps[at + 2] = r.high;
     steps[at + 3] = r.low;
-    steps[at + 4] = i.from;
-    steps[at + 5] = i.to;
-    steps[at + 6] = i.first;
-    steps[at + 7] = i.last;
+    intervals::put(steps, at + 4, r.interval);
 }

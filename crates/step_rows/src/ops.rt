@@ -1,5 +1,6 @@
 // The numbers of the steps, as rows keep them: `af`; the right steps and `ax`; `cp`; the left steps, of which the last
-// two choose an interval. Their words are in crate read_lines.
+// two choose an interval. Their words are in crate read_lines. They stay numbers: a rule of the project asks for one
+// match over a step's number, with ranges, and step rows stand in the block of numbers that C lends.
 pub const AF: u32 = 0;
 
 pub const OR: u32 = 1;

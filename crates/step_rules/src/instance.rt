@@ -1,8 +1,10 @@
 // Formulas after a holder is put in (document 02, ask 7), by number: steps/specs/Instance.antt.
 ghost use Rattle.std.specs.Prelude.{◌≡◌, ◌≤◌};
 ghost use Rattle.steps.specs.Instance.{◌for◌, formula_of, holder_of, holder_by};
+ghost use Rattle.step_rules.specs.Parts.{part, part_at};
 
-use steps::letters;
+use logic::Window;
+use steps::{Hypothesis, letters};
 
 // Formulas' own numbers are below this; the holder that was put in is how often it goes into a number.
 const RADIX: u32 = 1_024;
@@ -27,6 +29,23 @@ pub fn part_of(n: u32, m: u32) -> u32
     ensures { result ≡ n for (holder_of m) }
 {
     n % RADIX + m / RADIX * RADIX
+}
+
+// The part n of the formula of h, at j.
+pub fn part_at(n: u32, h: Hypothesis, j: Window) -> Hypothesis
+    ensures { result ≡ part_at n h j }
+{
+    Hypothesis {
+        formula: part_of(n, h.formula),
+        interval: j,
+    }
+}
+
+// The part n of the formula of h, at its interval.
+pub fn part(n: u32, h: Hypothesis) -> Hypothesis
+    ensures { result ≡ part n h }
+{
+    part_at(n, h, h.interval)
 }
 
 // The holder k of a row with this letter, in the formula with the number m: an `n` with holder 0 has the one that was

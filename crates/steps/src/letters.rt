@@ -1,4 +1,5 @@
-// The letters of formula lines (document 01: wordings), as `row_of` in ledger/specs/Table.antt has them.
+// The letters of formula lines (document 01: wordings), as `row_of` in ledger/specs/Table.antt has them. They stay
+// numbers: by that definition a row has its letter's byte, and rows stand in the block of numbers that C lends.
 pub const ATOM: u32 = b'a' as u32;
 
 pub const ONE: u32 = b'o' as u32;

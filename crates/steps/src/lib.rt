@@ -6,7 +6,7 @@ pub mod letters;
 
 // A formula's line as a row: the letter's byte and its fields, two numbers, the holder of an atom that carries one
 // (document 02, ask 7) and intervals; 0, and 0 to 0, where it has none.
-#[derive(Clone, Copy)]
+#[derive(Clone, Copy, PartialEq, Eq)]
 pub struct Row {
     pub letter: u32,
     pub a: u32,

@@ -2,7 +2,7 @@
 -- leave.
 use Rattle.std.specs.Prelude.{◌≡◌, List, Bool, ℕ, ◌≤◌, ◌<◌, length}
 use Rattle.std.proofs.Math.Option.{some}
-use Rattle.logic.specs.Formula.{size, plain, bit, unbound, quantified}
+use Rattle.logic.specs.Formula.{Formula, size, plain, bit, unbound, quantified}
 use Rattle.logic.specs.Counts.{balanced}
 use Rattle.request.specs.Range.{serial}
 use Rattle.steps.specs.declared.Row.{Row}
@@ -16,6 +16,7 @@ use Rattle.store.specs.Chain.{Chained}
 use Rattle.store.specs.Groups.{Grouped}
 use Rattle.logic.specs.Span.{Spans}
 use Rattle.logic.specs.Packed.{counts}
+use Rattle.store_cells.specs.declared.lines.Facts.{Facts}
 use Rattle.store_cells.specs.Layout.{cells, max_rows, line_count, live_count, next_serial, row_count, row_at, size_at}
 use Rattle.store_cells.specs.Layout.{plain_at}
 use Rattle.store_cells.specs.Layout.{balanced_at, unbound_at, quantified_at, low_at, high_at, gives_at, credential_at}
@@ -28,7 +29,8 @@ ledger_of l = record {
   next = next_serial l;
 }
 
--- the row of a line, no other numbers in it
+-- the row of a line, no other numbers in it; a clause, and no invariant of `Row`, for rows are read from numbers that C
+-- lends, of which `Good` alone says it
 abbrev pub Canonical : Row → Type 0
 Canonical r = row_of (line_of r) ≡ r
 
@@ -43,7 +45,10 @@ pub record RowsOrdered (l : List ℕ) : Type 0 where
   pub chained : Chained l (row_count l)
 
 -- A store that calls made: what is kept beside the lines is right, and the ledger has what every ledger that calls gave
--- has (`bounded`): lines name earlier lines, serials rise and are below the next, sizes are at most 64.
+-- has (`bounded`): lines name earlier lines, serials rise and are below the next, sizes are at most 64. It stays a
+-- clause of contracts. As a ghost field of a struct it is refused, since nothing proves that it has but one proof; as
+-- the invariant of a model it is known only where a field is opened, so that each function would have to ensure it;
+-- both were tried. And of the array that C lends no such struct is made without a copy.
 pub record Good (l : List ℕ) : Type 0 where
   pub long : length l ≡ cells
   pub lines : line_count l ≤ max_formulas
@@ -64,22 +69,25 @@ pub record StandsFor (l : List ℕ) (t : Ledger) : Type 0 where
   pub good : Good l
   pub ledger : ledger_of l ≡ t
 
--- what the checks of a formula line have found before its row is added, with its formula's size, whether it is plain,
--- balanced, has an unbound holder and has a `q`, two numbers between which its sessions are, and what it gives of the
--- lower one
-pub record Wordable (l : List ℕ) (r : Row) (s : ℕ) (p b u q : Bool) (low high gives : ℕ) : Type 0 where
+-- what is kept of a formula: its size, whether it is plain, balanced, has an unbound holder and has a `q`, two numbers
+-- between which its sessions are, and what it gives of the lower one
+pub record FactsOf (a : Formula) (v : Facts) : Type 0 where
+  pub sized : v.size ≡ size a
+  pub plain_kept : v.plain ≡ plain a
+  pub balancedly : v.balanced ≡ balanced a
+  pub unbound_kept : v.unbound ≡ unbound a
+  pub quantified_kept : v.quantified ≡ quantified a
+  pub spanned : Spans a v.low v.high
+  pub given : v.gives ≡ counts v.low a
+
+-- what the checks of a formula line have found before its row is added, with what is to be kept of its formula
+pub record Wordable (l : List ℕ) (r : Row) (v : Facts) : Type 0 where
   pub good : Good l
   pub room : length (ledger_of l).lines < max_formulas
   pub canonical : Canonical r
   pub there : There (ledger_of l) (names (line_of r))
-  pub sized : s ≡ size (form (formula (ledger_of l)) (line_of r))
-  pub plain_kept : p ≡ plain (form (formula (ledger_of l)) (line_of r))
-  pub balancedly : b ≡ balanced (form (formula (ledger_of l)) (line_of r))
-  pub unbound_kept : u ≡ unbound (form (formula (ledger_of l)) (line_of r))
-  pub quantified_kept : q ≡ quantified (form (formula (ledger_of l)) (line_of r))
-  pub small : s ≤ max_size
-  pub spanned : Spans (form (formula (ledger_of l)) (line_of r)) low high
-  pub given : gives ≡ counts low (form (formula (ledger_of l)) (line_of r))
+  pub facts : FactsOf (form (formula (ledger_of l)) (line_of r)) v
+  pub small : v.size ≤ max_size
 
 -- what the checks of an issue or a booking have found before a credential of formula n is given
 pub record Givable (l : List ℕ) (n : ℕ) : Type 0 where

@@ -25,6 +25,7 @@ use Rattle.store_cells.specs.Layout.{line_cell, row_at, size_at, plain_at, balan
 use Rattle.store_cells.specs.Layout.{credential_from, credential_at, gap_at, entry_at, link_base, link_at}
 use Rattle.store_cells.specs.Layout.{low_cell, high_cell, gives_cell, low_at, high_at, gives_at}
 use Rattle.store_cells.specs.Layout.{group_base, groups, group_width, group_at}
+use Rattle.store_cells.specs.declared.lines.Facts.{Facts}
 use Rattle.store_cells.proofs.Cells.{length_put_row, row_same, row_other, put_below, put_above}
 
 -- a row is known by its cells
@@ -219,39 +220,39 @@ count_live l m v s = record {
 }
 
 -- A formula row is put.
-module _ (m : List ℕ) (i : ℕ) (r : Row) (s : ℕ) (p b u q : Bool) (low high gives : ℕ) where
+module _ (m : List ℕ) (i : ℕ) (r : Row) (v : Facts) where
   pub line_same : length m ≡ cells → i < max_formulas → (f : ℕ) → f < line_width
-      → line_cell (put_line m i r s p b u q low high gives) i f ≡ get_or (line_cells r s p b u q low high gives) f 0
+      → line_cell (put_line m i r v) i f ≡ get_or (line_cells r v) f 0
   unfolding line_cell put_line
   line_same n h f x =
-      row_same m line_base line_width i (line_cells r s p b u q low high gives) f (omega arith) (omega arith)
+      row_same m line_base line_width i (line_cells r v) f (omega arith) (omega arith)
 
   pub line_other : (k f : ℕ) → (k ≡ i → ⊥) → f < line_width
-      → line_cell (put_line m i r s p b u q low high gives) k f ≡ line_cell m k f
+      → line_cell (put_line m i r v) k f ≡ line_cell m k f
   unfolding line_cell put_line
-  line_other k f h x = row_other m line_base line_width i (line_cells r s p b u q low high gives) (omega arith) k f h x
+  line_other k f h x = row_other m line_base line_width i (line_cells r v) (omega arith) k f h x
 
-  pub line_group : i < max_formulas → (g w : ℕ) → group_at (put_line m i r s p b u q low high gives) g w
+  pub line_group : i < max_formulas → (g w : ℕ) → group_at (put_line m i r v) g w
       ≡ group_at m g w
   unfolding group_at cell put_line
   line_group h g w =
-      put_above m line_base line_width i (line_cells r s p b u q low high gives) (group_base + g * group_width + w)
+      put_above m line_base line_width i (line_cells r v) (group_base + g * group_width + w)
       (omega arith)
 
-  line_before : (k : ℕ) → k < line_base → get_or (put_line m i r s p b u q low high gives) k 0 ≡ get_or m k 0
+  line_before : (k : ℕ) → k < line_base → get_or (put_line m i r v) k 0 ≡ get_or m k 0
   unfolding put_line
-  line_before k h = put_below m line_base line_width i (line_cells r s p b u q low high gives) k h
+  line_before k h = put_below m line_base line_width i (line_cells r v) k h
 
-  pub line_live : length m ≡ cells → i < max_formulas → SameLive m (put_line m i r s p b u q low high gives)
+  pub line_live : length m ≡ cells → i < max_formulas → SameLive m (put_line m i r v)
   unfolding put_line cell link_at
   line_live n h = record {
-    long = length_put_row m line_base line_width i (line_cells r s p b u q low high gives) ∙ n;
+    long = length_put_row m line_base line_width i (line_cells r v) ∙ n;
     count = line_before 1 (omega arith);
     next = line_before 2 (omega arith);
     used = line_before 3 (omega arith);
     rows = λ k x f y.
-        put_above m line_base line_width i (line_cells r s p b u q low high gives) (credential_place k f) (omega arith);
-    links = λ k. put_above m line_base line_width i (line_cells r s p b u q low high gives) (link_base + k)
+        put_above m line_base line_width i (line_cells r v) (credential_place k f) (omega arith);
+    links = λ k. put_above m line_base line_width i (line_cells r v) (link_base + k)
         (omega arith);
   }
 

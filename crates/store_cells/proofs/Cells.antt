@@ -4,13 +4,13 @@ use mathlib.Core.List.{List, [], ◌∷◌}
 use Prim.Native.Nat.{ℕ, suc, ◌+◌, ◌*◌, ◌<◌, ◌≤◌}
 use native.Mathlib.Omega.{arith}
 use native.Mathlib.Nat.{add-suc, mul-le-mul_right, suc-mul}
-use native.Mathlib.Numerals.{add-one, towards_suc}
+use native.Mathlib.Numerals.{add-one}
 use native.Mathlib.Decide.{dec_lt}
 use lib.ListN.{length, get_or, set}
 use lib.Seq.{sets, length-sets}
 use Rattle.logic.specs.declared.Interval.{Interval}
-use Rattle.logic.specs.Interval.{span}
-use Rattle.store_cells.specs.Layout.{cell, put_row, interval_at, interval_cells, put_interval}
+use Rattle.intervals.specs.Numbers.{interval_cells, put_interval}
+use Rattle.store_cells.specs.Layout.{cell, put_row}
 use Rattle.logic.proofs.Stores.{sets_below, sets_above, sets_in}
 
 -- numbers put one by one, each by its place in a row that starts at b, from the k-th on
@@ -29,14 +29,7 @@ row_stored l b v vs = stores_sets (set l b v) b 1 vs ∙ ap (λ (n : ℕ). sets 
 -- an interval, by the places of its numbers in such a row
 pub interval_stored : (l : List ℕ) (v : Interval) {m : List ℕ} (b k : ℕ) → m ≡ put_interval l (b + k) v
     → m ≡ stores l b k (interval_cells v)
-unfolding put_interval
 interval_stored l v b k e = e ∙ sym (stores_sets l b k (interval_cells v))
-
-pub interval_read : (l : List ℕ) {v : Interval} (b k : ℕ) → v ≡ interval_at l (b + k)
-    → v ≡ span (get_or l (b + k) 0) (get_or l (b + suc k) 0) (get_or l (b + suc (suc k)) 0)
-    (get_or l (b + suc (suc (suc k))) 0)
-unfolding interval_at
-interval_read l b k e = e ∙ simp (towards_suc, add-suc)
 
 -- rows do not overlap
 row_gap : (w i k : ℕ) → k < i → k * w + w ≤ i * w

@@ -1,8 +1,11 @@
 -- What a store in a credential row or a hint does to what can be read, as Rows for the rest: the formula
 -- rows stay, and so do the other credential rows.
-use mathlib.Core.Path.{◌≡◌, refl, ap, ◌∙◌}
+use mathlib.Core.Path.{◌≡◌, refl, sym, ap, ◌∙◌}
 use mathlib.Core.List.{List}
-use mathlib.Core.Bool.{true, false}
+use mathlib.Core.Bool.{Bool, true, false}
+use Rattle.std.specs.Prelude.{Option as Maybe, Some, None, is_some, not}
+use Rattle.std.specs.Option.{option_eq}
+use Rattle.logic.specs.Choice.{pick}
 use mathlib.Core.Option.{none, some}
 use Prim.Native.Nat.{ℕ, ◌+◌, ◌%◌, ◌<◌}
 use native.Mathlib.Omega.{arith}
@@ -13,8 +16,10 @@ use lib.Seq.{get_or-set_same, get_or-set_other}
 use Rattle.request.specs.declared.Kind.{Kind}
 use Rattle.request.specs.declared.Kind.TheVariants.{Linear, Unrestricted}
 use Rattle.ledger.specs.declared.Credential.{Credential}
+use Rattle.ledger.specs.Ledger.{is_kind}
 use Rattle.ledger.specs.Checks.{max_formulas}
-use Rattle.store_cells.specs.Layout.{cells, max_rows, cell, kind_from, kind_number, credential_at, gap_at, entry_at}
+use Rattle.store_cells.specs.Layout.{cells, max_rows, cell, kind_from, kind_number, kind_at, credential_at, gap_at}
+use Rattle.store_cells.specs.Layout.{entry_at}
 use Rattle.store_cells.specs.Layout.{credential_base, credential_width, hint_base, gap_kind, credential_cell}
 use Rattle.store_cells.specs.Layout.{credential_place}
 use Rattle.store_cells.specs.Layout.{credential_cells, put_credential, put_gap, put_hint, links, link_base, link_at}
@@ -43,6 +48,49 @@ module _ (l : List ℕ) (i : ℕ) where
   pub entry_there : gap_at l i ≡ false → entry_at l i ≡ some (credential_at l i)
   unfolding entry_at
   entry_there e = rw e
+
+-- The kind of a row: whether the credential has left, and whether it is linear.
+module _ (l : List ℕ) (i : ℕ) {r : Maybe Kind} (e : r ≡ kind_at l i) where
+  abbrev kept : ℕ
+  kept = credential_cell l i 1
+
+  some_kind : gap_at l i ≡ not (is_some r)
+  unfolding kind_at gap_at
+  some_kind = go (eqb kept gap_kind) ∙ sym (ap (λ (k : Maybe Kind). not (is_some k)) e)
+    where
+      go : (b : Bool) → b ≡ not (is_some (pick b None (Some (kind_from kept))))
+      go true = refl
+      go false = refl
+
+  -- what `is_some` answers of it, and `is_none`
+  module _ {b : Bool} where
+    pub row_there : b ≡ is_some r → gap_at l i ≡ not b
+    row_there f = some_kind ∙ sym (ap not f)
+
+    pub row_left : is_some r ≡ not b → gap_at l i ≡ b
+    row_left f = some_kind ∙ ap not f ∙ twice b
+      where
+        twice : (b : Bool) → not (not b) ≡ b
+        twice true = refl
+        twice false = refl
+
+  -- it is some linear kind, by a comparison that tells the two apart
+  module _ (same : Kind → Kind → Bool) (p : same Linear Linear ≡ true) (q : same Unrestricted Linear ≡ false) where
+    abbrev is_linear : Maybe Kind → Bool
+    is_linear k = option_eq same k (Some Linear)
+
+    pub linear_kind : is_linear r ≡ is_kind Linear (credential_at l i).kind
+    unfolding kind_at credential_at
+    linear_kind = ap is_linear e ∙ go (eqb kept gap_kind) refl
+      where
+        one : (b : Bool) → same (pick b Linear Unrestricted) Linear ≡ is_kind Linear (pick b Linear Unrestricted)
+        one true = p
+        one false = q
+
+        go : (b : Bool) → eqb kept gap_kind ≡ b
+            → is_linear (pick b None (Some (kind_from kept))) ≡ is_kind Linear (kind_from kept)
+        go true z = sym (ap (λ (n : ℕ). is_kind Linear (kind_from n)) (eqb-true kept gap_kind z))
+        go false z = one (eqb kept 0)
 
 -- A link is put: all else stays, the other links too.
 module _ (m : List ℕ) (k v : ℕ) where

@@ -30,6 +30,7 @@
 --                      its last row, a row's link to the row before it of the same formula; a link is the row's number
 --                      and one, or 0 where there is none. So a link is itself the number of the link that comes next
 use Rattle.std.specs.Prelude.{List, [], ◌∷◌, Bool, ℕ, ◌+◌, ◌*◌, ◌/◌, ◌%◌, eqb, ltb, get_or, set}
+use Rattle.std.specs.Prelude.{Option as Maybe, Some, None}
 use Rattle.std.proofs.Math.Option.{Option, none, some}
 use Rattle.std.proofs.lemmas.List.Edits.{sets}
 use Rattle.logic.specs.declared.Interval.{Interval}
@@ -44,6 +45,9 @@ use Rattle.ledger.specs.declared.Credential.{Credential}
 use Rattle.ledger.specs.Table.{row_of}
 use Rattle.ledger.specs.Checks.{max_formulas, max_live}
 use Rattle.logic.specs.Choice.{pick}
+use Rattle.store_cells.specs.declared.head.Number.{Number}
+use Rattle.store_cells.specs.declared.head.Number.TheVariants.{Lines, Live, Next, Rows}
+use Rattle.store_cells.specs.declared.lines.Facts.{Facts}
 
 -- Where each table starts, and how wide its rows are
 
@@ -142,17 +146,19 @@ cell l b w i f = get_or l (b + i * w + f) 0
 unfoldable pub put_row : List ℕ → ℕ → ℕ → ℕ → List ℕ → List ℕ
 put_row l b w i vs = sets l (b + i * w) vs
 
--- The four numbers of an interval, from a place on
-unfoldable pub interval_at : List ℕ → ℕ → Interval
-interval_at l b = span (get_or l b 0) (get_or l (b + 1) 0) (get_or l (b + 2) 0) (get_or l (b + 3) 0)
-
-abbrev pub interval_cells : Interval → List ℕ
-interval_cells v = v.from ∷ v.to ∷ v.first ∷ v.last ∷ []
-
-unfoldable pub put_interval : List ℕ → ℕ → Interval → List ℕ
-put_interval l b v = sets l b (interval_cells v)
-
 -- The counts and the next serial
+
+abbrev pub head_place : Number → ℕ
+head_place Lines = 0
+head_place Live = 1
+head_place Next = 2
+head_place Rows = 3
+
+abbrev pub head_at : List ℕ → Number → ℕ
+head_at l n = get_or l (head_place n) 0
+
+abbrev pub put_head : List ℕ → Number → ℕ → List ℕ
+put_head l n v = set l (head_place n) v
 
 abbrev pub line_count : List ℕ → ℕ
 line_count l = get_or l 0 0
@@ -223,16 +229,28 @@ high_at l n = line_cell l n high_cell
 unfoldable pub gives_at : List ℕ → ℕ → ℕ
 gives_at l n = line_cell l n gives_cell
 
-abbrev pub line_cells : Row → ℕ → Bool → Bool → Bool → Bool → ℕ → ℕ → ℕ → List ℕ
-line_cells r size plain balanced unbound quantified low high gives =
+-- these eight, each bit read as 1 or not
+abbrev pub facts_at : List ℕ → ℕ → Facts
+facts_at l n = record {
+  size = size_at l n;
+  plain = eqb (plain_at l n) 1;
+  balanced = eqb (balanced_at l n) 1;
+  unbound = eqb (unbound_at l n) 1;
+  quantified = eqb (quantified_at l n) 1;
+  low = low_at l n;
+  high = high_at l n;
+  gives = gives_at l n;
+}
+
+abbrev pub line_cells : Row → Facts → List ℕ
+line_cells r k =
     let v = r.first in
     let w = r.second in
     r.letter ∷ r.a ∷ r.b ∷ r.holder ∷ v.from ∷ v.to ∷ v.first ∷ v.last ∷ w.from ∷ w.to ∷ w.first ∷ w.last ∷
-    size ∷ bit plain ∷ bit balanced ∷ bit unbound ∷ bit quantified ∷ low ∷ high ∷ gives ∷ []
+    k.size ∷ bit k.plain ∷ bit k.balanced ∷ bit k.unbound ∷ bit k.quantified ∷ k.low ∷ k.high ∷ k.gives ∷ []
 
-unfoldable pub put_line : List ℕ → ℕ → Row → ℕ → Bool → Bool → Bool → Bool → ℕ → ℕ → ℕ → List ℕ
-put_line l i r size plain balanced unbound quantified low high gives =
-    put_row l line_base line_width i (line_cells r size plain balanced unbound quantified low high gives)
+unfoldable pub put_line : List ℕ → ℕ → Row → Facts → List ℕ
+put_line l i r k = put_row l line_base line_width i (line_cells r k)
 
 -- Groups of sessions
 
@@ -285,6 +303,10 @@ gap_at l i = eqb (credential_cell l i 1) gap_kind
 -- the credential that stands in row i, if it has not left
 unfoldable pub entry_at : List ℕ → ℕ → Option Credential
 entry_at l i = pick (gap_at l i) none (some (credential_at l i))
+
+-- its kind
+unfoldable pub kind_at : List ℕ → ℕ → Maybe Kind
+kind_at l i = let n = credential_cell l i 1 in pick (eqb n gap_kind) None (Some (kind_from n))
 
 abbrev pub credential_cells : Credential → List ℕ
 credential_cells c =

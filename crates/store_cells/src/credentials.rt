@@ -1,23 +1,20 @@
 // The credentials (document 01: the coupons): their rows, the hints and the links.
-ghost use Rattle.std.specs.Prelude.{◌≡◌, ◌≤◌, ◌<◌};
-ghost use Rattle.request.specs.declared.Kind.TheVariants.{Linear};
-ghost use Rattle.ledger.specs.Ledger.{is_kind};
+ghost use Rattle.std.specs.Prelude.{◌≡◌, ◌<◌};
 ghost use Rattle.ledger.specs.Checks.{max_formulas};
-ghost use Rattle.store_cells.specs.Layout.{max_rows};
-ghost use Rattle.store_cells.specs.Layout.{kind_from, kind_number, credential_at, gap_at, put_credential, put_gap};
+ghost use Rattle.store_cells.specs.Layout.{max_rows, links};
+ghost use Rattle.store_cells.specs.Layout.{kind_from, credential_at, kind_at, put_credential, put_gap};
 ghost use Rattle.store_cells.specs.Layout.{hint_at, put_hint, formula_link, link_at, put_link};
 
-use crate::{CREDENTIAL_WIDTH, CREDENTIALS, FORMULA_LINKS, HINTS, LINKS, ROWS, Store, interval};
+use crate::{CREDENTIAL_WIDTH, CREDENTIALS, FORMULA_LINKS, HINTS, LINKS, ROWS, Store};
 use ledger::Credential;
 use request::Kind;
 
 // how a kind is kept: linear, unrestricted, that of a credential that has left
-const LINEAR: u32 = 0;
-
-const UNRESTRICTED: u32 = 1;
+const LINEAR: u32 = Kind::Linear as u32;
 
 const GAP: u32 = 2;
 
+// `From<u32>` would stand beside `Kind` in the crate `request`, which knows no rows.
 fn kind_from(n: u32) -> Kind
     ensures { result ≡ kind_from n }
 {
@@ -28,15 +25,6 @@ fn kind_from(n: u32) -> Kind
     }
 }
 
-fn kind_number(k: Kind) -> u32
-    ensures { result ≡ kind_number k }
-{
-    match k {
-        Kind::Linear => LINEAR,
-        Kind::Unrestricted => UNRESTRICTED,
-    }
-}
-
 pub fn serial(store: &Store, i: u32) -> u32
     requires { i < max_rows }
     ensures { result ≡ (credential_at store.now i).serial }
@@ -44,6 +32,7 @@ pub fn serial(store: &Store, i: u32) -> u32
     store[CREDENTIALS + (i as usize) * CREDENTIAL_WIDTH]
 }
 
+#[tactic(auto, unfolding(crate::specs::Layout::credential_at, crate::specs::Layout::cell))]
 pub fn credential(store: &Store, i: u32) -> Credential
     requires { i < max_rows }
     ensures { result ≡ credential_at store.now i }
@@ -54,23 +43,21 @@ pub fn credential(store: &Store, i: u32) -> Credential
         serial: store[at],
         kind,
         formula: store[at + 2],
-        interval: interval::read(store, at + 3),
+        interval: intervals::read(store, at + 3),
     }
 }
 
-pub fn gap(store: &Store, i: u32) -> bool
+// The kind of the credential of a row, if it has not left: one number is read.
+#[tactic(auto, unfolding(crate::specs::Layout::kind_at, crate::specs::Layout::cell))]
+pub fn kind_at(store: &Store, i: u32) -> Option<Kind>
     requires { i < max_rows }
-    ensures { result ≡ gap_at store.now i }
+    ensures { result ≡ kind_at store.now i }
 {
-    store[CREDENTIALS + (i as usize) * CREDENTIAL_WIDTH + 1] == GAP
-}
-
-// Whether the credential of a row is linear: one number is read.
-pub fn linear(store: &Store, i: u32) -> bool
-    requires { i < max_rows }
-    ensures { result ≡ is_kind Linear (credential_at store.now i).kind }
-{
-    store[CREDENTIALS + (i as usize) * CREDENTIAL_WIDTH + 1] == LINEAR
+    let n = store[CREDENTIALS + (i as usize) * CREDENTIAL_WIDTH + 1];
+    if n == GAP {
+        return None;
+    }
+    Some(kind_from(n))
 }
 
 pub fn put_gap(store: &mut Store, i: u32)
@@ -85,16 +72,15 @@ pub fn put_credential(store: &mut Store, i: u32, c: Credential)
     requires { (i < max_rows) × (c.formula < max_formulas) }
     ensures { store.new ≡ put_credential store.old i c }
 {
-    let last = formula_link(store, c.formula);
-    put_link(store, i + 1, last);
-    put_formula_link(store, c.formula, i + 1);
-    let kind = c.kind;
-    let k = kind_number(kind);
+    let chain = formula_link(c.formula);
+    let last = link(store, chain);
+    put_link(store, i as usize + 1, last);
+    put_link(store, chain, i + 1);
     let at = CREDENTIALS + (i as usize) * CREDENTIAL_WIDTH;
     store[at] = c.serial;
-    store[at + 1] = k;
+    store[at + 1] = c.kind as u32;
     store[at + 2] = c.formula;
-    interval::put(store, at + 3, c.interval);
+    intervals::put(store, at + 3, c.interval);
 }
 
 // The row where the credential of a serial may stand: any number may be answered.
@@ -110,32 +96,26 @@ pub fn put_hint(store: &mut Store, serial: u32, i: u32)
     store[HINTS + (serial % ROWS) as usize] = i;
 }
 
-// The link of the row whose number and one is p.
-pub fn link(store: &Store, p: u32) -> u32
-    requires { p ≤ max_rows }
-    ensures { result ≡ link_at store.now p }
-{
-    store[LINKS + p as usize]
-}
-
-fn put_link(store: &mut Store, p: u32, v: u32)
-    requires { p ≤ max_rows }
-    ensures { store.new ≡ put_link store.old p v }
-{
-    store[LINKS + p as usize] = v;
-}
-
-// The link of a formula.
-pub fn formula_link(store: &Store, n: u32) -> u32
+// The number of a formula's link; that of row i is i + 1.
+pub fn formula_link(n: u32) -> usize
     requires { n < max_formulas }
-    ensures { result ≡ link_at store.now (formula_link n) }
+    ensures { result ≡ formula_link n }
 {
-    store[FORMULA_LINKS + n as usize]
+    FORMULA_LINKS + n as usize
 }
 
-pub fn put_formula_link(store: &mut Store, n: u32, v: u32)
-    requires { n < max_formulas }
-    ensures { store.new ≡ put_link store.old (formula_link n) v }
+#[tactic(auto, unfolding(crate::specs::Layout::link_at))]
+pub fn link(store: &Store, k: usize) -> u32
+    requires { k < links }
+    ensures { result ≡ link_at store.now k }
 {
-    store[FORMULA_LINKS + n as usize] = v;
+    store[LINKS + k]
+}
+
+#[tactic(auto, unfolding(crate::specs::Layout::put_link))]
+pub fn put_link(store: &mut Store, k: usize, v: u32)
+    requires { k < links }
+    ensures { store.new ≡ put_link store.old k v }
+{
+    store[LINKS + k] = v;
 }

@@ -1,13 +1,12 @@
 // The numbers of the ledger's state, read and put: the counts at the head of the array (head.rt), the formula rows
-// (lines.rt), the sets of lines (groups.rt), the credential rows, the hints and the links (credentials.rt), the
-// intervals in rows of both kinds (interval.rt). No other functions know where a number stands in the array.
+// (lines.rt), the sets of lines (groups.rt), the credential rows, the hints and the links (credentials.rt). No other
+// functions know where a number stands in the array.
 // specs/Layout.antt has the layout and its reason.
 #![tactic(auto)]
 
 pub mod credentials;
 pub mod groups;
 pub mod head;
-mod interval;
 pub mod lines;
 
 // where the formula rows start; how many numbers a line has, and what stands after them; how wide a row is
@@ -53,12 +52,13 @@ pub const ROWS: u32 = 2 * ledger::MAX_LIVE;
 // where the hints start
 const HINTS: usize = CREDENTIALS + ROWS as usize * CREDENTIAL_WIDTH;
 
-// where the links start, and those of the formulas after the rows'
+// where the links start, and which of them is the first formula's, after those of the rows
 const LINKS: usize = HINTS + ROWS as usize;
 
-const FORMULA_LINKS: usize = LINKS + 1 + ROWS as usize;
+const FORMULA_LINKS: usize = 1 + ROWS as usize;
 
-// how many numbers there are
-pub const CELLS: usize = FORMULA_LINKS + ledger::MAX_FORMULAS as usize;
+// How many numbers there are. C lends them, so that functions take the array, and beside it the number of a row, a line
+// or a group: a struct of both would be made for one call each.
+pub const CELLS: usize = LINKS + FORMULA_LINKS + ledger::MAX_FORMULAS as usize;
 
 pub type Store = [u32; CELLS];

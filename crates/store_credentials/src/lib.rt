@@ -14,6 +14,7 @@ use ledger::Credential;
 use logic::Interval;
 use request::Kind;
 use store::Store;
+use store_cells::head::Number;
 use store_cells::{credentials, head};
 
 // Gaps that may stand among the rows in use however few are live: moving a handful of rows together is not worth it.
@@ -25,9 +26,9 @@ pub fn remove(store: &mut Store, at: u32)
     ensures { StandsFor store.new (with_live (ledger_of store.old)
         (without_serial (ledger_of store.old).live (credential_at store.old at).serial)) }
 {
-    let n = head::live_count(store);
+    let n = head::read(store, Number::Live);
     credentials::put_gap(store, at);
-    head::put_live_count(store, n - 1);
+    head::put(store, Number::Live, n - 1);
 }
 
 // No row is in the chain of its formula. A number that no line has yet has no chain.
@@ -35,13 +36,11 @@ fn unlink(store: &mut Store)
     requires { Good store.old }
     ensures { Unlinked store.old store.new }
 {
-    let lines = head::line_count(store);
-    let mut n = 0;
-    while n < lines {
-        let k = n;
-        n += 1;
-        if credentials::formula_link(store, k) != 0 {
-            credentials::put_formula_link(store, k, 0);
+    for n in 0..head::read(store, Number::Lines) {
+        let chain = credentials::formula_link(n);
+        let has_chain = credentials::link(store, chain) != 0;
+        if has_chain {
+            credentials::put_link(store, chain, 0);
         }
     }
 }
@@ -52,20 +51,18 @@ fn compact(store: &mut Store)
     ensures { Compacted store.old store.new }
 {
     unlink(store);
-    let used = head::row_count(store);
-    let mut i = 0;
+    let used = head::read(store, Number::Rows);
     let mut k = 0;
-    while i < used {
-        let from = i;
-        i += 1;
-        if !credentials::gap(store, from) {
+    for from in 0..used {
+        let stays = credentials::kind_at(store, from).is_some();
+        if stays {
             let c = credentials::credential(store, from);
             credentials::put_credential(store, k, c);
             credentials::put_hint(store, c.serial, k);
             k += 1;
         }
     }
-    head::put_row_count(store, k);
+    head::put(store, Number::Rows, k);
 }
 
 // A row is free, and going through a formula's rows costs what lives: where all are in use, or most of them are gaps,
@@ -77,8 +74,8 @@ fn make_room(store: &mut Store)
     ensures { StandsFor store.new (ledger_of store.old)
         × (row_count store.new < max_rows) }
 {
-    let used = head::row_count(store);
-    let live = head::live_count(store);
+    let used = head::read(store, Number::Rows);
+    let live = head::read(store, Number::Live);
     if (used == store_cells::ROWS) | (used > 3 * live + SPARE_ROWS) {
         compact(store);
     }
@@ -100,9 +97,9 @@ fn append(store: &mut Store, kind: Kind, formula: u32, interval: Interval)
     ensures { StandsFor store.new
         (with_credential (ledger_of store.old) kind formula interval) }
 {
-    let i = head::row_count(store);
-    let n = head::live_count(store);
-    let serial = head::next(store);
+    let i = head::read(store, Number::Rows);
+    let n = head::read(store, Number::Live);
+    let serial = head::read(store, Number::Next);
     let c = Credential {
         serial,
         kind,
@@ -110,9 +107,9 @@ fn append(store: &mut Store, kind: Kind, formula: u32, interval: Interval)
         interval,
     };
     credentials::put_credential(store, i, c);
-    head::put_row_count(store, i + 1);
-    head::put_live_count(store, n + 1);
-    head::put_next(store, serial + 1);
+    head::put(store, Number::Rows, i + 1);
+    head::put(store, Number::Live, n + 1);
+    head::put(store, Number::Next, serial + 1);
     credentials::put_hint(store, serial, i);
 }
 
@@ -131,5 +128,5 @@ pub fn set_next(store: &mut Store, n: u32)
     requires { Raisable store.old n }
     ensures { StandsFor store.new (with_next (ledger_of store.old) n) }
 {
-    head::put_next(store, n);
+    head::put(store, Number::Next, n);
 }

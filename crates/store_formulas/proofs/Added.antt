@@ -19,6 +19,7 @@ use Rattle.ledger.proofs.FormulaTable.{formula_snoc, formula_stays}
 use Rattle.ledger.specs.Bounds.{Bounded}
 use Rattle.ledger.proofs.Bounds.{line_bounded}
 use Rattle.store.specs.Tab.{tab}
+use Rattle.store_cells.specs.declared.lines.Facts.{Facts}
 use Rattle.store_cells.specs.Layout.{line_count, line_cell, row_at, size_at, plain_at, balanced_at, line_cells}
 use Rattle.store_cells.specs.Layout.{put_line_count}
 use Rattle.store_cells.specs.Layout.{put_line, size_cell, plain_cell, balanced_cell, line_width, unbound_at}
@@ -50,13 +51,12 @@ record Right (m : List ℕ) (i : ℕ) : Type 0 where
   spanned : Spans (formula (ledger_of m) i) (low_at m i) (high_at m i)
   given : gives_at m i ≡ counts (low_at m i) (formula (ledger_of m) i)
 
-module _ (l : List ℕ) (r : Row) (s : ℕ) (p b u z : Bool) (low high gives : ℕ)
-    (a : Wordable l r s p b u z low high gives) where
+module _ (l : List ℕ) (r : Row) (v : Facts) (a : Wordable l r v) where
   abbrev n : ℕ
   n = line_count l
 
   abbrev rowed : List ℕ
-  rowed = put_line l n r s p b u z low high gives
+  rowed = put_line l n r v
 
   abbrev t : Ledger
   t = ledger_of l
@@ -65,10 +65,10 @@ module _ (l : List ℕ) (r : Row) (s : ℕ) (p b u z : Bool) (low high gives : �
   room = omega (arith, lines_length l, a.room)
 
   rowed_live : SameLive l rowed
-  rowed_live = line_live l n r s p b u z low high gives a.good.long room
+  rowed_live = line_live l n r v a.good.long room
 
   -- the line joins its sets, and is counted
-  module _ (joined : List ℕ) (j : Marked rowed joined n low high) where
+  module _ (joined : List ℕ) (j : Marked rowed joined n v.low v.high) where
     abbrev m : List ℕ
     m = put_line_count joined (n + 1)
 
@@ -85,16 +85,16 @@ module _ (l : List ℕ) (r : Row) (s : ℕ) (p b u z : Bool) (low high gives : �
     joined_cell k f h q =
         head_line joined 0 (n + 1) k f (omega arith) ∙ below_line rowed joined j.only.long j.only.below k f h q
 
-    new_cell : (f : ℕ) → f < line_width → line_cell m n f ≡ get_or (line_cells r s p b u z low high gives) f 0
-    new_cell f q = joined_cell n f room q ∙ line_same l n r s p b u z low high gives a.good.long room f q
+    new_cell : (f : ℕ) → f < line_width → line_cell m n f ≡ get_or (line_cells r v) f 0
+    new_cell f q = joined_cell n f room q ∙ line_same l n r v a.good.long room f q
 
     old_cell : (k f : ℕ) → k < n → f < line_width → line_cell m k f ≡ line_cell l k f
     old_cell k f h q =
-        joined_cell k f (omega (arith, room)) q ∙ line_other l n r s p b u z low high gives k f (omega arith) q
+        joined_cell k f (omega (arith, room)) q ∙ line_other l n r v k f (omega arith) q
 
     -- a set's number, before and after
     old_group : (g w : ℕ) → group_at rowed g w ≡ group_at l g w
-    old_group g w = line_group l n r s p b u z low high gives room g w
+    old_group g w = line_group l n r v room g w
 
     new_group : (g w : ℕ) → group_at m g w ≡ group_at joined g w
     new_group g w = head_group joined 0 (n + 1) g w (omega arith)
@@ -150,7 +150,7 @@ module _ (l : List ℕ) (r : Row) (s : ℕ) (p b u z : Bool) (low high gives : �
     new_row : row_at m n ≡ r
     new_row =
         row_below m n (omega (arith, count)) room
-        ∙ row_ext (line_cell m n) (λ f. get_or (line_cells r s p b u z low high gives) f 0)
+        ∙ row_ext (line_cell m n) (λ f. get_or (line_cells r v) f 0)
         (λ f q. new_cell f (omega arith))
 
     old_row : (k : ℕ) → k < n → row_at m k ≡ row_at l k
@@ -183,14 +183,15 @@ module _ (l : List ℕ) (r : Row) (s : ℕ) (p b u z : Bool) (low high gives : �
     unfolding size_at plain_at balanced_at unbound_at quantified_at low_at high_at gives_at
     new_right = record {
       canonical = subst Canonical (sym new_row) a.canonical;
-      sized = new_cell size_cell (omega arith) ∙ a.sized ∙ ap size (sym new_formula);
-      plain_kept = new_cell plain_cell (omega arith) ∙ ap bit (a.plain_kept ∙ ap plain (sym new_formula));
-      balancedly = new_cell balanced_cell (omega arith) ∙ ap bit (a.balancedly ∙ ap balanced (sym new_formula));
-      unbound_kept = new_cell unbound_cell (omega arith) ∙ ap bit (a.unbound_kept ∙ ap unbound (sym new_formula));
+      sized = new_cell size_cell (omega arith) ∙ a.facts.sized ∙ ap size (sym new_formula);
+      plain_kept = new_cell plain_cell (omega arith) ∙ ap bit (a.facts.plain_kept ∙ ap plain (sym new_formula));
+      balancedly = new_cell balanced_cell (omega arith) ∙ ap bit (a.facts.balancedly ∙ ap balanced (sym new_formula));
+      unbound_kept = new_cell unbound_cell (omega arith) ∙ ap bit (a.facts.unbound_kept ∙ ap unbound (sym new_formula));
       quantified_kept = new_cell quantified_cell (omega arith)
-          ∙ ap bit (a.quantified_kept ∙ ap quantified (sym new_formula));
-      spanned = spans_same new_formula (new_cell low_cell (omega arith)) (new_cell high_cell (omega arith)) a.spanned;
-      given = new_cell gives_cell (omega arith) ∙ a.given
+          ∙ ap bit (a.facts.quantified_kept ∙ ap quantified (sym new_formula));
+      spanned = spans_same new_formula (new_cell low_cell (omega arith)) (new_cell high_cell (omega arith))
+          a.facts.spanned;
+      given = new_cell gives_cell (omega arith) ∙ a.facts.given
           ∙ ap₂ counts (sym (new_cell low_cell (omega arith))) (sym new_formula);
     }
 
@@ -237,12 +238,13 @@ module _ (l : List ℕ) (r : Row) (s : ℕ) (p b u z : Bool) (low high gives : �
         givens = λ k h. (right k h).given;
         grouped = grouped;
         bounded = subst Bounded (sym ledger) (line_bounded t a.good.bounded (line_of r) a.room a.there
-            (omega (arith, a.sized, a.small)));
+            (omega (arith, a.facts.sized, a.small)));
       };
       ledger = ledger;
     }
 
   -- by the stores that make it
-  pub add_done : {m₀ m₁ m₂ : List ℕ} {i : ℕ} → i ≡ line_count l → m₀ ≡ put_line l i r s p b u z low high gives
-      → Marked m₀ m₁ i low high → m₂ ≡ put_line_count m₁ (i + 1) → StandsFor m₂ (with_line (ledger_of l) (line_of r))
+  pub add_done : {m₀ m₁ m₂ : List ℕ} {i : ℕ} → i ≡ line_count l → m₀ ≡ put_line l i r v
+      → Marked m₀ m₁ i v.low v.high → m₂ ≡ put_line_count m₁ (i + 1)
+      → StandsFor m₂ (with_line (ledger_of l) (line_of r))
   add_done {m₀} {m₁} e e₀ k e₂ = rw (e₂, e) (added m₁ (rw (e₀, e) at k))

@@ -1,16 +1,34 @@
 -- What a search through the formula rows has found.
 use mathlib.Core.Path.{◌≡◌, refl, ap, ◌∙◌}
 use mathlib.Core.List.{List}
-use mathlib.Core.Bool.{Bool, true, false, ◌||◌}
+use mathlib.Core.Bool.{Bool, true, false, ◌&&◌, ◌||◌}
+use Rattle.std.proofs.Math.Bool.{and_assoc, and-false}
+use lib.Dec.{eqb}
+use Rattle.logic.specs.declared.Interval.{Interval}
+use Rattle.logic.specs.Interval.{same_interval}
 use Prim.Native.Nat.{ℕ, zero, suc, ◌<◌}
 use native.Mathlib.Omega.{arith}
 use native.Mathlib.Nat.{le_of_suc-le-suc, not-suc-le-zero}
-use Rattle.ledger.specs.Checks.{any_of}
+use Rattle.ledger.specs.Checks.{any_of, same_row}
 use Rattle.store.specs.Tab.{tab}
 use Rattle.steps.specs.declared.Row.{Row}
 use Rattle.ledger.specs.Table.{row_of}
 use Rattle.store_cells.specs.Layout.{line_count, row_at}
 use Rattle.store.specs.Store.{ledger_of, Good}
+
+-- the derived `==` compares letters, fields and the numbers of intervals one after the other
+abbrev pub equal_intervals : Interval → Interval → Bool
+equal_intervals i j = eqb i.from j.from && (eqb i.to j.to && (eqb i.first j.first && eqb i.last j.last))
+
+pub in_turn : (x y : Row) → same_row x y ≡ (eqb x.letter y.letter && (eqb x.a y.a && (eqb x.b y.b
+    && (eqb x.holder y.holder && (equal_intervals x.first y.first && equal_intervals x.second y.second)))))
+unfolding same_row same_interval
+in_turn x y = simp and_assoc
+
+-- rows that differ in their first field
+pub other_field : (x y : Row) → eqb x.a y.a ≡ false → same_row x y ≡ false
+unfolding same_row
+other_field x y e = rw e (and-false (eqb x.letter y.letter))
 
 -- a test of every one of f 0, f 1, .. and of one of them
 module _ {A : Type 0} (p : A → Bool) where

@@ -1,7 +1,7 @@
 -- A line joins sets, group by group.
-use mathlib.Core.Path.{◌≡◌, refl, ap, subst, ◌∙◌}
+use mathlib.Core.Path.{◌≡◌, refl, subst, ◌∙◌}
 use mathlib.Core.List.{List}
-use Prim.Native.Nat.{ℕ, ◌+◌, ◌*◌, ◌-◌, ◌/◌, ◌%◌, ◌≤◌, ◌<◌}
+use Prim.Native.Nat.{ℕ, ◌+◌, ◌-◌, ◌/◌, ◌%◌, ◌≤◌, ◌<◌}
 use native.Mathlib.Omega.{arith}
 use native.Mathlib.Decide.{dec_lt, ℕ_discrete}
 use lib.ListN.{length}
@@ -22,13 +22,13 @@ only_self l n e = record {
   filled = λ z. z;
 }
 
-pub mark_start : (l : List ℕ) (n low : ℕ) → length l ≡ cells → MarkedTo l l n low 0
-mark_start l n low e = record { only = only_self l n e; near = λ i h. absurd (omega arith) }
+pub mark_start : (l : List ℕ) (n low : ℕ) → length l ≡ cells → MarkedTo l l n low low
+mark_start l n low e = record { only = only_self l n e; near = λ s a b. absurd (omega arith) }
 
--- one group more: g is that of session low + k
-pub mark_next : (l m : List ℕ) (n low k g : ℕ) → n < max_formulas → g ≡ (low + k) % groups → MarkedTo l m n low k
-    → MarkedTo l (put_mark m g n) n low (k + 1)
-mark_next l m n low k g q e v = record {
+-- one group more, that of session k
+pub mark_next : (l m : List ℕ) (n low k : ℕ) → n < max_formulas → MarkedTo l m n low k
+    → MarkedTo l (put_mark m (k % groups) n) n low (k + 1)
+mark_next l m n low k q v = record {
   only = record {
     long = mark_long m g n h q ∙ o.long;
     below = λ c a. mark_below m g n h q c a ∙ o.below c a;
@@ -36,9 +36,12 @@ mark_next l m n low k g q e v = record {
     others = λ f w j a b c d. mark_other m g n h q o.long f w j a b c d ∙ o.others f w j a b c d;
     filled = λ z. filled_next (o.filled z);
   };
-  near = λ i a. go i a (dec_lt i k);
+  near = λ s a b. go s a b (dec_lt s k);
 }
   where
+    g : ℕ
+    g = k % groups
+
     o : OnlyLine l m n
     o = v.only
 
@@ -57,23 +60,20 @@ mark_next l m n low k g q e v = record {
         in_numbers f w a b (yes d) = omega arith
         in_numbers f w a b (no d) = z.numbers f w a (mark_filled m g n h q o.long f w a b d)
 
-    go : (i : ℕ) → i < k + 1 → Dec (i < k) → Near (put_mark m g n) (low + i) n
-    go i a (yes z) = mark_stays m g n h q o.long ((low + i) % groups) (omega arith) (v.near i z)
-    go i a (no z) =
-        let x : g ≡ (low + i) % groups = omega arith in
+    go : (s : ℕ) → low ≤ s → s < k + 1 → Dec (s < k) → Near (put_mark m g n) s n
+    go s a b (yes z) = mark_stays m g n h q o.long (s % groups) (omega arith) (v.near s a z)
+    go s a b (no z) =
+        let x : g ≡ s % groups = omega arith in
         subst (λ (f : ℕ). group_at (put_mark m g n) f (n / set_lines) ∋ n % set_lines) x (mark_here m g n h q o.long)
 
 -- all groups are done: of sessions further on the groups come again
 pub mark_done : (l m : List ℕ) (n low high k : ℕ) → MarkedTo l m n low k
-    → ((i : ℕ) → i < groups → i ≤ high - low → i < k) → Marked l m n low high
+    → ((s : ℕ) → low ≤ s → s ≤ high → s < low + groups → s < k) → Marked l m n low high
 mark_done l m n low high k v end = record {
   only = v.only;
   near = λ s a b.
       let i = (s - low) % groups in
       let x : (low + i) % groups ≡ s % groups = omega arith in
       subst (λ (f : ℕ). group_at m f (n / set_lines) ∋ n % set_lines) x
-      (v.near i (end i (omega arith) (omega arith)));
+      (v.near (low + i) (omega arith) (end (low + i) (omega arith) (omega arith) (omega arith)));
 }
-
-pub mark_none : (l : List ℕ) (n low high : ℕ) → length l ≡ cells → high < low → Marked l l n low high
-mark_none l n low high e h = record { only = only_self l n e; near = λ s a b. absurd (omega arith) }

@@ -17,7 +17,7 @@ pub record Marked (l m : List ℕ) (n low high : ℕ) : Type 0 where
   pub only : OnlyLine l m n
   pub near : (s : ℕ) → low ≤ s → s ≤ high → Near m s n
 
--- the first k sessions are done
+-- the sessions from low to before k are done
 pub record MarkedTo (l m : List ℕ) (n low k : ℕ) : Type 0 where
   pub only : OnlyLine l m n
-  pub near : (i : ℕ) → i < k → Near m (low + i) n
+  pub near : (s : ℕ) → low ≤ s → s < k → Near m s n

@@ -15,16 +15,11 @@ use Rattle.store_cells.proofs.CredentialRows.{entry_there, entry_gap}
 use Rattle.store.specs.Store.{ledger_of, Good, Occupied}
 use Rattle.store.proofs.Search.{find_none, find_row}
 use Rattle.store.proofs.Views.{only_here}
-use Rattle.store_lookup.specs.declared.Place.{Place}
-use Rattle.store_lookup.specs.declared.Place.TheVariants.{At, Nothing}
+use Rattle.std.specs.Prelude.{Option as Place, Some, None}
 use Rattle.store_lookup.specs.Lookup.{LooksUp}
 
-not_nothing : {i : ℕ} → At i ≡ Nothing → ⊥
+not_nothing : {i : ℕ} → Some i ≡ None → ⊥
 not_nothing e = let z : ◌≡◌ {A = ℕ} 0 1 = cc in omega arith
-
--- what was answered, by the match on it
-pub looked_up_as : {l : List ℕ} {n : ℕ} {x y : Place} → LooksUp l n x → x ≡ y → LooksUp l n y
-looked_up_as {l} {n} h e = subst (LooksUp l n) e h
 
 module _ {l : List ℕ} (g : Good l) {n : ℕ} where
   -- a row that has the serial: what is found is what stands there
@@ -44,7 +39,7 @@ module _ {l : List ℕ} (g : Good l) {n : ℕ} where
       go (no x) (no y) = omega arith
 
   -- no row has the serial
-  pub nowhere : ((k : ℕ) → k < row_count l → (credential_at l k).serial ≡ n → ⊥) → LooksUp l n Nothing
+  pub nowhere : ((k : ℕ) → k < row_count l → (credential_at l k).serial ≡ n → ⊥) → LooksUp l n None
   unfolding ledger_of entry_at
   nowhere h = record {
     check = sym (if_true 24 _ (ap is_none (find_none n (row_count l) (credential_at l) (gap_at l) h)));
@@ -53,7 +48,7 @@ module _ {l : List ℕ} (g : Good l) {n : ℕ} where
 
   -- row i has it
   module _ {i : ℕ} (q : i < row_count l) (e : (credential_at l i).serial ≡ n) where
-    pub has_left : gap_at l i ≡ true → LooksUp l n Nothing
+    pub has_left : gap_at l i ≡ true → LooksUp l n None
     has_left z = record {
       check = sym (if_true 24 _ (ap is_none (row_found i q e ∙ entry_gap l i z)));
       place = λ k. (
@@ -63,25 +58,25 @@ module _ {l : List ℕ} (g : Good l) {n : ℕ} where
       );
     }
 
-    pub stands : gap_at l i ≡ false → LooksUp l n (At i)
+    pub stands : gap_at l i ≡ false → LooksUp l n (Some i)
     stands z = record {
       check = sym (if_false 24 _ (ap is_none (row_found i q e ∙ entry_there l i z)));
       place = λ k. (
         λ y. let w : i ≡ k = cc in
             subst (λ (j : ℕ). Occupied l j × ((credential_at l j).serial ≡ n)) w ((q, entry_there l i z), e),
-        λ s. ap At (same_row_holds i k q e s.0.0 s.1),
+        λ s. ap Some (same_row_holds i k q e s.0.0 s.1),
       );
     }
 
   -- What a caller has of an answer
 
-  pub is_dead : LooksUp l n Nothing → dead (ledger_of l) n ≡ true
+  pub is_dead : LooksUp l n None → dead (ledger_of l) n ≡ true
   is_dead h = if_some 24 _ (sym h.check)
 
-  pub none_found : LooksUp l n Nothing → find (ledger_of l).live n ≡ none
+  pub none_found : LooksUp l n None → find (ledger_of l).live n ≡ none
   none_found h = none_there (find (ledger_of l).live n) (is_dead h)
 
-  module _ {i : ℕ} (h : LooksUp l n (At i)) where
+  module _ {i : ℕ} (h : LooksUp l n (Some i)) where
     pub occupied : Occupied l i
     occupied = ((h.place i).0 refl).0
 

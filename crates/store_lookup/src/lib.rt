@@ -5,30 +5,26 @@ ghost use Rattle.store.specs.Store.{Good};
 ghost use Rattle.store_lookup.specs.Lookup.{LooksUp};
 
 use store::Store;
+use store_cells::head::Number;
 use store_cells::{credentials, head};
 
-// Where the live credential (document 01: a coupon) of a serial stands, by its row.
-#[derive(Clone, Copy)]
-pub enum Place {
-    At(u32),
-    Nothing,
-}
-
-// The search: serials rise over the gaps too, so half of what is left goes with each look.
-fn by_halves(store: &Store, serial: u32) -> Place
+// The search, which answers a row: serials rise over the gaps too, so half of what is left goes with each look.
+fn by_halves(store: &Store, serial: u32) -> Option<u32>
     requires { Good store.now }
     ensures { LooksUp store.now serial result }
 {
     let mut low = 0;
-    let mut high = head::row_count(store);
+    let mut high = head::read(store, Number::Rows);
+    // no `for` says halves, and `binary_search_by` wants a slice of rows, where these are numbers of one flat array
     while low < high {
         let middle = (low + high) / 2;
         let seen = credentials::serial(store, middle);
         if seen == serial {
-            if credentials::gap(store, middle) {
-                return Place::Nothing;
+            let left = credentials::kind_at(store, middle).is_none();
+            if left {
+                return None;
             }
-            return Place::At(middle);
+            return Some(middle);
         }
         if seen < serial {
             low = middle + 1;
@@ -36,21 +32,21 @@ fn by_halves(store: &Store, serial: u32) -> Place
             high = middle;
         }
     }
-    Place::Nothing
+    None
 }
 
-// The one look-up: where the hint says, if it stands there, or else by halves.
-pub fn locate(store: &Store, serial: u32) -> Place
+// The one look-up, which answers the row where the live credential (document 01: a coupon) of a serial stands: where
+// the hint says, if it stands there, or else by halves.
+pub fn locate(store: &Store, serial: u32) -> Option<u32>
     requires { Good store.now }
     ensures { LooksUp store.now serial result }
 {
     let i = credentials::hint(store, serial);
-    if i < head::row_count(store) {
-        if credentials::serial(store, i) == serial {
-            if !credentials::gap(store, i) {
-                return Place::At(i);
-            }
-        }
+    if i < head::read(store, Number::Rows)
+        && credentials::serial(store, i) == serial
+        && credentials::kind_at(store, i).is_some()
+    {
+        return Some(i);
     }
     by_halves(store, serial)
 }

@@ -2,14 +2,14 @@
 // (stream_sheets/specs/Sheets.antt).
 #![tactic(auto)]
 
-ghost use Rattle.std.specs.Prelude.{◌++◌, ◌<◌, length, take};
+ghost use Rattle.std.specs.Prelude.{◌≡◌, ◌++◌, ◌<◌, ◌≤◌, length, take};
 ghost use Rattle.store.specs.Store.{Good};
 ghost use Rattle.stream_print.specs.Printed.{longest, Room};
 ghost use Rattle.stream.specs.Stream.{Said, Ready, Took, TookSome, Ended};
 
 use step_rows::StepRows;
 use store::Store;
-use stream_sheets::End;
+use stream_sheets::MOST;
 
 // How many bytes of the sheet are held, whether a line begins, and how many bytes of text wait to be written.
 #[derive(Clone, Copy)]
@@ -19,11 +19,15 @@ pub struct Place {
     pub text: usize,
 }
 
-// A place, and how many bytes of the piece are taken.
-#[derive(Clone, Copy)]
-struct Taken {
-    place: Place,
-    bytes: usize,
+// What is lent to answer a stream: the till and rows to work on, room for the sheet that has begun and for the text
+// that waits; and the place.
+#[derive(Drop)]
+pub struct Kiosk<'a> {
+    pub store: &'a mut Store,
+    pub rows: &'a mut StepRows,
+    pub begun: &'a mut [u8; MOST],
+    pub text: &'a mut [u8],
+    pub place: Place,
 }
 
 // Answers a sheet and puts the answer's line into the text.
@@ -36,105 +40,99 @@ fn answer(store: &mut Store, rows: &mut StepRows, sheet: &[u8], text: &mut [u8],
     stream_print::put_answer(text, at, a)
 }
 
-// Answers the sheet whose first bytes are held and whose last are these. One of which none are held is answered where
-// it lies.
-fn answer_ended(
-    store: &mut Store,
-    rows: &mut StepRows,
-    begun: &mut [u8],
-    text: &mut [u8],
-    place: Place,
-    bytes: &[u8],
-) -> usize
-    requires { Ready store.old begun.old text.old place 1 }
-    ensures { Said store.old (take place.filled begun.old ++ bytes.now)
-        text.old place.text store.new text.new result }
-{
-    if place.filled == 0 {
-        return answer(store, rows, bytes, text, place.text);
+impl Kiosk<'_> {
+    // Answers the sheet whose first bytes are held and whose last are these. One of which none are held is answered
+    // where it lies.
+    fn answer_ended(&mut self, bytes: &[u8]) -> usize
+        requires { Ready self.old 1 }
+        ensures said { Said self.old.store.now (take self.old.place.filled self.old.begun.now ++ bytes.now)
+            self.old.text.now self.old.place.text self.new.store.now self.new.text.now result }
+        ensures kept { length self.new.begun.now ≡ length self.old.begun.now }
+    {
+        let place = self.place;
+        let none_held = place.filled == 0;
+        if none_held {
+            return answer(self.store, self.rows, bytes, self.text, place.text);
+        }
+        let filled = stream_sheets::keep(self.begun, place.filled, bytes);
+        answer(
+            self.store,
+            self.rows,
+            &self.begun[..filled],
+            self.text,
+            place.text,
+        )
     }
-    let filled = stream_sheets::keep(begun, place.filled, bytes);
-    answer(store, rows, &begun[..filled], text, place.text)
-}
 
-// Takes the bytes of a piece up to its first empty line, or all.
-fn take_sheet(
-    store: &mut Store,
-    rows: &mut StepRows,
-    begun: &mut [u8],
-    text: &mut [u8],
-    place: Place,
-    piece: &[u8],
-) -> Taken
-    requires ready { Ready store.old begun.old text.old place (length piece.now) }
-    requires piece_nonzero { 0 < length piece.now }
-    ensures { TookSome store.old begun.old text.old place piece.now
-        store.new begun.new text.new result }
-{
-    let end = stream_sheets::sheet_end(piece, place.fresh);
-    match end {
-        End::At(e) => {
-            let written = answer_ended(store, rows, begun, text, place, &piece[..e]);
-            Taken {
-                place: Place {
+    // Takes the bytes of a piece up to its first empty line, or all: how many.
+    fn take_sheet(&mut self, piece: &[u8]) -> usize
+        requires ready { Ready self.old (length piece.now) }
+        requires piece_nonzero { 0 < length piece.now }
+        ensures took { TookSome self.old piece.now self.new result }
+        ensures long { length self.new.text.now ≡ length self.old.text.now }
+    {
+        let place = self.place;
+        match stream_sheets::sheet_end(piece, place.fresh) {
+            Some(end) => {
+                let text = self.answer_ended(&piece[..end]);
+                self.place = Place {
                     filled: 0,
                     fresh: true,
-                    text: written,
-                },
-                bytes: e + 1,
+                    text,
+                };
+                end + 1
             }
-        }
-        End::Open(fresh) => {
-            let filled = stream_sheets::keep(begun, place.filled, piece);
-            Taken {
-                place: Place {
+            None => {
+                let filled = stream_sheets::keep(self.begun, place.filled, piece);
+                self.place = Place {
                     filled,
-                    fresh,
+                    fresh: stream_sheets::line_ends(piece),
                     text: place.text,
-                },
-                bytes: piece.len(),
+                };
+                piece.len()
             }
         }
     }
-}
 
-// Takes a piece of the input.
-pub fn feed(
-    store: &mut Store,
-    rows: &mut StepRows,
-    begun: &mut [u8],
-    text: &mut [u8],
-    place: Place,
-    piece: &[u8],
-) -> Place
-    requires { Ready store.old begun.old text.old place (length piece.now) }
-    ensures { Took store.old begun.old text.old place piece.now
-        store.new begun.new text.new result }
-{
-    let mut p = place;
-    let mut i = 0;
-    while i < piece.len() {
-        let t = take_sheet(store, rows, begun, text, p, &piece[i..]);
-        p = t.place;
-        i += t.bytes;
+    // Takes a piece of the input.
+    pub fn feed(&mut self, piece: &[u8])
+        requires { Ready self.old (length piece.now) }
+        ensures took { Took self.old piece.now self.new }
+        ensures long { length self.new.text.now ≡ length self.old.text.now }
+    {
+        // no `for`: each turn takes as many bytes as its sheet has
+        let mut rest = piece;
+        while !rest.is_empty() {
+            let taken = self.take_sheet(rest);
+            rest = &rest[taken..];
+        }
     }
-    p
-}
 
-// The input has ended: bytes that no empty line has ended are one more sheet.
-pub fn finish(
-    store: &mut Store,
-    rows: &mut StepRows,
-    begun: &[u8],
-    text: &mut [u8],
-    place: Place,
-) -> usize
-    requires { Ready store.old begun.now text.old place 1 }
-    ensures { Ended store.old begun.now text.old place text.new result }
-{
-    let filled = place.filled;
-    if filled == 0 {
-        return place.text;
+    // The text that waits to be written.
+    pub fn waiting(&self) -> &[u8]
+        requires { self.now.place.text ≤ length self.now.text.now }
+        ensures { result.now ≡ take self.now.place.text self.now.text.now }
+    {
+        &self.text[..self.place.text]
     }
-    answer(store, rows, &begun[..filled], text, place.text)
+
+    // The input has ended: bytes that no empty line has ended are one more sheet. How many bytes of text wait.
+    pub fn finish(&mut self) -> usize
+        requires { Ready self.old 1 }
+        ensures { Ended self.old self.new.text.now result }
+    {
+        let place = self.place;
+        let filled = place.filled;
+        let ended = filled == 0;
+        if ended {
+            return place.text;
+        }
+        answer(
+            self.store,
+            self.rows,
+            &self.begun[..filled],
+            self.text,
+            place.text,
+        )
+    }
 }

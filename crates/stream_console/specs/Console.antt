@@ -1,7 +1,7 @@
 -- The notes of what is read and written: from which descriptor and to which, how much, and how it ended. Counts are
 -- modulo 2^64.
 use Rattle.std.specs.Prelude.{◌≡◌, ℕ, ◌+◌, ◌-◌, ◌%◌, ◌^◌, ◌<◌, ◌≤◌, Bool, true, false, ◌⊎◌, min, List, ◌++◌, length}
-use Rattle.std.specs.Prelude.{take, ℤ, pos, negsuc, ◌==◌, int_lt}
+use Rattle.std.specs.Prelude.{take, ℤ, pos, negsuc, ◌==◌, int_lt, Option, Some, None}
 pub use Rattle.stream_passed.specs.Passed.{Came, Went}
 use Rattle.stream_console.specs.declared.Input.{Input}
 use Rattle.stream_console.specs.declared.Output.{Output}
@@ -26,6 +26,11 @@ unwritten d = record { to = d; bytes = 0; put = 0; failed = false }
 abbrev pub Moved : ℕ → ℤ → Type 0
 Moved n (pos k) = k ≤ n
 Moved n (negsuc k) = k ≡ 0
+
+-- what a read answered: how many bytes it gave, or -1 where it failed
+abbrev pub answer_of : Option ℕ → ℤ
+answer_of (Some n) = pos n
+answer_of None = negsuc 0
 
 -- what a call answered, brought into the numbers up to n
 abbrev pub clamp_len : ℤ → ℕ → ℕ

@@ -5,9 +5,9 @@
 // can make or change, and of which bytes came in and went out it knows what these two contracts say.
 #![tactic(auto)]
 
-ghost use Rattle.std.specs.Prelude.{◌≡◌, ◌≢◌, ◌≤◌, [], length, take, pos, negsuc, false};
+ghost use Rattle.std.specs.Prelude.{◌≡◌, ◌≢◌, ◌≤◌, [], length, take, pos, negsuc, false, None};
 ghost use Rattle.stream_console.specs.Console.{unread, unwritten, noted, handed, CameIn, WentOut};
-ghost use Rattle.stream_console.specs.Console.{clamp_len, Moved, Received, Sent, GoesOn};
+ghost use Rattle.stream_console.specs.Console.{answer_of, clamp_len, Moved, Received, Sent, GoesOn};
 
 use std::io::{Read, Stderr, Stdin, Stdout};
 
@@ -15,6 +15,7 @@ use std::io::{Read, Stderr, Stdin, Stdout};
 // it gave none, and whether it failed.
 #[derive(Clone, Copy)]
 pub struct Input {
+    // numbers and flags, and no enum or Option: `unread` and `noted`, which public contracts cite, have these fields
     from: i32,
     reads: u64,
     bytes: u64,
@@ -85,19 +86,16 @@ pub fn send(streams: Streams, output: Output, text: &[u8], n: usize) -> Output
     note_written(output, n, written)
 }
 
-// A read, of standard input alone: how many bytes it gave, or -1 where it failed.
-fn read_once(streams: Streams, from: i32, piece: &mut [u8]) -> isize
-    ensures moved { Moved (length piece.new) result }
-    ensures elsewhere { from ≢ pos 0 → (result ≡ negsuc 0) × (piece.new ≡ piece.old) }
+// A read, of standard input alone: how many bytes it gave, if it did not fail.
+fn read_once(streams: Streams, from: i32, piece: &mut [u8]) -> Option<usize>
+    ensures moved { Moved (length piece.new) (answer_of result) }
+    ensures elsewhere { from ≢ pos 0 → (result ≡ None) × (piece.new ≡ piece.old) }
 {
     if from != 0 {
-        return -1;
+        return None;
     }
     let mut stdin = streams.stdin;
-    match stdin.read(piece) {
-        Ok(got) => got as isize,
-        Err(_) => -1,
-    }
+    stdin.read(piece).ok()
 }
 
 // A write, to standard output or error alone: whether all of the text was written.
@@ -112,8 +110,8 @@ fn write_whole(streams: Streams, to: i32, text: &[u8]) -> bool
 }
 
 // What a read was answered, noted.
-fn note_read(input: Input, given: isize, piece: &[u8]) -> Input
-    ensures { result ≡ noted input given (length piece.now) }
+fn note_read(input: Input, given: Option<usize>, piece: &[u8]) -> Input
+    ensures { result ≡ noted input (answer_of given) (length piece.now) }
 {
     let from = input.from;
     let got = count(given, piece);
@@ -125,19 +123,15 @@ fn note_read(input: Input, given: isize, piece: &[u8]) -> Input
         bytes,
         got,
         ended: got == 0,
-        misread: given < 0,
+        misread: given.is_none(),
     }
 }
 
-// How many bytes of the piece a read gave by its answer: none where it is negative, and never more than there are.
-fn count(given: isize, piece: &[u8]) -> usize
-    ensures { result ≡ clamp_len given (length piece.now) }
+// How many bytes of the piece a read gave by its answer: none where it failed, and never more than there are.
+fn count(given: Option<usize>, piece: &[u8]) -> usize
+    ensures { result ≡ clamp_len (answer_of given) (length piece.now) }
 {
-    if given > 0 {
-        piece.len().min(given as usize)
-    } else {
-        0
-    }
+    given.unwrap_or(0).min(piece.len())
 }
 
 // What a write was answered, noted.

@@ -1,8 +1,8 @@
 // What is printed of an answer (specs/Printed.antt), put into the text that waits to be written.
 #![tactic(auto)]
 
-ghost use Rattle.std.specs.Prelude.{[], ◌∷◌, ◌+◌, ◌≤◌, length};
-ghost use Rattle.request.specs.Write.{digits};
+ghost use Rattle.std.specs.Prelude.{[], ◌∷◌, ◌++◌, map, ◌+◌, ◌*◌, ◌≤◌, length};
+ghost use Rattle.request.specs.Write.{digits, joined};
 ghost use Rattle.ledger.specs.Calls.{told};
 ghost use Rattle.stream_print.specs.Printed.{line, longest, Room, Wrote};
 ghost use Rattle.stream_print.specs.Examples.{LineExamples};
@@ -20,15 +20,16 @@ fn put_byte(text: &mut [u8], at: usize, x: u8) -> usize
     at + 1
 }
 
+// By hand and not by `Display`: no clause of std's says of `write!` which bytes it puts into memory that is lent.
 fn put_digits(text: &mut [u8], at: usize, n: u32) -> usize
     requires { Room text.old at (length (digits n)) }
     ensures { Wrote text.old at (digits n) text.new result }
 {
     if n < 10 {
-        return put_byte(text, at, 48 + n as u8);
+        return put_byte(text, at, b'0' + n as u8);
     }
     let i = put_digits(text, at, n / 10);
-    put_byte(text, i, 48 + (n % 10) as u8)
+    put_byte(text, i, b'0' + (n % 10) as u8)
 }
 
 // A comma and a number.
@@ -41,12 +42,25 @@ fn put_field(text: &mut [u8], at: usize, n: u32) -> usize
 }
 
 // `ok` or `no`
-fn put_word(text: &mut [u8], at: usize, x: u8, y: u8) -> usize
+fn put_word(text: &mut [u8], at: usize, word: &[u8; 2]) -> usize
     requires { Room text.old at 2 }
-    ensures { Wrote text.old at (x ∷ y ∷ []) text.new result }
+    ensures { Wrote text.old at word.now text.new result }
 {
-    let i = put_byte(text, at, x);
-    put_byte(text, i, y)
+    text[at..at + 2].copy_from_slice(word);
+    at + 2
+}
+
+// A word, numbers and the line's end.
+fn put_line(text: &mut [u8], at: usize, word: &[u8; 2], numbers: &[u32]) -> usize
+    requires { Room text.old at (3 + 11 * length numbers.now) }
+    ensures { Wrote text.old at (joined (word.now ∷ map digits numbers.now) ++ (10 ∷ []))
+        text.new result × (result ≤ at + 3 + 11 * length numbers.now) }
+{
+    let mut i = put_word(text, at, word);
+    for n in numbers {
+        i = put_field(text, i, *n);
+    }
+    put_byte(text, i, b'\n')
 }
 
 // The line of an answer.
@@ -55,24 +69,9 @@ pub fn put_answer(text: &mut [u8], at: usize, a: Answer) -> usize
     ensures { Wrote text.old at (line (told a)) text.new result × (result ≤ at + longest) }
 {
     match a {
-        Answer::Accepted(n) => {
-            let i = put_word(text, at, b'o', b'k');
-            let j = put_field(text, i, n);
-            put_byte(text, j, b'\n')
-        }
-        Answer::Counted(open, shut, placed) => {
-            let i = put_word(text, at, b'o', b'k');
-            let j = put_field(text, i, open);
-            let k = put_field(text, j, shut);
-            let m = put_field(text, k, placed);
-            put_byte(text, m, b'\n')
-        }
-        Answer::Refused(n, step) => {
-            let i = put_word(text, at, b'n', b'o');
-            let j = put_field(text, i, n);
-            let k = put_field(text, j, step);
-            put_byte(text, k, b'\n')
-        }
+        Answer::Accepted(n) => put_line(text, at, b"ok", &[n]),
+        Answer::Counted(open, shut, placed) => put_line(text, at, b"ok", &[open, shut, placed]),
+        Answer::Refused(n, step) => put_line(text, at, b"no", &[n, step]),
     }
 }
 

@@ -2,7 +2,7 @@
 use mathlib.Core.Path.{◌≡◌, refl, sym, ap, ◌∙◌}
 use mathlib.Core.List.{List, [], ◌∷◌, ◌++◌}
 use mathlib.Core.Bool.{Bool, true, false, ◌&&◌, ◌||◌, or-true, or-false, or_assoc}
-use Prim.Native.Nat.{ℕ, ◌+◌, ◌≤◌, ◌<◌}
+use Prim.Native.Nat.{ℕ, suc, ◌+◌, ◌-◌, ◌≤◌, ◌<◌}
 use native.Mathlib.Numerals.{add-one}
 use native.Mathlib.Omega.{arith}
 use lib.Dec.{eqb, ltb}
@@ -11,7 +11,7 @@ use lib.Seq.{take_all, take-suc, take-add, drop-cons}
 use borrow.Author.Tests.{eqb-true, lt-ltb}
 use Rattle.logic.proofs.Tests.{left_true, right_true}
 use Rattle.stream_sheets.specs.Sheets.{empty_line, line_begins}
-use Rattle.stream_sheets.specs.Ends.{EndsAt, NoEnd, BothTen}
+use Rattle.stream_sheets.specs.Ends.{EndsAt, BothTen}
 
 both_false : {a b : Bool} → a ≡ false → b ≡ false → (a || b) ≡ false
 both_false {a} {b} e f = rw (e, f)
@@ -42,18 +42,22 @@ empty_snoc f b x h e = empty_last f b x ∙ both_false h e
 
 -- The first bytes of x
 
-begins_at : (f : Bool) (x : List ℕ) (i : ℕ) → i < length x → line_begins f (take (i + 1) x) ≡ eqb (get_or x i 0) 10
-begins_at f x i h = rw (add-one, take-suc x i 0 h) (begins_snoc f (take i x) (get_or x i 0))
+begins_at : (f : Bool) (x : List ℕ) (i : ℕ) → 0 < i → i ≤ length x
+    → line_begins f (take i x) ≡ eqb (get_or x (i - 1) 0) 10
+begins_at f x i p h =
+    let e : i ≡ suc (i - 1) = omega arith in
+    ap (λ (n : ℕ). line_begins f (take n x)) e
+    ∙ ap (line_begins f) (take-suc x (i - 1) 0 (omega arith))
+    ∙ begins_snoc f (take (i - 1) x) (get_or x (i - 1) 0)
 
 -- a byte more
-empty_next : (f : Bool) (x : List ℕ) (i : ℕ) → i + 1 < length x
-    → empty_line f (take (i + 1 + 1) x)
-    ≡ (empty_line f (take (i + 1) x) || (eqb (get_or x i 0) 10 && eqb (get_or x (i + 1) 0) 10))
-empty_next f x i h =
-    ap (empty_line f) (ap (λ (n : ℕ). take n x) (add-one (i + 1)) ∙ take-suc x (i + 1) 0 h)
-    ∙ empty_last f (take (i + 1) x) (get_or x (i + 1) 0)
-    ∙ ap (λ (z : Bool). empty_line f (take (i + 1) x) || (z && eqb (get_or x (i + 1) 0) 10))
-    (begins_at f x i (omega arith))
+empty_next : (f : Bool) (x : List ℕ) (i : ℕ) → 0 < i → i < length x
+    → empty_line f (take (i + 1) x)
+    ≡ (empty_line f (take i x) || (eqb (get_or x (i - 1) 0) 10 && eqb (get_or x i 0) 10))
+empty_next f x i p h =
+    ap (empty_line f) (rw add-one (take-suc x i 0 h))
+    ∙ empty_last f (take i x) (get_or x i 0)
+    ∙ ap (λ (z : Bool). empty_line f (take i x) || (z && eqb (get_or x i 0) 10)) (begins_at f x i p (omega arith))
 
 -- the first byte
 pub empty_first : (x : List ℕ) → 0 < length x → empty_line false (take (0 + 1) x) ≡ false
@@ -81,11 +85,11 @@ one_more_holds n r false e = ap (ltb 0) (let h : n + r ≡ n = omega arith in h)
 pub ten_few : (x y r : ℕ) → BothTen x y r → r ≤ 1
 ten_few x y r e = few (eqb x 10 && eqb y 10) e
 
-pub counted : (f : Bool) (x : List ℕ) (i n r : ℕ) → i + 1 < length x → ltb 0 n ≡ empty_line f (take (i + 1) x)
-    → BothTen (get_or x i 0) (get_or x (i + 1) 0) r → ltb 0 (n + r) ≡ empty_line f (take (i + 1 + 1) x)
-counted f x i n r h e b =
-    one_more_holds n r (eqb (get_or x i 0) 10 && eqb (get_or x (i + 1) 0) 10) b
-    ∙ ap (λ (z : Bool). z || (eqb (get_or x i 0) 10 && eqb (get_or x (i + 1) 0) 10)) e ∙ sym (empty_next f x i h)
+pub counted : (f : Bool) (x : List ℕ) (i n r : ℕ) → 0 < i → i < length x → ltb 0 n ≡ empty_line f (take i x)
+    → BothTen (get_or x (i - 1) 0) (get_or x i 0) r → ltb 0 (n + r) ≡ empty_line f (take (i + 1) x)
+counted f x i n r p h e b =
+    one_more_holds n r (eqb (get_or x (i - 1) 0) 10 && eqb (get_or x i 0) 10) b
+    ∙ ap (λ (z : Bool). z || (eqb (get_or x (i - 1) 0) 10 && eqb (get_or x i 0) 10)) e ∙ sym (empty_next f x i p h)
 
 -- Going on by n bytes
 
@@ -96,10 +100,13 @@ skip_on x i n h e b =
     let d : drop i x ≡ get_or x i 0 ∷ drop (i + 1) x = rw add-one (drop-cons x i 0 h) in
     let c : empty_line (eqb (get_or x i 0) 10) (take n (drop (i + 1) x)) ≡ false = rw (add-one, d) at b in
     let s : i + n + 1 ≡ i + 1 + n = omega arith in
+    let q : i + 1 - 1 ≡ i = omega arith in
+    let begun : line_begins false (take (i + 1) x) ≡ eqb (get_or x i 0) 10 =
+    begins_at false x (i + 1) (omega arith) (omega arith) ∙ ap (λ (j : ℕ). eqb (get_or x j 0) 10) q in
     ap (λ (k : ℕ). empty_line false (take k x)) s
     ∙ ap (empty_line false) (take-add (i + 1) n x)
     ∙ empty_append false (take (i + 1) x) (take n (drop (i + 1) x))
-    ∙ both_false e (ap (λ (z : Bool). empty_line z (take n (drop (i + 1) x))) (begins_at false x i h) ∙ c)
+    ∙ both_false e (ap (λ (z : Bool). empty_line z (take n (drop (i + 1) x))) begun ∙ c)
 
 -- The first empty line
 
@@ -113,22 +120,20 @@ module _ (x : List ℕ) (f : Bool) where
     none = refl;
   }
 
-  pub end_at : (i : ℕ) → i + 1 < length x → empty_line f (take (i + 1) x) ≡ false
-      → (eqb (get_or x i 0) 10 && eqb (get_or x (i + 1) 0) 10) ≡ true → EndsAt x f (i + 1)
-  end_at i h n e = record {
+  pub end_at : (i : ℕ) → 0 < i → i < length x → empty_line f (take i x) ≡ false
+      → (eqb (get_or x (i - 1) 0) 10 && eqb (get_or x i 0) 10) ≡ true → EndsAt x f i
+  end_at i p h n e = record {
     inside = h;
-    ten = eqb-true _ _ (right_true (eqb (get_or x i 0) 10) _ e);
-    lines = begins_at f x i (omega arith) ∙ left_true (eqb (get_or x i 0) 10) _ e;
+    ten = eqb-true _ _ (right_true (eqb (get_or x (i - 1) 0) 10) _ e);
+    lines = begins_at f x i p (omega arith) ∙ left_true (eqb (get_or x (i - 1) 0) 10) _ e;
     none = n;
   }
 
-  pub end_on : (i : ℕ) → i + 1 < length x → empty_line f (take (i + 1) x) ≡ false
-      → (eqb (get_or x i 0) 10 && eqb (get_or x (i + 1) 0) 10) ≡ false → empty_line f (take (i + 1 + 1) x) ≡ false
-  end_on i h n e = empty_next f x i h ∙ both_false n e
+  pub end_on : (i : ℕ) → 0 < i → i < length x → empty_line f (take i x) ≡ false
+      → (eqb (get_or x (i - 1) 0) 10 && eqb (get_or x i 0) 10) ≡ false → empty_line f (take (i + 1) x) ≡ false
+  end_on i p h n e = empty_next f x i p h ∙ both_false n e
 
-  pub no_end : (i : ℕ) → i < length x → length x ≤ i + 1 → empty_line f (take (i + 1) x) ≡ false
-      → NoEnd x f (eqb (get_or x i 0) 10)
-  no_end i h k n = record {
-    none = rw take_all at n;
-    lines = sym (begins_at f x i h) ∙ ap (line_begins f) (take_all (i + 1) x k);
-  }
+-- the last byte, whatever comes before the bytes
+pub line_after : (x : List ℕ) (f : Bool) → 0 < length x → eqb (get_or x (length x - 1) 0) 10 ≡ line_begins f x
+line_after x f h =
+    sym (ap (line_begins f) (sym (take_all (length x) x (omega arith))) ∙ begins_at f x (length x) h (omega arith))

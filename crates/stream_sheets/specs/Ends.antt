@@ -1,7 +1,6 @@
 -- What the search for the end of a sheet answers: the first empty line of some bytes.
 use Rattle.std.specs.Prelude.{◌≡◌, Bool, true, false, ◌&&◌, List, ℕ, ◌+◌, ◌<◌, eqb, length, take, get_or}
-use Rattle.stream_sheets.specs.declared.End.{End}
-use Rattle.stream_sheets.specs.declared.End.TheVariants.{At, Open}
+use Rattle.std.specs.Prelude.{Option, Some, None}
 use Rattle.stream_sheets.specs.Sheets.{empty_line, line_begins}
 
 -- The first empty line of the bytes x is their byte e; before them a line begins or not.
@@ -11,14 +10,10 @@ pub record EndsAt (x : List ℕ) (fresh : Bool) (e : ℕ) : Type 0 where
   pub lines : line_begins fresh (take e x) ≡ true
   pub none : empty_line fresh (take e x) ≡ false
 
--- there is none, and whether a line begins after them
-pub record NoEnd (x : List ℕ) (fresh after : Bool) : Type 0 where
-  pub none : empty_line fresh x ≡ false
-  pub lines : after ≡ line_begins fresh x
-
-abbrev pub EndIs : List ℕ → Bool → End → Type 0
-EndIs x fresh (At e) = EndsAt x fresh e
-EndIs x fresh (Open after) = NoEnd x fresh after
+-- where it stands, if there is one
+abbrev pub EndIs : List ℕ → Bool → Option ℕ → Type 0
+EndIs x fresh (Some e) = EndsAt x fresh e
+EndIs x fresh None = empty_line fresh x ≡ false
 
 -- 1 where two bytes are both 10, else 0
 abbrev pub BothTen : ℕ → ℕ → ℕ → Type 0

@@ -2,21 +2,14 @@
 // begun, kept up to one more than a sheet may have.
 #![tactic(auto)]
 
-ghost use Rattle.std.specs.Prelude.{◌≡◌, false, ◌+◌, ◌≤◌, ◌<◌, length};
-ghost use Rattle.stream_sheets.specs.Sheets.{empty_line, most};
+ghost use Rattle.std.specs.Prelude.{◌≡◌, Bool, false, ◌≤◌, ◌<◌, length};
+ghost use Rattle.stream_sheets.specs.Sheets.{empty_line, line_begins, most};
 ghost use Rattle.stream_sheets.specs.Ends.{BothTen, Skipped, EndIs};
 ghost use Rattle.stream_sheets.specs.Keeping.{Kept};
 ghost use Rattle.stream_sheets.specs.Statements.{ReadBack, AllParts, InPieces, RestSkipped};
 
 // How many bytes of a sheet are kept: one more than a sheet may have.
 pub const MOST: usize = request::ranges::MAX_BYTES + 1;
-
-// Where the first empty line stands; or that there is none, and whether a line begins after the bytes.
-#[derive(Clone, Copy)]
-pub enum End {
-    At(usize),
-    Open(bool),
-}
 
 // 1 if both are byte 10, the second an empty line.
 fn both_ten(x: u8, y: u8) -> u8
@@ -32,10 +25,8 @@ fn has_end(bytes: &[u8]) -> bool
     ensures { result ≡ empty_line false bytes.now }
 {
     let mut found = 0u8;
-    let mut i = 0;
-    while i + 1 < bytes.len() {
-        found += both_ten(bytes[i], bytes[i + 1]);
-        i += 1;
+    for i in 1..bytes.len() {
+        found += both_ten(bytes[i - 1], bytes[i]);
     }
     found > 0
 }
@@ -46,46 +37,38 @@ fn skip(piece: &[u8]) -> usize
     requires { 0 < length piece.now }
     ensures { Skipped piece.now result }
 {
-    let mut i = 0;
-    while i + 64 < piece.len() {
-        let next = i + 65;
-        if has_end(&piece[i..next]) {
+    let blocks = (piece.len() - 1) / 64;
+    for block in 0..blocks {
+        let i = 64 * block;
+        if has_end(&piece[i..i + 65]) {
             return i;
         }
-        i += 64;
     }
-    i
+    64 * blocks
 }
 
 // Looks for the first empty line: a byte 10 where a line begins.
-pub fn sheet_end(piece: &[u8], fresh: bool) -> End
+pub fn sheet_end(piece: &[u8], fresh: bool) -> Option<usize>
     requires { 0 < length piece.now }
     ensures { EndIs piece.now fresh result }
 {
     if fresh & (piece[0] == b'\n') {
-        return End::At(0);
+        return Some(0);
     }
-    let mut i = skip(piece);
-    while i + 1 < piece.len() {
-        if (piece[i] == b'\n') & (piece[i + 1] == b'\n') {
-            return End::At(i + 1);
+    for i in skip(piece) + 1..piece.len() {
+        if (piece[i - 1] == b'\n') & (piece[i] == b'\n') {
+            return Some(i);
         }
-        i += 1;
     }
-    End::Open(piece[i] == b'\n')
+    None
 }
 
-// The bytes after those held, for which there is room.
-fn copy(begun: &mut [u8], filled: usize, bytes: &[u8]) -> usize
-    requires { (length begun.old ≡ most) × (filled + length bytes.now ≤ most) }
-    ensures { Kept begun.old filled bytes.now begun.new result }
+// Whether a line begins after the bytes: whatever comes before them.
+pub fn line_ends(piece: &[u8]) -> bool
+    requires { 0 < length piece.now }
+    ensures { (fresh : Bool) → result ≡ line_begins fresh piece.now }
 {
-    let mut i = 0;
-    while i < bytes.len() {
-        begun[filled + i] = bytes[i];
-        i += 1;
-    }
-    filled + i
+    piece[piece.len() - 1] == b'\n'
 }
 
 // The bytes after those held; past `MOST` they are dropped.
@@ -93,11 +76,9 @@ pub fn keep(begun: &mut [u8], filled: usize, bytes: &[u8]) -> usize
     requires { (length begun.old ≡ most) × (filled ≤ most) }
     ensures { Kept begun.old filled bytes.now begun.new result }
 {
-    let room = MOST - filled;
-    if bytes.len() <= room {
-        return copy(begun, filled, bytes);
-    }
-    copy(begun, filled, &bytes[..room])
+    let n = (MOST - filled).min(bytes.len());
+    begun[filled..filled + n].copy_from_slice(&bytes[..n]);
+    filled + n
 }
 
 // Does nothing: that it is proved says that sheets with an empty line after each are read as just these, that every

@@ -1,8 +1,8 @@
 -- The text of a store's ledger, line by line.
-use mathlib.Core.Path.{◌≡◌, refl, sym, ap, ap₂, subst, ◌∙◌}
+use mathlib.Core.Path.{◌≡◌, refl, sym, ap, ap₂, ◌∙◌}
 use mathlib.Core.List.{List, [], ◌∷◌, ◌++◌, map, append_assoc, map-append}
 use mathlib.Core.Bool.{Bool, true, false}
-use mathlib.Core.Option.{Option, none, some}
+use mathlib.Core.Option.{none, some}
 use Prim.Native.Nat.{ℕ, zero, suc, ◌+◌, ◌≤◌, ◌<◌}
 use native.Mathlib.Numerals.{add-one}
 use native.Mathlib.Omega.{arith}
@@ -18,19 +18,19 @@ use Rattle.ledger.specs.declared.Credential.{Credential}
 use Rattle.ledger.specs.declared.Answer.TheVariants.{Accepted, Refused}
 use Rattle.ledger.specs.Ledger.{Ledger, cons_some}
 use Rattle.ledger.specs.Calls.{told}
-use Rattle.snapshot.specs.declared.Edition.{Edition}
-use Rattle.snapshot.specs.Snapshot.{title_of, own_edition, title_fields, credential_fields, texts_in, text}
+use Rattle.snapshot.specs.declared.Title.{Title}
+use Rattle.snapshot.specs.Snapshot.{title_of, title_fields, credential_fields, texts_in, text}
 use Rattle.snapshot.specs.Reopen.{close}
 use Rattle.snapshot.proofs.Reopen.{close_answers}
 use Rattle.store_cells.specs.Layout.{row_at, credential_at, gap_at, entry_at}
 use Rattle.store.specs.Tab.{tab, present}
-use Rattle.store.specs.Store.{line_of, ledger_of, Good}
+use Rattle.store.specs.Store.{line_of, ledger_of}
 use Rattle.store.proofs.Tabs.{tab_append, present_next}
 use Rattle.call_checks.specs.declared.Verdict.{Verdict}
 use Rattle.call_checks.specs.declared.Verdict.TheVariants.{Passed, Failed}
 use Rattle.call_checks.specs.Verdicts.{Tells}
 use Rattle.call_checks.proofs.Verdicts.{by_verdict}
-use Rattle.text_write.specs.Put.{Put, Measured, ended, title}
+use Rattle.text_write.specs.Put.{Put, Measured, ended}
 use Rattle.text_write.proofs.Puts.{Parts, wrote_as}
 use Rattle.text_close.specs.Lines.{title_text, formula_text, formula_texts, row_text, row_texts}
 use Rattle.text_close.specs.Lines.{body_lines, ClosedAs}
@@ -93,11 +93,9 @@ module _ (l : List ℕ) where
       (map (λ c. joined (credential_fields c)) (ledger_of l).live)))
 
   -- what the writers of lines write
-  pub title_as : {e : Edition} {n m k : ℕ} → e ≡ own_edition (ledger_of l) → n ≡ (ledger_of l).next
-      → m ≡ length (ledger_of l).lines → k ≡ length (ledger_of l).live
-      → ended 10 (title_fields (title e n m k)) ≡ title_text l
+  pub title_as : {t : Title} → t ≡ title_of (ledger_of l) → ended 10 (title_fields t) ≡ title_text l
   unfolding title_text
-  title_as d a b c = rw (d, a, b, c) refl
+  title_as e = ap (λ (x : Title). ended 10 (title_fields x)) e
 
   pub formula_as : {r : Row} (i : ℕ) → r ≡ row_at l i → ended 10 (line_fields (line_of r)) ≡ formula_text l i
   unfolding formula_text

@@ -2,43 +2,49 @@
 // a buffer that is too short stays as it was.
 #![tactic(auto)]
 
-ghost use Rattle.std.specs.Prelude.{◌<◌};
-ghost use Rattle.snapshot.specs.Snapshot.{text};
+ghost use Rattle.std.specs.Prelude.{◌≡◌, ◌<◌};
+ghost use Rattle.snapshot.specs.Snapshot.{text, title_of};
 ghost use Rattle.store_cells.specs.Layout.{row_count};
 ghost use Rattle.store.specs.Store.{ledger_of, Good};
 ghost use Rattle.text_write.specs.Put.{Put, Room, Measured};
 ghost use Rattle.text_close.specs.Lines.{title_text, formula_lines, row_text, row_lines, body_lines, ClosedAs};
 
 use call_checks::{Verdict, tested};
-use ledger::Answer;
+use ledger::{Answer, Refusal};
+use snapshot::Title;
 use store::Store;
 use store_cells::credentials;
 
-// Lengths: of the first line, of the formula lines, of the credentials' lines; a gap has none.
+fn title_of(store: &Store) -> Title
+    requires { Good store.now }
+    ensures { result ≡ title_of (ledger_of store.now) }
+{
+    Title {
+        edition: text_edition::edition_of(store),
+        next: store::next_serial(store),
+        lines: store::formula_count(store),
+        live: store::live_count(store),
+    }
+}
+
+// Lengths: of the first line, of the formula lines, of the credentials' lines; a gap has none. The loops over formula
+// lines and over rows stay two, here and in the writers: one over a closure is no plainer, since the closure that
+// measures or writes a line would state that line's text in clauses as long as the loop.
 
 fn title_length(store: &Store) -> usize
     requires { Good store.now }
     ensures { Measured (title_text store.now) 40 result }
 {
-    let next = store::next_serial(store);
-    let lines = store::formula_count(store);
-    let live = store::live_count(store);
-    let e = text_edition::edition_of(store);
-    text_write::title_length(e, next, lines, live)
+    text_write::title_length(title_of(store))
 }
 
 fn formulas_length(store: &Store) -> usize
     requires { Good store.now }
     ensures { Measured (formula_lines store.now) 18000 result }
 {
-    let n = store::formula_count(store);
-    let mut at: usize = 0;
-    let mut i: u32 = 0;
-    while i < n {
-        let line = store::line_at(store, i);
-        let k = text_write::formula_length(line);
-        at += k;
-        i += 1;
+    let mut at = 0;
+    for i in 0..store::formula_count(store) {
+        at += text_write::formula_length(store::line_at(store, i));
     }
     at
 }
@@ -47,24 +53,20 @@ fn row_length(store: &Store, i: u32) -> usize
     requires { Good store.now × (i < row_count store.now) }
     ensures { Measured (row_text store.now i) 68 result }
 {
-    if credentials::gap(store, i) {
+    let left = credentials::kind_at(store, i).is_none();
+    if left {
         return 0;
     }
-    let c = store::credential_at(store, i);
-    text_write::credential_length(c)
+    text_write::credential_length(store::credential_at(store, i))
 }
 
 fn rows_length(store: &Store) -> usize
     requires { Good store.now }
     ensures { Measured (row_lines store.now) 278528 result }
 {
-    let n = store::row_count(store);
-    let mut at: usize = 0;
-    let mut i: u32 = 0;
-    while i < n {
-        let k = row_length(store, i);
-        at += k;
-        i += 1;
+    let mut at = 0;
+    for i in 0..store::row_count(store) {
+        at += row_length(store, i);
     }
     at
 }
@@ -82,25 +84,16 @@ fn put_title(rest: &mut [u8], store: &Store) -> usize
     requires { Good store.now × Room rest.old (title_text store.now) }
     ensures { Put rest.old (title_text store.now) rest.new result }
 {
-    let next = store::next_serial(store);
-    let lines = store::formula_count(store);
-    let live = store::live_count(store);
-    let e = text_edition::edition_of(store);
-    text_write::put_title(rest, e, next, lines, live)
+    text_write::put_title(rest, title_of(store))
 }
 
 fn put_formulas(rest: &mut [u8], store: &Store) -> usize
     requires { Good store.now × Room rest.old (formula_lines store.now) }
     ensures { Put rest.old (formula_lines store.now) rest.new result }
 {
-    let n = store::formula_count(store);
-    let mut at: usize = 0;
-    let mut i: u32 = 0;
-    while i < n {
-        let row = store::line_at(store, i);
-        let k = text_write::put_formula(&mut rest[at..], row);
-        at += k;
-        i += 1;
+    let mut at = 0;
+    for i in 0..store::formula_count(store) {
+        at += text_write::put_formula(&mut rest[at..], store::line_at(store, i));
     }
     at
 }
@@ -109,24 +102,20 @@ fn put_row(rest: &mut [u8], store: &Store, row: u32) -> usize
     requires { Good store.now × (row < row_count store.now) × Room rest.old (row_text store.now row) }
     ensures { Put rest.old (row_text store.now row) rest.new result }
 {
-    if credentials::gap(store, row) {
+    let left = credentials::kind_at(store, row).is_none();
+    if left {
         return 0;
     }
-    let c = store::credential_at(store, row);
-    text_write::put_credential(rest, c)
+    text_write::put_credential(rest, store::credential_at(store, row))
 }
 
 fn put_rows(rest: &mut [u8], store: &Store) -> usize
     requires { Good store.now × Room rest.old (row_lines store.now) }
     ensures { Put rest.old (row_lines store.now) rest.new result }
 {
-    let n = store::row_count(store);
-    let mut at: usize = 0;
-    let mut i: u32 = 0;
-    while i < n {
-        let k = put_row(&mut rest[at..], store, i);
-        at += k;
-        i += 1;
+    let mut at = 0;
+    for i in 0..store::row_count(store) {
+        at += put_row(&mut rest[at..], store, i);
     }
     at
 }
@@ -155,9 +144,8 @@ pub fn close(store: &Store, buffer: &mut [u8]) -> Answer
     ensures { ClosedAs (ledger_of store.now) buffer.old result buffer.new }
 {
     let n = text_length(store);
-    let room = tested(buffer.len() < n);
-    let Verdict::Passed = room else {
-        return Answer::Refused(52, 0);
+    let Verdict::Passed = tested(buffer.len() < n) else {
+        return Answer::Refused(Refusal::BufferTooShort as u32, 0);
     };
     put_text(buffer, store);
     Answer::Accepted(n as u32)

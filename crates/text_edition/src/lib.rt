@@ -17,7 +17,7 @@ const MOST_OF_FIRST: u32 = 512;
 pub fn holder_letter(letter: u32) -> bool
     ensures { result ≡ holder_letter letter }
 {
-    (letter == letters::NAMED) | (letter == letters::FOR_EVERY)
+    letter == letters::NAMED || letter == letters::FOR_EVERY
 }
 
 // Whether a line of the store's ledger is `n` or `q`, used or not.
@@ -25,14 +25,11 @@ fn has_holders(store: &Store) -> bool
     requires { Good store.now }
     ensures { result ≡ any_of holder_line (ledger_of store.now).lines }
 {
-    let n = store::formula_count(store);
-    let mut i = 0;
-    while i < n {
-        let row = store::line_at(store, i);
-        if holder_letter(row.letter) {
+    for i in 0..store::formula_count(store) {
+        let found = holder_letter(store::line_at(store, i).letter);
+        if found {
             return true;
         }
-        i += 1;
     }
     false
 }
@@ -41,36 +38,26 @@ fn has_holders(store: &Store) -> bool
 pub fn edition_by(holders: bool, live: u32) -> Edition
     ensures { result ≡ edition_by holders live }
 {
-    if holders {
-        return Edition::Second;
+    if holders || MOST_OF_FIRST < live {
+        Edition::Second
+    } else {
+        Edition::First
     }
-    if MOST_OF_FIRST < live {
-        return Edition::Second;
-    }
-    Edition::First
 }
 
 // That of the store's ledger.
+#[tactic(auto, unfolding(snapshot::specs::Snapshot::edition_of))]
 pub fn edition_of(store: &Store) -> Edition
     requires { Good store.now }
     ensures { result ≡ own_edition (ledger_of store.now) }
 {
-    let holders = has_holders(store);
-    let live = store::live_count(store);
-    edition_by(holders, live)
+    edition_by(has_holders(store), store::live_count(store))
 }
 
+// Stays beside `==`, as its clause has the definition's `same_edition`, and the edits same_first_second and
+// same_second_first are made in it.
 pub fn same(d: Edition, e: Edition) -> bool
     ensures { result ≡ same_edition d e }
 {
-    match d {
-        Edition::First => match e {
-            Edition::First => true,
-            Edition::Second => false,
-        },
-        Edition::Second => match e {
-            Edition::First => false,
-            Edition::Second => true,
-        },
-    }
+    d == e
 }

@@ -3,11 +3,11 @@ use mathlib.Core.Path.{◌≡◌, refl, sym, ap, subst, ◌∙◌}
 use mathlib.Core.List.{List, []}
 use mathlib.Core.Option.{Option, none, some}
 use mathlib.Core.Bool.{Bool, true, false}
-use Prim.Native.Nat.{ℕ, ◌≤◌, ◌<◌}
+use Prim.Native.Nat.{ℕ, ◌≤◌}
 use native.Mathlib.Omega.{arith}
 use lib.Dec.{eqb}
-use lib.ListN.{length, drop, length-drop}
-use borrow.Author.Tests.{ne_eqb}
+use lib.ListN.{length}
+use Rattle.std.specs.Bool.{then_some as some_if}
 use Rattle.logic.specs.Choice.{pick}
 use Rattle.request.specs.Text.{and_then}
 use Rattle.request.specs.Request.{Line}
@@ -20,6 +20,7 @@ use Rattle.ledger.specs.Checks.{Refusal, ◌if◌, first, any_of}
 use Rattle.ledger.specs.Calls.{Reply, reply, told}
 use Rattle.ledger.specs.Statements.{IsAccepted}
 use Rattle.ledger.proofs.Answers.{some_none, some_inj}
+use Rattle.snapshot.specs.declared.Title.{Title}
 use Rattle.snapshot.specs.Snapshot.{credential_line, longest_text, lines_only, bad_lines, bad_credential, unruly}
 use Rattle.snapshot.specs.declared.Edition.{Edition}
 use Rattle.snapshot.specs.Snapshot.{own_edition, same_edition, as_written, snapshot_of, rising, open_checks}
@@ -27,17 +28,15 @@ use Rattle.snapshot.specs.Reopen.{settle, reopen}
 use Rattle.snapshot.proofs.Reopen.{open_answers}
 use Rattle.snapshot.proofs.Texts.{read_in_form, read_written, longest_text_holds}
 use Rattle.read_fields.proofs.Then.{then_then, then_same, then_none, then_some, then_no, by_test}
-use Rattle.read_fields.proofs.Bytes.{past}
 use Rattle.read_rest.specs.LinesRead.{read_lines, all_lines}
 use Rattle.store.specs.Store.{ledger_of, Good, StandsFor}
 use Rattle.store_credentials.specs.NextSerial.{with_next}
 use Rattle.call_checks.specs.declared.Verdict.{Verdict}
 use Rattle.call_checks.specs.declared.Verdict.TheVariants.{Passed, Failed}
-use Rattle.text_read.specs.declared.Heading.{Heading}
-use Rattle.text_read.specs.TextForm.{title_at, Fails50, Titled, FormIs}
+use Rattle.text_read.specs.TextForm.{Fails50, Titled, FormIs}
 use Rattle.text_read.proofs.TextForms.{ledger_from, saved_from, snapshot_is}
 use Rattle.text_open.specs.Opened.{lines_added, LinesAsked, credentials_added, LiveAsked, sound, passing, RefusalIs}
-use Rattle.text_open.specs.Opened.{Opened}
+use Rattle.text_open.specs.Opened.{Built, Opened}
 use Rattle.text_open.proofs.Taking.{taken_lines}
 use Rattle.text_open.proofs.Giving.{both_none, live_found, given_live}
 
@@ -98,56 +97,55 @@ not_passing b e = go (snapshot_of b) refl
 abbrev lines_found : List Line × List ℕ → Option (Ledger × List ℕ)
 lines_found p = pick (bad_lines [] p.0) none (some (lines_only p.0, p.1))
 
-module _ {b : List ℕ} {h : Heading} (f : Titled b h) where
-  pub lines_asked : {l : List ℕ} → StandsFor l empty → LinesAsked l b h.lines
+module _ {b body : List ℕ} {h : Title} (f : Titled b h body) where
+  pub lines_asked : {l : List ℕ} → StandsFor l empty → LinesAsked l h.lines
   lines_asked s = record {
     good = s.good;
-    short = omega (arith, f.short);
     room = rw s.ledger (omega (arith, f.range.lines.most));
   }
 
   -- line by line
-  passing_is : passing b ≡ and_then (read_lines h.lines formula_line (drop h.body b)) (λ p.
-      and_then (all_lines h.live credential_line p.1) (λ cs. sound_in (saved_from (title_at h) p.0 cs)))
+  passing_is : passing b ≡ and_then (read_lines h.lines formula_line body) (λ p.
+      and_then (all_lines h.live credential_line p.1) (λ cs. sound_in (saved_from h p.0 cs)))
   unfolding passing and_then
   passing_is =
       ap (λ (o : Option Ledger). and_then o sound) (snapshot_is b ∙ then_some _ f.reads)
-      ∙ then_then (read_lines h.lines formula_line (drop h.body b)) _ sound
-      ∙ then_same (read_lines h.lines formula_line (drop h.body b)) (λ p.
+      ∙ then_then (read_lines h.lines formula_line body) _ sound
+      ∙ then_same (read_lines h.lines formula_line body) (λ p.
       then_then (all_lines h.live credential_line p.1) _ sound)
 
   lines_are : {l : List ℕ} → StandsFor l empty
-      → lines_added (ledger_of l) h.lines (drop h.body b)
-      ≡ and_then (read_lines h.lines formula_line (drop h.body b)) lines_found
-  lines_are s = rw s.ledger (taken_lines h.lines [] (drop h.body b))
+      → lines_added (ledger_of l) h.lines body
+      ≡ and_then (read_lines h.lines formula_line body) lines_found
+  lines_are s = rw s.ledger (taken_lines h.lines [] body)
 
-  pub lines_bad : {l : List ℕ} → StandsFor l empty → lines_added (ledger_of l) h.lines (drop h.body b) ≡ none
+  pub lines_bad : {l : List ℕ} → StandsFor l empty → lines_added (ledger_of l) h.lines body ≡ none
       → none ≡ passing b
   unfolding and_then unruly
-  lines_bad s e = go (read_lines h.lines formula_line (drop h.body b)) refl (sym (lines_are s) ∙ e)
+  lines_bad s e = go (read_lines h.lines formula_line body) refl (sym (lines_are s) ∙ e)
     where
-      go : (o : Option (List Line × List ℕ)) → read_lines h.lines formula_line (drop h.body b) ≡ o
+      go : (o : Option (List Line × List ℕ)) → read_lines h.lines formula_line body ≡ o
           → and_then o lines_found ≡ none → none ≡ passing b
       go none q z = sym (passing_is ∙ then_no _ q)
       go (some p) q z =
           sym (passing_is ∙ then_some _ q ∙ then_none (all_lines h.live credential_line p.1) (λ cs.
-          unsound_in h.edition (ledger_from (title_at h) p.0 cs)
-          (unsound_unruly (ledger_from (title_at h) p.0 cs) (rw (unpicked (bad_lines [] p.0) _ z)))))
+          unsound_in h.edition (ledger_from h p.0 cs)
+          (unsound_unruly (ledger_from h p.0 cs) (rw (unpicked (bad_lines [] p.0) _ z)))))
 
   -- the lines that were read, where none is bad
-  record LinesRead (m : List ℕ) (i : ℕ) : Type 0 where
+  record LinesRead (m tail : List ℕ) : Type 0 where
     lines : List Line
-    read : read_lines h.lines formula_line (drop h.body b) ≡ some (lines, drop i b)
+    read : read_lines h.lines formula_line body ≡ some (lines, tail)
     rules : bad_lines [] lines ≡ false
     ledger : ledger_of m ≡ lines_only lines
 
-  lines_read : {l m : List ℕ} (i : ℕ) → StandsFor l empty
-      → lines_added (ledger_of l) h.lines (drop h.body b) ≡ some (ledger_of m, drop i b) → LinesRead m i
+  lines_read : {l m : List ℕ} (tail : List ℕ) → StandsFor l empty
+      → lines_added (ledger_of l) h.lines body ≡ some (ledger_of m, tail) → LinesRead m tail
   unfolding and_then
-  lines_read {l} {m} i s e = go (read_lines h.lines formula_line (drop h.body b)) refl (sym (lines_are s) ∙ e)
+  lines_read {l} {m} tail s e = go (read_lines h.lines formula_line body) refl (sym (lines_are s) ∙ e)
     where
-      go : (o : Option (List Line × List ℕ)) → read_lines h.lines formula_line (drop h.body b) ≡ o
-          → and_then o lines_found ≡ some (ledger_of m, drop i b) → LinesRead m i
+      go : (o : Option (List Line × List ℕ)) → read_lines h.lines formula_line body ≡ o
+          → and_then o lines_found ≡ some (ledger_of m, tail) → LinesRead m tail
       go none q z = absurd (some_none (sym z))
       go (some p) q z =
           let x = picked (bad_lines [] p.0) z in
@@ -158,44 +156,43 @@ module _ {b : List ℕ} {h : Heading} (f : Titled b h) where
             ledger = sym (ap (λ (y : Ledger × List ℕ). y.0) x.1);
           }
 
-  module _ {l m : List ℕ} (i : ℕ) (s : StandsFor l empty) (g : Good m)
-      (e : lines_added (ledger_of l) h.lines (drop h.body b) ≡ some (ledger_of m, drop i b)) where
-    r : LinesRead m i
-    r = lines_read i s e
+  module _ {l m : List ℕ} (tail : List ℕ) (s : StandsFor l empty) (g : Good m)
+      (e : lines_added (ledger_of l) h.lines body ≡ some (ledger_of m, tail)) where
+    r : LinesRead m tail
+    r = lines_read tail s e
 
-    pub live_asked : LiveAsked m b h.live h.next
+    pub live_asked : LiveAsked m h.live h.next
     live_asked = record {
       raisable = record { good = g; above = rw r.ledger f.range.next.least; most = f.range.next.most };
-      short = omega (arith, f.short);
       room = rw r.ledger (omega (arith, f.range.live.most));
     }
 
     whole : List Credential → Ledger
-    whole cs = ledger_from (title_at h) r.lines cs
+    whole cs = ledger_from h r.lines cs
 
     passing_on : passing b
-        ≡ and_then (all_lines h.live credential_line (drop i b)) (λ cs. sound_in (h.edition, whole cs))
+        ≡ and_then (all_lines h.live credential_line tail) (λ cs. sound_in (h.edition, whole cs))
     unfolding whole
     passing_on = passing_is ∙ then_some _ r.read
 
-    live_are : and_then (credentials_added h.next (ledger_of m) h.live (drop i b)) (λ q.
+    live_are : and_then (credentials_added h.next (ledger_of m) h.live tail) (λ q.
         some (with_next q.0 h.next, q.1))
-        ≡ and_then (read_lines h.live credential_line (drop i b)) (live_found h.next 0 (lines_only r.lines))
-    live_are = rw r.ledger (given_live h.next h.live 0 (lines_only r.lines) (drop i b) refl)
+        ≡ and_then (read_lines h.live credential_line tail) (live_found h.next 0 (lines_only r.lines))
+    live_are = rw r.ledger (given_live h.next h.live 0 (lines_only r.lines) tail refl)
 
     -- the credentials of lines that were read, with these bytes after them
-    all_none : (p : List Credential × List ℕ) → read_lines h.live credential_line (drop i b) ≡ some p
+    all_none : (p : List Credential × List ℕ) → read_lines h.live credential_line tail ≡ some p
         → sound (whole p.0) ≡ none → none ≡ passing b
     unfolding all_lines and_then
     all_none p q z = by_test (eqb (length p.1) 0)
         (λ t. sym (passing_on ∙ rw (all_lines, q, and_then, t) (unsound_in h.edition (whole p.0) z)))
         (λ t. sym (passing_on ∙ rw (all_lines, q, and_then, t)))
 
-    pub live_bad : credentials_added h.next (ledger_of m) h.live (drop i b) ≡ none → none ≡ passing b
+    pub live_bad : credentials_added h.next (ledger_of m) h.live tail ≡ none → none ≡ passing b
     unfolding all_lines and_then unruly bad_credential whole
-    live_bad n = go (read_lines h.live credential_line (drop i b)) refl (sym live_are ∙ then_no _ n)
+    live_bad n = go (read_lines h.live credential_line tail) refl (sym live_are ∙ then_no _ n)
       where
-        go : (o : Option (List Credential × List ℕ)) → read_lines h.live credential_line (drop i b) ≡ o
+        go : (o : Option (List Credential × List ℕ)) → read_lines h.live credential_line tail ≡ o
             → and_then o (live_found h.next 0 (lines_only r.lines)) ≡ none → none ≡ passing b
         go none q z = sym (passing_on ∙ rw (all_lines, q, and_then))
         go (some p) q z = by_test (rising 0 p.0)
@@ -206,26 +203,26 @@ module _ {b : List ℕ} {h : Heading} (f : Titled b h) where
             (λ t. all_none p q (unsound_rising (whole p.0) t))
 
     -- the credentials that were read, where none is bad
-    record LiveRead (u : Ledger) (j : ℕ) : Type 0 where
+    record LiveRead (u : Ledger) (over : List ℕ) : Type 0 where
       live : List Credential
-      read : read_lines h.live credential_line (drop i b) ≡ some (live, drop j b)
+      read : read_lines h.live credential_line tail ≡ some (live, over)
       rises : rising 0 live ≡ true
       rules : any_of (bad_credential (whole live)) live ≡ false
       ledger : whole live ≡ with_next u h.next
 
-    module _ {u : Ledger} (j : ℕ)
-        (v : credentials_added h.next (ledger_of m) h.live (drop i b) ≡ some (u, drop j b)) where
-      live_read : LiveRead u j
+    module _ {u : Ledger} (over : List ℕ)
+        (v : credentials_added h.next (ledger_of m) h.live tail ≡ some (u, over)) where
+      live_read : LiveRead u over
       unfolding and_then bad_credential whole
-      live_read = go (read_lines h.live credential_line (drop i b)) refl (sym live_are ∙ then_some _ v)
+      live_read = go (read_lines h.live credential_line tail) refl (sym live_are ∙ then_some _ v)
         where
-          go : (o : Option (List Credential × List ℕ)) → read_lines h.live credential_line (drop i b) ≡ o
-              → and_then o (live_found h.next 0 (lines_only r.lines)) ≡ some (with_next u h.next, drop j b)
-              → LiveRead u j
+          go : (o : Option (List Credential × List ℕ)) → read_lines h.live credential_line tail ≡ o
+              → and_then o (live_found h.next 0 (lines_only r.lines)) ≡ some (with_next u h.next, over)
+              → LiveRead u over
           go none q z = absurd (some_none (sym z))
           go (some p) q z = by_test (rising 0 p.0)
               (λ t. let y : pick (any_of (bad_credential (whole p.0)) p.0) none (some (whole p.0, p.1))
-              ≡ some (with_next u h.next, drop j b) = rw t at z in
+              ≡ some (with_next u h.next, over) = rw t at z in
               let x = picked (any_of (bad_credential (whole p.0)) p.0) y in
               record {
                 live = p.0;
@@ -234,22 +231,15 @@ module _ {b : List ℕ} {h : Heading} (f : Titled b h) where
                 rules = x.0;
                 ledger = ap (λ (y : Ledger × List ℕ). y.0) x.1;
               })
-              (λ t. let y : ◌≡◌ {A = Option (Ledger × List ℕ)} none (some (with_next u h.next, drop j b))
+              (λ t. let y : ◌≡◌ {A = Option (Ledger × List ℕ)} none (some (with_next u h.next, over))
               = rw t at z in
               absurd (some_none (sym y)))
 
-      pub left_over : j < length b → none ≡ passing b
+      pub left_over : eqb (length over) 0 ≡ false → none ≡ passing b
       unfolding all_lines and_then
-      left_over n =
-          sym (passing_on ∙ rw (
-            all_lines,
-            live_read.read,
-            and_then,
-            ne_eqb (length (drop j b)) 0 (λ e.
-                omega (arith, length-drop j b, n)),
-          ))
+      left_over n = sym (passing_on ∙ rw (all_lines, live_read.read, and_then, n))
 
-      module _ {k : List ℕ} (n : length b ≤ j) (w : StandsFor k (with_next u h.next)) where
+      module _ {k : List ℕ} (n : eqb (length over) 0 ≡ true) (w : StandsFor k (with_next u h.next)) where
         is_whole : ledger_of k ≡ whole live_read.live
         is_whole = w.ledger ∙ sym live_read.ledger
 
@@ -266,7 +256,7 @@ module _ {b : List ℕ} {h : Heading} (f : Titled b h) where
                 all_lines,
                 live_read.read,
                 and_then,
-                past b j n,
+                n,
                 z,
                 live_read.rises,
                 r.rules,
@@ -278,7 +268,13 @@ module _ {b : List ℕ} {h : Heading} (f : Titled b h) where
           other_edition s =
               let z : same_edition h.edition (own_edition (whole live_read.live)) ≡ false =
               subst (λ (x : Edition). same_edition h.edition x ≡ false) is_own (sym s) in
-              sym (passing_on ∙ rw (all_lines, live_read.read, and_then, past b j n, z))
+              sym (passing_on ∙ rw (all_lines, live_read.read, and_then, n, z))
+
+-- by whether the text's edition is its own
+pub built_by : (b l : List ℕ) (r : Bool) → (true ≡ r → some (ledger_of l) ≡ passing b)
+    → (false ≡ r → none ≡ passing b) → Good l → Built b l (some_if r tt)
+built_by b l true f g w = (sym (f refl), w)
+built_by b l false f g w = sym (g refl)
 
 -- Opening
 

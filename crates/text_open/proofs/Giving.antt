@@ -6,7 +6,7 @@ use mathlib.Core.Bool.{Bool, true, false, ◌||◌}
 use Prim.Native.Nat.{ℕ, zero, suc, ◌+◌, ◌-◌, ◌≤◌, ◌<◌}
 use native.Mathlib.Omega.{arith}
 use lib.Dec.{ltb}
-use lib.ListN.{length, drop, length-append}
+use lib.ListN.{length, length-append}
 use borrow.Author.Tests.{ltb-true, ltb-false, lt-ltb, le-ltb}
 use Rattle.logic.specs.Choice.{pick}
 use Rattle.request.specs.Text.{and_then}
@@ -33,48 +33,46 @@ more_live n t u c e = by_test (ltb c.serial t.next || bad_credential (with_next 
     (λ b. let z : ◌≡◌ {A = Option Ledger} (some (with_given t c)) (some u) = rw b at e in
     ap (λ (v : Ledger). length v.live) (sym (some_inj z)) ∙ length-append t.live (c ∷ []))
 
--- k of count lines have been taken
-pub record Giving (o : Option (Ledger × List ℕ)) (s : List ℕ) (count n : ℕ) (l : List ℕ) (i k : ℕ) : Type 0 where
-  pub asked : LiveAsked l s (count - k) n
-  pub takes : o ≡ credentials_added n (ledger_of l) (count - k) (drop i s)
+-- k of count lines have been taken, and the bytes of b are left
+pub record Giving (o : Option (Ledger × List ℕ)) (count n : ℕ) (l b : List ℕ) (k : ℕ) : Type 0 where
+  pub asked : LiveAsked l (count - k) n
+  pub takes : o ≡ credentials_added n (ledger_of l) (count - k) b
 
-pub give_start : {l s : List ℕ} {count n : ℕ} (at : ℕ) → LiveAsked l s count n
-    → Giving (credentials_added n (ledger_of l) count (drop at s)) s count n l at 0
-give_start {count} at a = let q : count - 0 ≡ count = omega arith in record { asked = rw q a; takes = rw q }
+pub give_start : {l : List ℕ} {count n : ℕ} (b : List ℕ) → LiveAsked l count n
+    → Giving (credentials_added n (ledger_of l) count b) count n l b 0
+give_start {count} b a = let q : count - 0 ≡ count = omega arith in record { asked = rw q a; takes = rw q }
 
-module _ {o : Option (Ledger × List ℕ)} {s : List ℕ} {count n : ℕ} {l : List ℕ} {i k : ℕ} (h : Giving o s count n l i k)
-  where
-    pub give_end : count ≤ k → some (ledger_of l, drop i s) ≡ o
-    unfolding credentials_added
-    give_end m = let q : count - k ≡ 0 = omega arith in sym (h.takes ∙ rw q)
+module _ {o : Option (Ledger × List ℕ)} {count n : ℕ} {l b : List ℕ} {k : ℕ} (h : Giving o count n l b k) where
+  pub give_end : count ≤ k → some (ledger_of l, b) ≡ o
+  unfolding credentials_added
+  give_end m = let q : count - k ≡ 0 = omega arith in sym (h.takes ∙ rw q)
 
-    module _ (more : k < count) where
-      left : count - k ≡ suc (count - (k + 1))
-      left = omega arith
+  module _ (more : k < count) where
+    left : count - k ≡ suc (count - (k + 1))
+    left = omega arith
 
-      pub no_credential : read_line credential_line (drop i s) ≡ none → none ≡ o
+    pub no_credential : read_line credential_line b ≡ none → none ≡ o
+    unfolding credentials_added and_then
+    no_credential e = sym (h.takes ∙ rw (left, credentials_added, e, and_then))
+
+    module _ (x : Credential) {c : List ℕ} (e : read_line credential_line b ≡ some (x, c)) where
+      pub bad_credential_holds : credential_added n (ledger_of l) x ≡ none → none ≡ o
       unfolding credentials_added and_then
-      no_credential e = sym (h.takes ∙ rw (left, credentials_added, e, and_then))
+      bad_credential_holds f = sym (h.takes ∙ rw (left, credentials_added, e, and_then, f))
 
-      module _ (x : Credential) {c : List ℕ} (e : read_line credential_line (drop i s) ≡ some (x, c)) where
-        pub bad_credential_holds : credential_added n (ledger_of l) x ≡ none → none ≡ o
-        unfolding credentials_added and_then
-        bad_credential_holds f = sym (h.takes ∙ rw (left, credentials_added, e, and_then, f))
+      pub credential_asked : CredentialAsked l x n
+      credential_asked = record {
+        raisable = h.asked.raisable;
+        most = (credential_range b e).serial.most;
+        room = omega (arith, h.asked.room, left);
+      }
 
-        pub credential_asked : CredentialAsked l x n
-        credential_asked = record {
-          raisable = h.asked.raisable;
-          most = (credential_range (drop i s) e).serial.most;
-          room = omega (arith, h.asked.room, left);
-        }
-
-      pub give_next : {m : List ℕ} (x : Credential) (j : ℕ) → read_line credential_line (drop i s) ≡ some (x, drop j s)
-          → credential_added n (ledger_of l) x ≡ some (ledger_of m) → Raisable m n → Giving o s count n m j (k + 1)
+      pub give_next : {m : List ℕ} → credential_added n (ledger_of l) x ≡ some (ledger_of m) → Raisable m n
+          → Giving o count n m c (k + 1)
       unfolding credentials_added and_then
-      give_next {m} x j e f g = record {
+      give_next {m} f g = record {
         asked = record {
           raisable = g;
-          short = h.asked.short;
           room = omega (arith, more_live n (ledger_of l) (ledger_of m) x f, h.asked.room, left);
         };
         takes = h.takes ∙ rw (left, credentials_added, e, and_then, f);

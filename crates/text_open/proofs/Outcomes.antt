@@ -8,6 +8,7 @@ use native.Mathlib.Omega.{arith}
 use lib.ListN.{length}
 use lib.Dec.{ltb}
 use borrow.Author.Tests.{le-leb, lt-leb, lt-ltb, le-ltb}
+use Rattle.std.specs.Prelude.{Option as Read, Some, None}
 use Rattle.request.specs.Range.{serial}
 use Rattle.request.specs.Request.{Line, Request, word, issue}
 use Rattle.ledger.specs.declared.Credential.{Credential}
@@ -23,29 +24,27 @@ use Rattle.snapshot.proofs.Rules.{rules_agree}
 use Rattle.store.specs.Store.{ledger_of, Good, StandsFor}
 use Rattle.store_credentials.specs.NextSerial.{with_next, Raisable}
 use Rattle.call_contracts.specs.Called.{Handled}
-use Rattle.call_checks.specs.declared.Verdict.{Verdict}
-use Rattle.call_checks.specs.declared.Verdict.TheVariants.{Passed, Failed}
 use Rattle.text_open.specs.Opened.{AcceptedIs, left_of, line_added, CredentialAsked, credential_added}
 
 -- no check of the request fails, and it is done; or one fails
-abbrev Found : Ledger → Request → List ℕ → Verdict → Type 0
-Found t q l Passed = (first (read_checks t (some q)) ≡ none) × (ledger_of l ≡ (accept t q).ledger)
-Found t q l Failed = (is_none (first (read_checks t (some q))) ≡ false) × (ledger_of l ≡ t)
+abbrev Found : Ledger → Request → List ℕ → Read (Unit {0}) → Type 0
+Found t q l (Some u) = (first (read_checks t (some q)) ≡ none) × (ledger_of l ≡ (accept t q).ledger)
+Found t q l None = (is_none (first (read_checks t (some q))) ≡ false) × (ledger_of l ≡ t)
 
-found : {l l' : List ℕ} {q : Request} {a : Answer} (r : Verdict) → Handled l q a l' → AcceptedIs a r
+found : {l l' : List ℕ} {q : Request} {a : Answer} (r : Read (Unit {0})) → Handled l q a l' → AcceptedIs a r
     → Found (ledger_of l) q l' r
 found {l} {l'} {q} {a} r h p = go r p (first (read_checks (ledger_of l) (some q))) refl
   where
-    go : (r : Verdict) → AcceptedIs a r → (o : Option Refusal) → first (read_checks (ledger_of l) (some q)) ≡ o
+    go : (r : Read (Unit {0})) → AcceptedIs a r → (o : Option Refusal) → first (read_checks (ledger_of l) (some q)) ≡ o
         → Found (ledger_of l) q l' r
-    go Passed p none e = (e, h.ledger ∙ ap (λ (d : Reply). d.ledger) (handle_passes (ledger_of l) q e))
-    go Passed p (some f) e =
+    go (Some u) p none e = (e, h.ledger ∙ ap (λ (d : Reply). d.ledger) (handle_passes (ledger_of l) q e))
+    go (Some u) p (some f) e =
         let z = ap (λ (d : Reply). told d.answer) (handle_fails (ledger_of l) q e) in
         absurd (subst IsAccepted (h.answer ∙ z) p)
-    go Failed p none e =
+    go None p none e =
         let z = ap (λ (d : Reply). told d.answer) (handle_passes (ledger_of l) q e) in
         absurd (p (subst IsAccepted (sym (h.answer ∙ z)) (accept_accepts (ledger_of l) q)))
-    go Failed p (some f) e =
+    go None p (some f) e =
         (ap is_none e, h.ledger ∙ ap (λ (d : Reply). d.ledger) (handle_fails (ledger_of l) q e))
 
 -- A line
@@ -54,12 +53,13 @@ module _ (t : Ledger) (x : Line) (room : length t.lines < max_formulas) where
   line_agrees : fails (line_rules t x) ≡ not (is_none (first (read_checks t (some (word x)))))
   line_agrees = ap (λ (o : Option Refusal). not (is_none o)) ((rules_agree t).word x room)
 
-  line_found : (l : List ℕ) (r : Verdict) → Found t (word x) l r → left_of l r ≡ line_added t x
+  line_found : (l : List ℕ) (r : Read (Unit {0})) → Found t (word x) l r → left_of l r ≡ line_added t x
   unfolding accept line_added
-  line_found l Passed f = rw (line_agrees, f.0, f.1)
-  line_found l Failed f = rw (line_agrees, f.0)
+  line_found l (Some u) f = rw (line_agrees, f.0, f.1)
+  line_found l None f = rw (line_agrees, f.0)
 
-pub line_taken : {l l' : List ℕ} {x : Line} {a : Answer} (r : Verdict) → length (ledger_of l).lines < max_formulas
+pub line_taken : {l l' : List ℕ} {x : Line} {a : Answer} (r : Read (Unit {0}))
+    → length (ledger_of l).lines < max_formulas
     → Handled l (word x) a l' → AcceptedIs a r → (left_of l' r ≡ line_added (ledger_of l) x) × Good l'
 line_taken r room h p = (line_found _ _ room _ r (found r h p), h.good)
 
@@ -98,20 +98,22 @@ module _ (t : Ledger) (c : Credential) (n : ℕ) (room : length t.live < max_liv
       rw (lt-leb _ _ below) (or_none _
       ∙ ap (λ (o : Option Refusal). not (is_none o)) ((rules_agree (with_next t c.serial)).issue c room most))
 
-  credential_found : (l : List ℕ) (r : Verdict) → Found (with_next t c.serial) (issue_of c) l r
+  credential_found : (l : List ℕ) (r : Read (Unit {0})) → Found (with_next t c.serial) (issue_of c) l r
       → left_of l r ≡ credential_added n t c
   unfolding accept credential_added
-  credential_found l Passed f = rw (le-ltb _ _ rise, credential_agrees, f.0, f.1)
-  credential_found l Failed f = rw (le-ltb _ _ rise, credential_agrees, f.0)
+  credential_found l (Some u) f = rw (le-ltb _ _ rise, credential_agrees, f.0, f.1)
+  credential_found l None f = rw (le-ltb _ _ rise, credential_agrees, f.0)
 
   -- its serial is the last given, or is to be given
-  next_found : (l : List ℕ) (r : Verdict) → Found (with_next t c.serial) (issue_of c) l r → (ledger_of l).next ≤ n
+  next_found : (l : List ℕ) (r : Read (Unit {0})) → Found (with_next t c.serial) (issue_of c) l r
+      → (ledger_of l).next ≤ n
   unfolding accept
-  next_found l Passed f = rw f.1 (omega (arith, below))
-  next_found l Failed f = rw f.1 (omega (arith, below))
+  next_found l (Some u) f = rw f.1 (omega (arith, below))
+  next_found l None f = rw f.1 (omega (arith, below))
 
-pub credential_taken : {l m l' : List ℕ} (c : Credential) (n : ℕ) {a : Answer} (r : Verdict) → CredentialAsked l c n
-    → (ledger_of l).next ≤ c.serial → c.serial < n → StandsFor m (with_next (ledger_of l) c.serial)
+pub credential_taken : {l m l' : List ℕ} (c : Credential) (n : ℕ) {a : Answer} (r : Read (Unit {0}))
+    → CredentialAsked l c n → (ledger_of l).next ≤ c.serial → c.serial < n
+    → StandsFor m (with_next (ledger_of l) c.serial)
     → Handled m (issue c.kind c.formula c.interval) a l' → AcceptedIs a r
     → (left_of l' r ≡ credential_added n (ledger_of l) c) × Raisable l' n
 credential_taken {l} {m} {l'} c n r q rise below s h p =

@@ -4,7 +4,7 @@ use mathlib.Core.List.{List, [], ◌∷◌, ◌++◌, append_assoc, append-nil}
 use mathlib.Core.Option.{Option, none, some}
 use Prim.Native.Nat.{ℕ, zero, suc, ◌+◌, ◌-◌, ◌≤◌, ◌<◌}
 use native.Mathlib.Omega.{arith}
-use lib.ListN.{length, drop, length-append}
+use lib.ListN.{length, length-append}
 use Rattle.logic.specs.Choice.{pick}
 use Rattle.request.specs.Text.{and_then}
 use Rattle.request.specs.Request.{Line}
@@ -40,17 +40,17 @@ line_more t u x e = by_test (fails (line_rules t x))
     (λ b. let z : ◌≡◌ {A = Option Ledger} (some (with_line t x)) (some u) = rw b at e in
     ap (λ (v : Ledger). length v.lines) (sym (some_inj z)) ∙ length-append t.lines (x ∷ []))
 
--- k of n lines have been taken
-pub record Taking (o : Option (Ledger × List ℕ)) (s : List ℕ) (n : ℕ) (l : List ℕ) (i k : ℕ) : Type 0 where
-  pub asked : LinesAsked l s (n - k)
-  pub takes : o ≡ lines_added (ledger_of l) (n - k) (drop i s)
+-- k of n lines have been taken, and the bytes of b are left
+pub record Taking (o : Option (Ledger × List ℕ)) (n : ℕ) (l b : List ℕ) (k : ℕ) : Type 0 where
+  pub asked : LinesAsked l (n - k)
+  pub takes : o ≡ lines_added (ledger_of l) (n - k) b
 
-pub take_start : {l s : List ℕ} {n : ℕ} (at : ℕ) → LinesAsked l s n
-    → Taking (lines_added (ledger_of l) n (drop at s)) s n l at 0
-take_start {n} at a = let q : n - 0 ≡ n = omega arith in record { asked = rw q a; takes = rw q }
+pub take_start : {l : List ℕ} {n : ℕ} (b : List ℕ) → LinesAsked l n
+    → Taking (lines_added (ledger_of l) n b) n l b 0
+take_start {n} b a = let q : n - 0 ≡ n = omega arith in record { asked = rw q a; takes = rw q }
 
-module _ {o : Option (Ledger × List ℕ)} {s : List ℕ} {n : ℕ} {l : List ℕ} {i k : ℕ} (h : Taking o s n l i k) where
-  pub take_end : n ≤ k → some (ledger_of l, drop i s) ≡ o
+module _ {o : Option (Ledger × List ℕ)} {n : ℕ} {l b : List ℕ} {k : ℕ} (h : Taking o n l b k) where
+  pub take_end : n ≤ k → some (ledger_of l, b) ≡ o
   unfolding lines_added
   take_end m = let q : n - k ≡ 0 = omega arith in sym (h.takes ∙ rw q)
 
@@ -58,11 +58,11 @@ module _ {o : Option (Ledger × List ℕ)} {s : List ℕ} {n : ℕ} {l : List �
     left : n - k ≡ suc (n - (k + 1))
     left = omega arith
 
-    pub no_line : read_line formula_line (drop i s) ≡ none → none ≡ o
+    pub no_line : read_line formula_line b ≡ none → none ≡ o
     unfolding lines_added and_then
     no_line e = sym (h.takes ∙ rw (left, lines_added, e, and_then))
 
-    pub bad_line : (x : Line) {c : List ℕ} → read_line formula_line (drop i s) ≡ some (x, c)
+    pub bad_line : (x : Line) {c : List ℕ} → read_line formula_line b ≡ some (x, c)
         → line_added (ledger_of l) x ≡ none → none ≡ o
     unfolding lines_added and_then
     bad_line x e f = sym (h.takes ∙ rw (left, lines_added, e, and_then, f))
@@ -74,13 +74,12 @@ module _ {o : Option (Ledger × List ℕ)} {s : List ℕ} {n : ℕ} {l : List �
       room = omega (arith, h.asked.room, left);
     }
 
-    pub take_next : {m : List ℕ} (x : Line) (j : ℕ) → read_line formula_line (drop i s) ≡ some (x, drop j s)
-        → line_added (ledger_of l) x ≡ some (ledger_of m) → Good m → Taking o s n m j (k + 1)
+    pub take_next : {m c : List ℕ} (x : Line) → read_line formula_line b ≡ some (x, c)
+        → line_added (ledger_of l) x ≡ some (ledger_of m) → Good m → Taking o n m c (k + 1)
     unfolding lines_added and_then
-    take_next {m} x j e f g = record {
+    take_next {m} x e f g = record {
       asked = record {
         good = g;
-        short = h.asked.short;
         room = omega (arith, line_more (ledger_of l) (ledger_of m) x f, h.asked.room, left);
       };
       takes = h.takes ∙ rw (left, lines_added, e, and_then, f);

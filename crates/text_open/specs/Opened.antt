@@ -1,6 +1,7 @@
 -- What the functions of opening leave: the answer and the ledger of the definition (crate snapshot, Reopen.antt); at a
 -- refusal the very same numbers.
-use Rattle.std.specs.Prelude.{◌≡◌, List, ◌||◌, ℕ, zero, suc, ◌+◌, ◌≤◌, ◌<◌, ltb, length, drop}
+use Rattle.std.specs.Prelude.{◌≡◌, List, ◌||◌, ℕ, zero, suc, ◌+◌, ◌≤◌, ◌<◌, ltb, length}
+use Rattle.std.specs.Prelude.{Option as Read, Some, None}
 use Rattle.std.proofs.Math.Option.{Option, none, some}
 use Rattle.logic.specs.Choice.{pick}
 use Rattle.request.specs.Range.{serial}
@@ -17,23 +18,18 @@ use Rattle.ledger.specs.Statements.{IsAccepted}
 use Rattle.snapshot.specs.Snapshot.{credential_line, snapshot_of, rising, line_rules, fails, bad_credential, unruly}
 use Rattle.snapshot.specs.Snapshot.{open_checks}
 use Rattle.snapshot.specs.Reopen.{reopen}
-use Rattle.read_fields.specs.Field.{max_reach}
-use Rattle.read_fields.specs.declared.Prefix.{Prefix}
-use Rattle.read_fields.specs.declared.Prefix.TheVariants.{Past, Absent}
 use Rattle.read_formulas.specs.Line.{read_line}
 use Rattle.store.specs.Store.{ledger_of, Canonical, Good}
 use Rattle.store_credentials.specs.NextSerial.{with_next, Raisable}
-use Rattle.call_checks.specs.declared.Verdict.{Verdict}
-use Rattle.call_checks.specs.declared.Verdict.TheVariants.{Passed, Failed}
 
-abbrev pub AcceptedIs : Answer → Verdict → Type 0
-AcceptedIs a Passed = IsAccepted (told a)
-AcceptedIs a Failed = IsAccepted (told a) → ⊥
+abbrev pub AcceptedIs : Answer → Read (Unit {0}) → Type 0
+AcceptedIs a (Some u) = IsAccepted (told a)
+AcceptedIs a None = IsAccepted (told a) → ⊥
 
 -- the ledger that a block is left with, where all passed
-abbrev pub left_of : List ℕ → Verdict → Option Ledger
-left_of l Passed = some (ledger_of l)
-left_of l Failed = none
+abbrev pub left_of : List ℕ → Read (Unit {0}) → Option Ledger
+left_of l (Some u) = some (ledger_of l)
+left_of l None = none
 
 -- Formula lines, as word takes them
 
@@ -48,18 +44,17 @@ lines_added t (suc n) b =
     and_then (read_line formula_line b) (λ p. and_then (line_added t p.0) (λ u. lines_added u n p.1))
 
 -- the ledger that a block is left with, and the bytes left to read
-abbrev pub lines_left : List ℕ → List ℕ → Prefix → Option (Ledger × List ℕ)
-lines_left s l (Past i) = some (ledger_of l, drop i s)
-lines_left s l Absent = none
+abbrev pub lines_left : List ℕ → List ℕ → Read (Unit {0}) → Option (Ledger × List ℕ)
+lines_left c l (Some u) = some (ledger_of l, c)
+lines_left c l None = none
 
 pub record LineAsked (l : List ℕ) (row : Row) : Type 0 where
   pub good : Good l
   pub canonical : Canonical row
   pub room : length (ledger_of l).lines < max_formulas
 
-pub record LinesAsked (l s : List ℕ) (count : ℕ) : Type 0 where
+pub record LinesAsked (l : List ℕ) (count : ℕ) : Type 0 where
   pub good : Good l
-  pub short : length s ≤ max_reach
   pub room : length (ledger_of l).lines + count ≤ max_formulas
 
 -- Credentials, as issue gives them; n is the text's next serial
@@ -84,9 +79,8 @@ pub record CredentialAsked (l : List ℕ) (c : Credential) (n : ℕ) : Type 0 wh
   pub most : c.serial ≤ serial.last
   pub room : length (ledger_of l).live < max_live
 
-pub record LiveAsked (l s : List ℕ) (count n : ℕ) : Type 0 where
+pub record LiveAsked (l : List ℕ) (count n : ℕ) : Type 0 where
   pub raisable : Raisable l n
-  pub short : length s ≤ max_reach
   pub room : length (ledger_of l).live + count ≤ max_live
 
 -- The whole
@@ -100,9 +94,9 @@ unfoldable pub passing : List ℕ → Option Ledger
 passing b = and_then (snapshot_of b) sound
 
 -- the block is built, or the text does not pass
-abbrev pub Built : List ℕ → List ℕ → Verdict → Type 0
-Built b l Passed = (passing b ≡ some (ledger_of l)) × Good l
-Built b l Failed = passing b ≡ none
+abbrev pub Built : List ℕ → List ℕ → Read (Unit {0}) → Type 0
+Built b l (Some u) = (passing b ≡ some (ledger_of l)) × Good l
+Built b l None = passing b ≡ none
 
 -- the answer is the refusal of the first check that fails
 pub record RefusalIs (b : List ℕ) (a : Answer) : Type 0 where

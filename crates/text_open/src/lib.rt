@@ -3,7 +3,7 @@
 // says which of the two it is.
 #![tactic(auto)]
 
-ghost use Rattle.std.specs.Prelude.{◌≡◌, drop};
+ghost use Rattle.std.specs.Prelude.{◌≡◌};
 ghost use Rattle.std.proofs.Math.Option.{none};
 ghost use Rattle.store.specs.Store.{line_of, ledger_of, Good};
 ghost use Rattle.store_credentials.specs.NextSerial.{Raisable};
@@ -12,130 +12,93 @@ ghost use Rattle.text_open.specs.Opened.{lines_left, CredentialAsked, credential
 ghost use Rattle.text_open.specs.Opened.{credentials_added, passing, Built, RefusalIs, Opened};
 
 use call_checks::Verdict;
-use ledger::{Answer, Credential};
-use read_fields::Prefix;
-use read_formulas::FormulaLine;
+use ledger::{Answer, Credential, Refusal};
+use read_fields::Reader;
 use read_formulas::formulas::formula_line;
 use steps::Row;
 use store::Store;
-use text_read::{CredentialLine, TextRead, credential_line, text_form, text_title};
+use text_read::{credential_line, text_form, text_title};
 
-// Whether an answer accepts.
-fn accepted(a: Answer) -> Verdict
+// An answer that accepts, or none.
+fn accepted(a: Answer) -> Option<()>
     ensures { AcceptedIs a result }
 {
     match a {
-        Answer::Accepted(n) => Verdict::Passed,
-        Answer::Counted(open, shut, placed) => Verdict::Passed,
-        Answer::Refused(n, step) => Verdict::Failed,
+        Answer::Accepted(_) => Some(()),
+        Answer::Counted(..) => Some(()),
+        Answer::Refused(..) => None,
     }
 }
 
 // A formula line comes, as by word.
-fn take_line(spare: &mut Store, row: Row) -> Verdict
+fn take_line(spare: &mut Store, row: Row) -> Option<()>
     requires { LineAsked spare.old row }
     ensures result_after { left_of spare.new result ≡ line_added (ledger_of spare.old) (line_of row) }
     ensures good { Good spare.new }
 {
-    let a = call_word::word(spare, row);
-    accepted(a)
+    accepted(call_word::word(spare, row))
 }
 
-// `count` formula lines from `at` on; the position after them, unless one breaks a rule.
-fn take_lines(spare: &mut Store, text: &[u8], at: u32, count: u32) -> Prefix
-    requires { LinesAsked spare.old text.now count }
-    ensures result_after { lines_left text.now spare.new result
-        ≡ lines_added (ledger_of spare.old) count (drop at text.now) }
+// `count` formula lines come, unless one breaks a rule.
+fn take_lines(spare: &mut Store, r: &mut Reader<'_>, count: u32) -> Option<()>
+    requires { LinesAsked spare.old count }
+    ensures result_after { lines_left r.new.rest.now spare.new result
+        ≡ lines_added (ledger_of spare.old) count r.old.rest.now }
     ensures good { Good spare.new }
 {
-    let mut i = at;
-    let mut k: u32 = 0;
-    while k < count {
-        let f = formula_line(text, i);
-        let FormulaLine::Formula(row, j) = f else {
-            return Prefix::Absent;
-        };
-        let v = take_line(spare, row);
-        let Verdict::Passed = v else {
-            return Prefix::Absent;
-        };
-        i = j;
-        k += 1;
+    for _ in 0..count {
+        let row = formula_line(r)?;
+        take_line(spare, row)?;
     }
-    Prefix::Past(i)
+    Some(())
 }
 
 // A credential comes with its serial, as by issue; serials rise, and `next` is above them.
-fn take_credential(spare: &mut Store, c: Credential, next: u32) -> Verdict
+fn take_credential(spare: &mut Store, c: Credential, next: u32) -> Option<()>
     requires { CredentialAsked spare.old c next }
     ensures result_after { left_of spare.new result ≡ credential_added next (ledger_of spare.old) c }
     ensures raisable { Raisable spare.new next }
 {
     if c.serial < store::next_serial(spare) {
-        return Verdict::Failed;
+        return None;
     }
     if next <= c.serial {
-        return Verdict::Failed;
+        return None;
     }
     store_credentials::set_next(spare, c.serial);
-    let kind = c.kind;
-    let interval = c.interval;
-    let a = call_credentials::issue(spare, kind, c.formula, interval);
-    accepted(a)
+    accepted(call_credentials::issue(spare, c.kind, c.formula, c.interval))
 }
 
-// `count` credential lines from `at` on; the position after them, unless one breaks a rule or its serial does not rise
-// or is not below `next`.
-fn take_credentials(spare: &mut Store, text: &[u8], at: u32, count: u32, next: u32) -> Prefix
-    requires { LiveAsked spare.old text.now count next }
-    ensures result_after { lines_left text.now spare.new result
-        ≡ credentials_added next (ledger_of spare.old) count (drop at text.now) }
+// `count` credential lines come, unless one breaks a rule or its serial does not rise or is not below `next`.
+fn take_credentials(spare: &mut Store, r: &mut Reader<'_>, count: u32, next: u32) -> Option<()>
+    requires { LiveAsked spare.old count next }
+    ensures result_after { lines_left r.new.rest.now spare.new result
+        ≡ credentials_added next (ledger_of spare.old) count r.old.rest.now }
     ensures raisable { Raisable spare.new next }
 {
-    let mut i = at;
-    let mut k: u32 = 0;
-    while k < count {
-        let f = credential_line(text, i);
-        let CredentialLine::Read(c, j) = f else {
-            return Prefix::Absent;
-        };
-        let v = take_credential(spare, c, next);
-        let Verdict::Passed = v else {
-            return Prefix::Absent;
-        };
-        i = j;
-        k += 1;
+    for _ in 0..count {
+        let credential = credential_line(r)?;
+        take_credential(spare, credential, next)?;
     }
-    Prefix::Past(i)
+    Some(())
 }
 
 // The ledger of a text, in one pass, unless that fails 50 or 51.
-fn build(spare: &mut Store, text: &[u8]) -> Verdict
+fn build(spare: &mut Store, text: &[u8]) -> Option<()>
     ensures { Built text.now spare.new result }
 {
-    let title = text_title(text);
-    let TextRead::Read(h) = title else {
-        return Verdict::Failed;
-    };
+    let mut r = Reader { rest: text };
+    let title = text_title(&mut r)?;
     store::start(spare);
-    let l = take_lines(spare, text, h.body, h.lines);
-    let Prefix::Past(i) = l else {
-        return Verdict::Failed;
-    };
-    let m = take_credentials(spare, text, i, h.live, h.next);
-    let Prefix::Past(j) = m else {
-        return Verdict::Failed;
-    };
-    if (j as usize) < text.len() {
-        return Verdict::Failed;
+    take_lines(spare, &mut r, title.lines)?;
+    take_credentials(spare, &mut r, title.live, title.next)?;
+    let bytes_left = !r.rest.is_empty();
+    if bytes_left {
+        return None;
     }
-    store_credentials::set_next(spare, h.next);
+    store_credentials::set_next(spare, title.next);
     let own = text_edition::edition_of(spare);
-    let edition = h.edition;
-    if text_edition::same(edition, own) {
-        return Verdict::Passed;
-    }
-    Verdict::Failed
+    text_edition::same(title.edition, own).then_some(())
 }
 
 // 50, then 51, of a text that fails one of them.
@@ -143,11 +106,10 @@ fn refusal(text: &[u8]) -> Answer
     requires { passing text.now ≡ none }
     ensures { RefusalIs text.now result }
 {
-    let form = text_form(text);
-    let Verdict::Passed = form else {
-        return Answer::Refused(50, 0);
+    let Verdict::Passed = text_form(text) else {
+        return Answer::Refused(Refusal::BadText as u32, 0);
     };
-    Answer::Refused(51, 0)
+    Answer::Refused(Refusal::TextBreaksRule as u32, 0)
 }
 
 // Opening: 50, 51, or the text's ledger takes the place of whatever the till's block held, and the answer is the text's
@@ -155,8 +117,7 @@ fn refusal(text: &[u8]) -> Answer
 pub fn open(till: &mut Store, spare: &mut Store, text: &[u8]) -> Answer
     ensures { Opened till.old text.now result till.new }
 {
-    let v = build(spare, text);
-    let Verdict::Passed = v else {
+    let Some(()) = build(spare, text) else {
         return refusal(text);
     };
     *till = *spare;

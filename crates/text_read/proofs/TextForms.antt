@@ -1,13 +1,14 @@
 -- A text in its form, found out line by line.
 use mathlib.Core.Path.{◌≡◌, refl, sym, ap, ap₂, subst, ◌∙◌}
-use mathlib.Core.List.{List, ◌∷◌}
+use mathlib.Core.List.{List}
 use mathlib.Core.Option.{Option, none, some}
 use mathlib.Core.Bool.{Bool, true, false, not}
 use Prim.Native.Nat.{ℕ, zero, suc, ◌≤◌, ◌<◌}
 use native.Mathlib.Omega.{arith}
 use lib.Dec.{eqb}
-use lib.ListN.{length, drop, length-drop}
-use borrow.Author.Tests.{ne_eqb, not-true, not-false}
+use lib.ListN.{length}
+use borrow.Author.Tests.{not-true, not-false}
+use Rattle.std.specs.Prelude.{Option as Read, Some, None}
 use Rattle.logic.specs.Choice.{pick}
 use Rattle.request.specs.Text.{and_then}
 use Rattle.request.specs.Reader.{Reader}
@@ -18,25 +19,23 @@ use Rattle.ledger.specs.declared.Credential.{Credential}
 use Rattle.ledger.specs.Ledger.{Ledger}
 use Rattle.ledger.specs.Checks.{◌if◌, first}
 use Rattle.snapshot.specs.declared.Edition.{Edition}
-use Rattle.snapshot.specs.Snapshot.{Title, edition_by, edition_of, own_edition, longest_text, title_line}
+use Rattle.snapshot.specs.declared.Title.{Title}
+use Rattle.snapshot.specs.Snapshot.{edition_by, edition_of, own_edition, longest_text, title_line}
 use Rattle.snapshot.specs.Snapshot.{credential_line}
 use Rattle.snapshot.specs.Snapshot.{body, saved_lines, saved_of, same_edition, as_written, snapshot_of, rising}
 use Rattle.snapshot.specs.Snapshot.{open_checks}
 use Rattle.snapshot.proofs.Texts.{read_in_form, read_written, longest_text_holds}
+use Rattle.read_fields.specs.Field.{read_of}
 use Rattle.read_formulas.specs.Line.{read_line}
 use Rattle.read_rest.specs.LinesRead.{read_lines, all_lines}
 use Rattle.read_fields.proofs.Then.{then_then, then_same, then_some, then_no, by_test}
-use Rattle.read_fields.proofs.Bytes.{past}
 use Rattle.read_heads.proofs.Split.{lines_then}
 use Rattle.read_rest.proofs.Several.{many_lines, all_lines_holds}
 use Rattle.call_checks.specs.declared.Verdict.{Verdict}
 use Rattle.call_checks.specs.declared.Verdict.TheVariants.{Passed as Passes, Failed as Fails}
 use Rattle.call_checks.specs.Verdicts.{Tells}
 use Rattle.call_checks.proofs.Verdicts.{by_verdict}
-use Rattle.text_read.specs.declared.Heading.{Heading}
-use Rattle.text_read.specs.declared.TextRead.{TextRead}
-use Rattle.text_read.specs.declared.TextRead.TheVariants.{Read, Broken}
-use Rattle.text_read.specs.TextForm.{title_at, title_from, lines_past, rising_past, Fails50, TitleIs, Formed}
+use Rattle.text_read.specs.TextForm.{lines_past, rising_past, Fails50, TitleIs, Formed}
 use Rattle.text_read.specs.TextForm.{holders_in, FormIs}
 use Rattle.text_read.proofs.TextLines.{title_range}
 use Rattle.text_read.proofs.PastLines.{Passed, Risen, lines_past_holds, rising_past_holds, none_past, some_past}
@@ -100,62 +99,61 @@ module _ (b : List ℕ) where
   pub no_first_line : read_line title_line b ≡ none → Fails50 b
   no_first_line e = broken_text (snapshot_is b ∙ then_no _ e)
 
-  pub title_told : (r : TextRead) → length b ≤ longest_text → title_from b r ≡ read_line title_line b → TitleIs b r
-  title_told (Read h) s e = record { short = s; reads = sym e; range = title_range b (sym e) }
-  title_told Broken s e = no_first_line (sym e)
+  pub title_told : (c : List ℕ) (r : Read Title) → length b ≤ longest_text → read_of r c ≡ read_line title_line b
+      → TitleIs b c r
+  title_told c (Some h) s e = record { short = s; reads = sym e; range = title_range b (sym e) }
+  title_told c None s e = no_first_line (sym e)
 
-  module _ (h : Heading) (first_line_holds : read_line title_line b ≡ some (title_at h, drop h.body b)) where
-    pub no_formulas : lines_past h.lines formula_line (drop h.body b) ≡ none → Fails50 b
+  module _ (h : Title) (body : List ℕ) (first_line_holds : read_line title_line b ≡ some (h, body)) where
+    pub no_formulas : lines_past h.lines formula_line body ≡ none → Fails50 b
     no_formulas e =
         broken_text (snapshot_is b ∙ then_some _ first_line_holds
         ∙ then_no _ (none_past _ (sym (lines_past_holds formula_line _ _) ∙ e)))
 
-    module _ (i : ℕ) (lines : lines_past h.lines formula_line (drop h.body b) ≡ some (drop i b)) where
-      passed : Passed (read_lines h.lines formula_line (drop h.body b)) (drop i b)
-      passed = some_past _ (sym (lines_past_holds formula_line h.lines (drop h.body b)) ∙ lines)
+    module _ (tail : List ℕ) (lines : lines_past h.lines formula_line body ≡ some tail) where
+      passed : Passed (read_lines h.lines formula_line body) tail
+      passed = some_past _ (sym (lines_past_holds formula_line h.lines body) ∙ lines)
 
-      read_so_far : snapshot_of b ≡ and_then (all_lines h.live credential_line (drop i b)) (λ cs.
-          as_written (saved_from (title_at h) passed.values cs))
+      read_so_far : snapshot_of b ≡ and_then (all_lines h.live credential_line tail) (λ cs.
+          as_written (saved_from h passed.values cs))
       read_so_far = snapshot_is b ∙ then_some _ first_line_holds ∙ then_some _ passed.are
 
-      pub no_credentials : rising_past 0 h.live (drop i b) ≡ none → Fails50 b
+      pub no_credentials : rising_past 0 h.live tail ≡ none → Fails50 b
       unfolding all_lines and_then as_written
       no_credentials e =
-          go (read_lines h.live credential_line (drop i b)) refl (sym (rising_past_holds 0 h.live (drop i b)) ∙ e)
+          go (read_lines h.live credential_line tail) refl (sym (rising_past_holds 0 h.live tail) ∙ e)
         where
-          go : (o : Option (List Credential × List ℕ)) → read_lines h.live credential_line (drop i b) ≡ o
+          go : (o : Option (List Credential × List ℕ)) → read_lines h.live credential_line tail ≡ o
               → and_then o (λ p. pick (rising 0 p.0) (some p.1) none) ≡ none → Fails50 b
           go none q z = broken_text (read_so_far ∙ rw (all_lines, q, and_then))
           go (some p) q z = by_test (eqb (length p.1) 0)
-              (λ t. by_test (same_edition h.edition (own_edition (ledger_from (title_at h) passed.values p.0)))
-              (λ s. falling_text {t = ledger_from (title_at h) passed.values p.0}
+              (λ t. by_test (same_edition h.edition (own_edition (ledger_from h passed.values p.0)))
+              (λ s. falling_text {t = ledger_from h passed.values p.0}
               (read_so_far ∙ rw (all_lines, q, and_then, t, s)) (none_risen 0 p z))
               (λ s. broken_text (read_so_far ∙ rw (all_lines, q, and_then, t, s))))
               (λ t. broken_text (read_so_far ∙ rw (all_lines, q, and_then, t)))
 
-      module _ (j : ℕ) (live : rising_past 0 h.live (drop i b) ≡ some (drop j b)) where
-        risen : Risen 0 (read_lines h.live credential_line (drop i b)) (drop j b)
-        risen = some_risen 0 _ (sym (rising_past_holds 0 h.live (drop i b)) ∙ live)
+      module _ (over : List ℕ) (live : rising_past 0 h.live tail ≡ some over) where
+        risen : Risen 0 (read_lines h.live credential_line tail) over
+        risen = some_risen 0 _ (sym (rising_past_holds 0 h.live tail) ∙ live)
 
-        pub left_over : j < length b → Fails50 b
+        pub left_over : eqb (length over) 0 ≡ false → Fails50 b
         unfolding all_lines and_then
-        left_over l =
-            broken_text (read_so_far
-            ∙ rw (all_lines, risen.are, and_then, ne_eqb (length (drop j b)) 0 (λ e. omega (arith, length-drop j b))))
+        left_over l = broken_text (read_so_far ∙ rw (all_lines, risen.are, and_then, l))
 
-        module _ (l : length b ≤ j) where
+        module _ (l : eqb (length over) 0 ≡ true) where
           said : Ledger
-          said = ledger_from (title_at h) passed.values risen.live
+          said = ledger_from h passed.values risen.live
 
           abbrev holders : Bool
-          holders = holders_in h.lines (drop h.body b)
+          holders = holders_in h.lines body
 
           own : {d : Edition} → d ≡ edition_by holders h.live → d ≡ own_edition said
           unfolding said edition_of
           own e =
               e
-              ∙ ap₂ edition_by (given (holders_read h.lines (drop h.body b)) passed.are)
-              (sym (given (lines_counted credential_line h.live (drop i b)) risen.are))
+              ∙ ap₂ edition_by (given (holders_read h.lines body) passed.are)
+              (sym (given (lines_counted credential_line h.live tail) risen.are))
 
           text_formed : {d : Edition} → d ≡ edition_by holders h.live → same_edition h.edition d ≡ true → Formed b
           unfolding all_lines and_then as_written said
@@ -166,7 +164,7 @@ module _ (b : List ℕ) where
                   all_lines,
                   risen.are,
                   and_then,
-                  past b j l,
+                  l,
                   subst (λ d. same_edition h.edition d ≡ true) (own e) s,
                 );
             rises = risen.rises;
@@ -181,7 +179,7 @@ module _ (b : List ℕ) where
                 all_lines,
                 risen.are,
                 and_then,
-                past b j l,
+                l,
                 subst (λ d. same_edition h.edition d ≡ false) (own e) s,
               ))
 

@@ -8,14 +8,14 @@ use Rattle.request.specs.declared.Kind.TheVariants.{Linear, Unrestricted}
 use Rattle.request.specs.Range.{serial, next_serial, formula_number}
 use Rattle.request.specs.Text.{bytes, same_bytes, and_then, fields, number_in}
 use Rattle.request.specs.Reader.{Reader, return, ◌>>=◌, next, named, choose}
-use Rattle.request.specs.Read.{number, kind, interval}
+use Rattle.request.specs.Read.{number, kind}
 use Rattle.request.proofs.Gives.{Gives, just, given, gives_then}
 use Rattle.request.proofs.Readers.{Texts, Only, whole_only}
 use Rattle.ledger.specs.declared.Credential.{Credential}
 use Rattle.snapshot.specs.declared.Edition.{Edition}
 use Rattle.snapshot.specs.declared.Edition.TheVariants.{First, Second}
 use Rattle.snapshot.specs.Snapshot.{line_count, live_count, counts, edition, title_line, credential_line}
-use Rattle.snapshot.specs.Snapshot.{Title}
+use Rattle.snapshot.specs.declared.Title.{Title}
 use Rattle.snapshot.specs.InForm.{TitleInRange, CredentialInRange}
 use Rattle.snapshot.proofs.Texts.{title_exact, credential_exact}
 use Rattle.read_fields.specs.Field.{field_to, strip}

@@ -1,6 +1,7 @@
 -- What the code's answers say of the bytes of a text, by `snapshot_of` and `open_checks` (crate snapshot,
 -- Snapshot.antt).
-use Rattle.std.specs.Prelude.{◌≡◌, List, Bool, true, false, ◌||◌, ℕ, zero, suc, ◌≤◌, ltb, length, drop}
+use Rattle.std.specs.Prelude.{◌≡◌, List, Bool, true, false, ◌||◌, ℕ, zero, suc, ◌≤◌, ltb, length}
+use Rattle.std.specs.Prelude.{Option as Read, Some, None}
 use Rattle.std.proofs.Math.Option.{Option, none, some}
 use Rattle.logic.specs.Choice.{pick}
 use Rattle.request.specs.declared.Kind.{Kind}
@@ -11,30 +12,14 @@ use Rattle.request.specs.Read.{number, interval, formula_line}
 use Rattle.ledger.specs.declared.Credential.{Credential}
 use Rattle.ledger.specs.Ledger.{Ledger}
 use Rattle.ledger.specs.Checks.{Check, first}
-use Rattle.snapshot.specs.Snapshot.{Title, holder_line, longest_text, title_line, credential_line, snapshot_of, rising}
+use Rattle.snapshot.specs.declared.Title.{Title}
+use Rattle.snapshot.specs.Snapshot.{holder_line, longest_text, title_line, credential_line, snapshot_of, rising}
 use Rattle.snapshot.specs.Snapshot.{open_checks}
 use Rattle.snapshot.specs.InForm.{TitleInRange}
 use Rattle.read_formulas.specs.Line.{read_line}
 use Rattle.call_checks.specs.declared.Verdict.{Verdict}
 use Rattle.call_checks.specs.declared.Verdict.TheVariants.{Passed, Failed}
 use Rattle.call_checks.specs.Verdicts.{checked}
-use Rattle.text_read.specs.declared.Heading.{Heading}
-use Rattle.text_read.specs.declared.TextRead.{TextRead}
-use Rattle.text_read.specs.declared.TextRead.TheVariants.{Read, Broken}
-use Rattle.text_read.specs.declared.CredentialLine.{CredentialLine}
-use Rattle.text_read.specs.declared.CredentialLine.TheVariants.{Read as OneRead, Broken as NoCredential}
-
--- what a heading says
-abbrev pub title_at : Heading → Title
-title_at h = record { edition = h.edition; next = h.next; lines = h.lines; live = h.live }
-
-abbrev pub title_from : List ℕ → TextRead → Option (Title × List ℕ)
-title_from s (Read h) = some (title_at h, drop h.body s)
-title_from s Broken = none
-
-abbrev pub credential_from : List ℕ → CredentialLine → Option (Credential × List ℕ)
-credential_from s (OneRead c i) = some (c, drop i s)
-credential_from s NoCredential = none
 
 -- the fields of a credential after its serial and its kind
 unfoldable pub after_kind : ℕ → Kind → Reader Credential
@@ -42,6 +27,11 @@ after_kind s k = do
   n ← number formula_number
   i ← interval
   return (record { serial = s; kind = k; formula = n; interval = i })
+
+-- the bytes c that are left, where an answer says that what was looked for has been passed
+abbrev pub past_of : Read (Unit {0}) → List ℕ → Option (List ℕ)
+past_of (Some u) c = some c
+past_of None c = none
 
 -- what follows the first n lines, where r reads each
 unfoldable pub lines_past : {A : Type 0} → ℕ → Reader A → List ℕ → Option (List ℕ)
@@ -65,23 +55,23 @@ holders_in zero b = false
 holders_in (suc n) b = gives (λ p. holder_line p.0 || holders_in n p.1) (read_line formula_line b)
 
 -- what a first line, read or broken, says of the check 50; a verdict says it by `checked`
-abbrev pub title_check : TextRead → Check
-title_check (Read h) = none
-title_check Broken = some (record { number = 50; step = 0 })
+abbrev pub title_check : Read Title → Check
+title_check (Some h) = none
+title_check None = some (record { number = 50; step = 0 })
 
 -- it is the first that fails
 abbrev pub Fails50 : List ℕ → Type 0
 Fails50 b = first (open_checks b) ≡ checked 50 Failed
 
--- A text that is not too long, and its first line
-pub record Titled (b : List ℕ) (h : Heading) : Type 0 where
+-- A text that is not too long, its first line, and the bytes after that
+pub record Titled (b : List ℕ) (t : Title) (body : List ℕ) : Type 0 where
   pub short : length b ≤ longest_text
-  pub reads : read_line title_line b ≡ some (title_at h, drop h.body b)
-  pub range : TitleInRange (title_at h)
+  pub reads : read_line title_line b ≡ some (t, body)
+  pub range : TitleInRange t
 
-abbrev pub TitleIs : List ℕ → TextRead → Type 0
-TitleIs b (Read h) = Titled b h
-TitleIs b Broken = first (open_checks b) ≡ title_check Broken
+abbrev pub TitleIs : List ℕ → List ℕ → Read Title → Type 0
+TitleIs b c (Some h) = Titled b h c
+TitleIs b c None = first (open_checks b) ≡ title_check None
 
 -- A text in its form, serials rising: the ledger that it says
 pub record Formed (b : List ℕ) : Type 0 where

@@ -1,7 +1,7 @@
 -- The lengths of lines, from those of their numbers.
-use mathlib.Core.Path.{◌≡◌, refl, sym, ap, ◌∙◌}
+use mathlib.Core.Path.{◌≡◌, refl, sym, ◌∙◌}
 use mathlib.Core.List.{List, [], ◌∷◌, ◌++◌}
-use Prim.Native.Nat.{ℕ, ◌+◌, ◌≤◌}
+use Prim.Native.Nat.{ℕ, ◌+◌}
 use native.Mathlib.Omega.{arith}
 use lib.ListN.{length}
 use Rattle.logic.specs.declared.Interval.{Interval}
@@ -12,9 +12,10 @@ use Rattle.request.specs.Write.{digits, minutes, kind_field}
 use Rattle.ledger.specs.declared.Credential.{Credential}
 use Rattle.snapshot.specs.declared.Edition.{Edition}
 use Rattle.snapshot.specs.declared.Edition.TheVariants.{First, Second}
+use Rattle.snapshot.specs.declared.Title.{Title}
 use Rattle.snapshot.specs.Snapshot.{edition_field, edition_fields, title_fields, credential_fields}
 use Rattle.text_write.specs.declared.Shape.TheVariants.{One, Single, Pair, At, Superset, Triple}
-use Rattle.text_write.specs.Put.{Measured, ended, title, shape_fields}
+use Rattle.text_write.specs.Put.{Measured, ended, shape_fields}
 use Rattle.text_write.proofs.Puts.{Some, ended_length, ended_size}
 
 pub measured_as : {x y : List ℕ} {m r : ℕ} → x ≡ y → Measured x m r → Measured y m r
@@ -62,12 +63,10 @@ two_minutes x v w s =
 -- Formula lines, by their shape
 
 pub one_measured : Measured (ended 10 (shape_fields One)) 90 2
-unfolding shape_fields
 one_measured = record { exact = sym (ended_size _ [] 10); small = omega arith }
 
 pub single_measured : (x n : ℕ) {a : ℕ} → Measured (digits n) 10 a
     → Measured (ended 10 (shape_fields (Single x n))) 90 (a + 3)
-unfolding shape_fields
 single_measured x n a = record {
   exact = omega (arith, a.exact, ended_size (x ∷ []) (digits n ∷ []) 10);
   small = omega (arith, a.small);
@@ -75,7 +74,6 @@ single_measured x n a = record {
 
 pub pair_measured : (x m n : ℕ) {a b : ℕ} → Measured (digits m) 10 a → Measured (digits n) 10 b
     → Measured (ended 10 (shape_fields (Pair x m n))) 90 (a + b + 4)
-unfolding shape_fields
 pair_measured x m n a b = record {
   exact = omega (arith, a.exact, b.exact, ended_size (x ∷ []) (digits m ∷ digits n ∷ []) 10);
   small = omega (arith, a.small, b.small);
@@ -83,7 +81,6 @@ pair_measured x m n a b = record {
 
 pub triple_measured : (l m n : ℕ) {a b c : ℕ} → Measured (digits l) 10 a → Measured (digits m) 10 b
     → Measured (digits n) 10 c → Measured (ended 10 (shape_fields (Triple l m n))) 90 (a + b + c + 5)
-unfolding shape_fields
 triple_measured l m n a b c = record {
   exact =
       omega (arith, a.exact, b.exact, c.exact, ended_size (110 ∷ []) (digits l ∷ digits m ∷ digits n ∷ []) 10);
@@ -92,7 +89,6 @@ triple_measured l m n a b c = record {
 
 pub at_measured : (n : ℕ) (w : Interval) {a b : ℕ} → Measured (digits n) 10 a → Measured (ended 10 (minutes w)) 44 b
     → Measured (ended 10 (shape_fields (At n w))) 90 (a + b + 3)
-unfolding shape_fields
 at_measured n w a b = record {
   exact = omega (
     arith,
@@ -106,7 +102,6 @@ at_measured n w a b = record {
 
 pub superset_measured : (v w : Interval) {a b : ℕ} → Measured (ended 10 (minutes v)) 44 a
     → Measured (ended 10 (minutes w)) 44 b → Measured (ended 10 (shape_fields (Superset v w))) 90 (a + b + 2)
-unfolding shape_fields
 superset_measured v w a b = record {
   exact = omega (arith, a.exact, b.exact, two_minutes (103 ∷ []) v w 10, minutes_length v 10 44);
   small = omega (arith, a.small, b.small);
@@ -143,18 +138,17 @@ unfolding bytes
 one_byte First = refl
 one_byte Second = refl
 
-pub title_measured : (e : Edition) (next lines live : ℕ) {a b c : ℕ} → Measured (digits next) 10 a
-    → Measured (digits lines) 10 b
-    → Measured (digits live) 10 c → Measured (ended 10 (title_fields (title e next lines live))) 40 (a + b + c + 10)
+pub title_measured : (t : Title) {a b c : ℕ} → Measured (digits t.next) 10 a → Measured (digits t.lines) 10 b
+    → Measured (digits t.live) 10 c → Measured (ended 10 (title_fields t)) 40 (a + b + c + 10)
 unfolding title_fields edition_fields bytes
-title_measured e next lines live a b c = record {
+title_measured t a b c = record {
   exact = omega (
     arith,
     a.exact,
     b.exact,
     c.exact,
-    one_byte e,
-    ended_size (bytes "till") (edition_field e ∷ digits next ∷ digits lines ∷ digits live ∷ []) 10,
+    one_byte t.edition,
+    ended_size (bytes "till") (edition_field t.edition ∷ digits t.next ∷ digits t.lines ∷ digits t.live ∷ []) 10,
   );
   small = omega (arith, a.small, b.small, c.small);
 }

@@ -1,7 +1,7 @@
 -- The digits of a number: how many there are, and the last two.
 use mathlib.Core.Path.{◌≡◌, refl, ap, ◌∙◌}
 use mathlib.Core.List.{List, [], ◌∷◌, ◌++◌, append_assoc}
-use Prim.Native.Nat.{ℕ, zero, suc, ◌+◌, ◌/◌, ◌%◌, ◌^◌, ◌≤◌, ◌<◌}
+use Prim.Native.Nat.{ℕ, zero, suc, ◌+◌, ◌*◌, ◌/◌, ◌%◌, ◌^◌, ◌≤◌, ◌<◌}
 use native.Mathlib.Omega.{arith}
 use native.Mathlib.Decide.{dec_lt}
 use native.Mathlib.Nat.{pow-suc}
@@ -33,8 +33,11 @@ digits_least (suc k) n h =
     go (no l) q = omega (arith, digits_room n (omega arith))
 
 -- as many digits as the power of ten says
-pub measured : (k n : ℕ) → suc k ≤ 10 → 10 ^ k ≤ n → n < 10 ^ suc k → Measured (digits n) 10 (suc k)
-measured k n s l h = record { exact = omega (arith, digits_least k n l, digits_length n k h); small = s }
+pub measured_power : (k n : ℕ) → k < 10 → 10 ^ k ≤ n → n < 10 * 10 ^ k → Measured (digits n) 10 (k + 1)
+measured_power k n s l h = record {
+  exact = omega (arith, digits_least k n l, digits_length n k (omega (arith, pow-suc 10 k)));
+  small = omega arith;
+}
 
 pub measured_one : (n : ℕ) → n < 10 → Measured (digits n) 10 1
 measured_one n h = record { exact = rw (digits_one n h) refl; small = omega arith }

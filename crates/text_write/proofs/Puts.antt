@@ -27,6 +27,14 @@ pub wrote_byte : (o : List ℕ) (x : ℕ) → 1 ≤ length o → Put o (x ∷ []
 wrote_byte [] x h = absurd (omega arith)
 wrote_byte (y ∷ o) x h = record { wrote = refl; long = refl; stays = refl }
 
+-- a text copied to the front
+pub wrote_front : {o x y : List ℕ} → y ≡ x → length x ≤ length o → Put o x (y ++ drop (length x) o) (length x)
+wrote_front {o} {x} {y} e h = record {
+  wrote = refl;
+  long = omega (arith, length-append y (drop (length x) o), length-drop (length x) o, ap length e);
+  stays = ap (λ (l : List ℕ). l ++ drop (length x) o) e;
+}
+
 set_seam : (x o : List ℕ) (b : ℕ) → 1 ≤ length o → set (x ++ o) (length x) b ≡ x ++ (b ∷ drop 1 o)
 set_seam [] [] b h = absurd (omega arith)
 set_seam [] (y ∷ o) b h = refl

@@ -1,9 +1,8 @@
 -- What a writer leaves of the rest of a buffer that it was lent, and the texts that are written.
 use Rattle.std.specs.Prelude.{◌≡◌, List, [], ◌∷◌, ◌++◌, ℕ, ◌+◌, ◌/◌, ◌%◌, ◌≤◌, length, drop, set}
 use Prim.Native.Char.{code}
+unfoldable pub use Rattle.request.specs.Text.{bytes}
 use Rattle.request.specs.Write.{digits, joined, minutes}
-use Rattle.snapshot.specs.declared.Edition.{Edition}
-use Rattle.snapshot.specs.Snapshot.{Title}
 use Rattle.text_write.specs.declared.Shape.{Shape}
 use Rattle.text_write.specs.declared.Shape.TheVariants.{One, Single, Pair, At, Superset, Triple}
 
@@ -30,15 +29,12 @@ put_two o at n = set (set o at (48 + n / 10)) (at + 1) (48 + n % 10)
 unfoldable pub ended : ℕ → List (List ℕ) → List ℕ
 ended stop fs = joined fs ++ (stop ∷ [])
 
--- what the first line says
-abbrev pub title : Edition → ℕ → ℕ → ℕ → Title
-title e next lines live = record { edition = e; next = next; lines = lines; live = live }
-
+-- the numbers of the first line
 abbrev pub counts : ℕ → ℕ → ℕ → List (List ℕ)
 counts next lines live = digits next ∷ digits lines ∷ digits live ∷ []
 
 -- the fields of a formula line, by what stands after its letter
-unfoldable pub shape_fields : Shape → List (List ℕ)
+abbrev pub shape_fields : Shape → List (List ℕ)
 shape_fields One = (code "o" ∷ []) ∷ []
 shape_fields (Single x i) = (x ∷ []) ∷ digits i ∷ []
 shape_fields (Pair x i j) = (x ∷ []) ∷ digits i ∷ digits j ∷ []

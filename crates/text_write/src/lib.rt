@@ -9,12 +9,12 @@ ghost use Rattle.request.specs.Write.{digits, minutes, kind_field, line_fields};
 ghost use Rattle.snapshot.specs.Snapshot.{edition_field, title_fields, credential_fields};
 ghost use Rattle.store.specs.Store.{line_of};
 ghost use Rattle.text_write.specs.declared.Shape.TheVariants.{Single, Pair, At, Superset, Triple};
-ghost use Rattle.text_write.specs.Put.{Put, Room, Measured, put_two, ended, title, counts, shape_fields};
+ghost use Rattle.text_write.specs.Put.{Put, Room, Measured, put_two, ended, counts, shape_fields};
 
 use ledger::Credential;
 use logic::Interval;
 use request::Kind;
-use snapshot::Edition;
+use snapshot::{Edition, Title};
 use steps::{Row, letters};
 
 // What stands after the letter of a formula line: nothing, a number or two (with the letter), a number and an interval,
@@ -34,34 +34,10 @@ enum Shape {
 fn digits_length(n: u32) -> usize
     ensures { Measured (digits n) 10 result }
 {
-    if n < 10 {
-        return 1;
+    match n.checked_ilog10() {
+        Some(power) => power as usize + 1,
+        None => 1,
     }
-    if n < 100 {
-        return 2;
-    }
-    if n < 1000 {
-        return 3;
-    }
-    if n < 10000 {
-        return 4;
-    }
-    if n < 100000 {
-        return 5;
-    }
-    if n < 1000000 {
-        return 6;
-    }
-    if n < 10000000 {
-        return 7;
-    }
-    if n < 100000000 {
-        return 8;
-    }
-    if n < 1000000000 {
-        return 9;
-    }
-    10
 }
 
 // The two digits of a number below 100.
@@ -69,11 +45,11 @@ fn put_two(rest: &mut [u8], at: usize, n: u32)
     requires { (n < 100) × (at + 2 ≤ length rest.old) }
     ensures { rest.new ≡ put_two rest.old at n }
 {
-    rest[at] = 48 + (n / 10) as u8;
-    rest[at + 1] = 48 + (n % 10) as u8;
+    rest[at] = b'0' + (n / 10) as u8;
+    rest[at + 1] = b'0' + (n % 10) as u8;
 }
 
-// Two at a time, the last first.
+// Two at a time, the last first. A `for` is no plainer: the places go down by two, and the first digits are two or one.
 fn put_digits(rest: &mut [u8], n: u32) -> usize
     requires { Room rest.old (digits n) }
     ensures { Put rest.old (digits n) rest.new result }
@@ -90,7 +66,7 @@ fn put_digits(rest: &mut [u8], n: u32) -> usize
         put_two(rest, 0, v);
         return k;
     }
-    rest[0] = 48 + v as u8;
+    rest[0] = b'0' + v as u8;
     k
 }
 
@@ -146,13 +122,13 @@ fn interval_length(v: Interval) -> usize
     digits_length(v.from) + digits_length(v.to) + digits_length(v.first) + digits_length(v.last) + 4
 }
 
-// `letter,number,`
-fn put_head(rest: &mut [u8], x: u8, n: u32) -> usize
-    requires { Room rest.old (ended 44 ((x ∷ []) ∷ digits n ∷ [])) }
-    ensures { Put rest.old (ended 44 ((x ∷ []) ∷ digits n ∷ [])) rest.new result }
+// `letter,number`
+fn put_head(rest: &mut [u8], x: u8, n: u32, stop: u8) -> usize
+    requires { Room rest.old (ended stop ((x ∷ []) ∷ digits n ∷ [])) }
+    ensures { Put rest.old (ended stop ((x ∷ []) ∷ digits n ∷ [])) rest.new result }
 {
     let i = put_letter(rest, x, b',');
-    let j = put_field(&mut rest[i..], n, b',');
+    let j = put_field(&mut rest[i..], n, stop);
     i + j
 }
 
@@ -165,16 +141,8 @@ fn put_intervals(rest: &mut [u8], v: Interval, w: Interval) -> usize
     i + j
 }
 
-// Formula lines (document 01: wording lines), by their shape
-
-fn put_single(rest: &mut [u8], x: u8, n: u32) -> usize
-    requires { Room rest.old (ended 10 (shape_fields (Single x n))) }
-    ensures { Put rest.old (ended 10 (shape_fields (Single x n))) rest.new result }
-{
-    let i = put_letter(rest, x, b',');
-    let j = put_field(&mut rest[i..], n, b'\n');
-    i + j
-}
+// Formula lines (document 01: wording lines), by their shape. Each writer has fields of its own, so none is another's
+// twin; all but the first field are of one writer.
 
 fn put_pair(rest: &mut [u8], x: u8, m: u32, n: u32) -> usize
     requires { Room rest.old (ended 10 (shape_fields (Pair x m n))) }
@@ -189,7 +157,7 @@ fn put_at(rest: &mut [u8], n: u32, w: Interval) -> usize
     requires { Room rest.old (ended 10 (shape_fields (At n w))) }
     ensures { Put rest.old (ended 10 (shape_fields (At n w))) rest.new result }
 {
-    let i = put_head(rest, b'h', n);
+    let i = put_head(rest, b'h', n, b',');
     let j = put_interval(&mut rest[i..], w, b'\n');
     i + j
 }
@@ -207,16 +175,16 @@ fn put_triple(rest: &mut [u8], l: u32, m: u32, n: u32) -> usize
     requires { Room rest.old (ended 10 (shape_fields (Triple l m n))) }
     ensures { Put rest.old (ended 10 (shape_fields (Triple l m n))) rest.new result }
 {
-    let i = put_head(rest, b'n', l);
+    let i = put_head(rest, b'n', l, b',');
     let k = put_fields(&mut rest[i..], m, n, b'\n');
     i + k
 }
 
+#[tactic(auto, unfolding(request::specs::Write::line_fields, store::specs::Store::line_of, crate::specs::Put::bytes))]
 fn shape_of(row: Row) -> Shape
     ensures { shape_fields result ≡ line_fields (line_of row) }
 {
-    let letter = row.letter;
-    match letter {
+    match row.letter {
         letters::ATOM => Shape::Pair(b'a', row.a, row.b),
         letters::TENSOR => Shape::Pair(b't', row.a, row.b),
         letters::WITH => Shape::Pair(b'w', row.a, row.b),
@@ -224,16 +192,9 @@ fn shape_of(row: Row) -> Shape
         letters::LOLLI => Shape::Pair(b'l', row.a, row.b),
         letters::IMPLIES => Shape::Pair(b'u', row.a, row.b),
         letters::BANG => Shape::Single(b'b', row.a),
-        letters::AT => {
-            let w = row.first;
-            Shape::At(row.a, w)
-        }
+        letters::AT => Shape::At(row.a, row.first),
         letters::SAYS => Shape::Pair(b's', row.a, row.b),
-        letters::SUPERSET => {
-            let v = row.first;
-            let w = row.second;
-            Shape::Superset(v, w)
-        }
+        letters::SUPERSET => Shape::Superset(row.first, row.second),
         letters::NAMED => Shape::Triple(row.a, row.b, row.holder),
         letters::FOR_EVERY => Shape::Single(b'q', row.a),
         _ => Shape::One,
@@ -244,10 +205,9 @@ pub fn put_formula(rest: &mut [u8], row: Row) -> usize
     requires { Room rest.old (ended 10 (line_fields (line_of row))) }
     ensures { Put rest.old (ended 10 (line_fields (line_of row))) rest.new result }
 {
-    let shape = shape_of(row);
-    match shape {
+    match shape_of(row) {
         Shape::One => put_letter(rest, b'o', b'\n'),
-        Shape::Single(x, n) => put_single(rest, x, n),
+        Shape::Single(x, n) => put_head(rest, x, n, b'\n'),
         Shape::Pair(x, m, n) => put_pair(rest, x, m, n),
         Shape::At(n, w) => put_at(rest, n, w),
         Shape::Superset(v, w) => put_superset(rest, v, w),
@@ -258,8 +218,7 @@ pub fn put_formula(rest: &mut [u8], row: Row) -> usize
 pub fn formula_length(row: Row) -> usize
     ensures { Measured (ended 10 (line_fields (line_of row))) 90 result }
 {
-    let shape = shape_of(row);
-    match shape {
+    match shape_of(row) {
         Shape::One => 2,
         Shape::Single(_, n) => digits_length(n) + 3,
         Shape::Pair(_, m, n) => digits_length(m) + digits_length(n) + 4,
@@ -271,14 +230,21 @@ pub fn formula_length(row: Row) -> usize
 
 // Credential lines (document 02: coupons)
 
+#[tactic(auto, unfolding(request::specs::Write::kind_field, request::specs::Text::bytes))]
+fn kind_letter(k: Kind) -> u8
+    ensures { result ∷ [] ≡ kind_field k }
+{
+    match k {
+        Kind::Linear => b's',
+        Kind::Unrestricted => b'r',
+    }
+}
+
 fn put_kind(rest: &mut [u8], k: Kind) -> usize
     requires { Room rest.old (ended 44 (kind_field k ∷ [])) }
     ensures { Put rest.old (ended 44 (kind_field k ∷ [])) rest.new result }
 {
-    match k {
-        Kind::Linear => put_letter(rest, b's', b','),
-        Kind::Unrestricted => put_letter(rest, b'r', b','),
-    }
+    put_letter(rest, kind_letter(k), b',')
 }
 
 // `serial,kind,`
@@ -305,22 +271,20 @@ pub fn put_credential(rest: &mut [u8], c: Credential) -> usize
     requires { Room rest.old (ended 10 (credential_fields c)) }
     ensures { Put rest.old (ended 10 (credential_fields c)) rest.new result }
 {
-    let kind = c.kind;
-    let w = c.interval;
-    let i = put_serial(rest, c.serial, kind);
-    let j = put_of(&mut rest[i..], c.formula, w);
+    let i = put_serial(rest, c.serial, c.kind);
+    let j = put_of(&mut rest[i..], c.formula, c.interval);
     i + j
 }
 
 pub fn credential_length(c: Credential) -> usize
     ensures { Measured (ended 10 (credential_fields c)) 68 result }
 {
-    let w = c.interval;
-    digits_length(c.serial) + digits_length(c.formula) + interval_length(w) + 4
+    digits_length(c.serial) + digits_length(c.formula) + interval_length(c.interval) + 4
 }
 
 // The first line
 
+// No `From`: the edit editions_exchanged is made here, and a conversion would stand in snapshot, which runs nothing.
 fn edition_digit(e: Edition) -> u8
     ensures { result ∷ [] ≡ edition_field e }
 {
@@ -336,13 +300,7 @@ fn put_edition(rest: &mut [u8], e: Edition) -> usize
     ensures { Put rest.old (ended 44 (bytes "till" ∷ edition_field e ∷ [])) rest.new result }
 {
     let d = edition_digit(e);
-    rest[0] = b't';
-    rest[1] = b'i';
-    rest[2] = b'l';
-    rest[3] = b'l';
-    rest[4] = b',';
-    rest[5] = d;
-    rest[6] = b',';
+    rest[..7].copy_from_slice(&[b't', b'i', b'l', b'l', b',', d, b',']);
     7
 }
 
@@ -356,17 +314,17 @@ fn put_counts(rest: &mut [u8], next: u32, lines: u32, live: u32) -> usize
     i + j
 }
 
-pub fn put_title(rest: &mut [u8], e: Edition, next: u32, lines: u32, live: u32) -> usize
-    requires { Room rest.old (ended 10 (title_fields (title e next lines live))) }
-    ensures { Put rest.old (ended 10 (title_fields (title e next lines live))) rest.new result }
+pub fn put_title(rest: &mut [u8], title: Title) -> usize
+    requires { Room rest.old (ended 10 (title_fields title)) }
+    ensures { Put rest.old (ended 10 (title_fields title)) rest.new result }
 {
-    let i = put_edition(rest, e);
-    let j = put_counts(&mut rest[i..], next, lines, live);
+    let i = put_edition(rest, title.edition);
+    let j = put_counts(&mut rest[i..], title.next, title.lines, title.live);
     i + j
 }
 
-pub fn title_length(e: Edition, next: u32, lines: u32, live: u32) -> usize
-    ensures { Measured (ended 10 (title_fields (title e next lines live))) 40 result }
+pub fn title_length(title: Title) -> usize
+    ensures { Measured (ended 10 (title_fields title)) 40 result }
 {
-    digits_length(next) + digits_length(lines) + digits_length(live) + 10
+    digits_length(title.next) + digits_length(title.lines) + digits_length(title.live) + 10
 }

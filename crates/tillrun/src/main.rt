@@ -3,14 +3,12 @@
 // written, and arguments, get a line on standard error.
 #![tactic(auto)]
 
-ghost use Rattle.std.specs.Prelude.{◌≡◌, ◌*◌, length};
+ghost use Rattle.std.specs.Prelude.{length};
 ghost use Rattle.request.specs.Range.{max_bytes};
 ghost use Rattle.ledger.specs.Ledger.{empty};
 ghost use Rattle.store.specs.Store.{StandsFor};
-ghost use Rattle.stream_print.specs.Printed.{longest};
-ghost use Rattle.stream_sheets.specs.Sheets.{most};
 ghost use Rattle.stream.specs.Stream.{Ready};
-ghost use Rattle.tillrun.specs.Program.{Turned, Played};
+ghost use Rattle.tillrun.specs.Program.{Opened, Turned, Played};
 ghost use Rattle.tillrun.specs.Complaints.{Said, Warned, Complained};
 
 use request::ranges;
@@ -18,11 +16,8 @@ use std::env::FillError;
 use std::rt::Env;
 use step_rows::StepRows;
 use store::Store;
-use stream::Place;
+use stream::{Kiosk, Place};
 use stream_console::{Input, Output, Streams};
-
-// The first bytes of a sheet that has begun: one more than a sheet may have.
-type Begun = [u8; stream_sheets::MOST];
 
 // What is read at once.
 const PIECE: usize = ranges::MAX_BYTES;
@@ -30,95 +25,72 @@ const PIECE: usize = ranges::MAX_BYTES;
 // The answers to the sheets of a piece, each of which takes a byte at least.
 const TEXT: usize = stream_print::LONGEST * PIECE;
 
-type Text = [u8; TEXT];
-
-type Piece = [u8; PIECE];
-
-// Between two reads: what the state stands for, and what has been read and written.
-#[derive(Clone, Copy)]
-struct Turn {
-    place: Place,
-    input: Input,
-    output: Output,
-}
-
-// What has been read and written in the end.
+// What has been read and written.
 #[derive(Clone, Copy)]
 struct Run {
     input: Input,
     output: Output,
 }
 
-// That the buffers are as long as their types say, which a proof is told of arrays by value. They are not read, so that
-// no copy is made.
-fn sized(begun: Begun, text: Text, piece: Piece)
-    ensures { (length begun ≡ most) × ((length text ≡ longest * max_bytes) × (length piece ≡ max_bytes)) }
-{}
-
-// Reads once, answers what came and writes the answers.
-fn next_piece(
-    streams: Streams,
-    store: &mut Store,
-    rows: &mut StepRows,
-    begun: &mut [u8],
-    text: &mut [u8],
-    piece: &mut [u8],
-    turn: Turn,
-) -> Turn
-    requires { Ready store.old begun.old text.old turn.place (length piece.old) }
-    ensures { Turned store.old begun.old text.old turn
-        store.new begun.new text.new piece.new result }
-{
-    let input = stream_console::receive(streams, turn.input, piece);
-    let n = stream_console::got(input);
-    let next = stream::feed(store, rows, begun, text, turn.place, &piece[..n]);
-    let output = stream_console::send(streams, turn.output, text, next.text);
-    Turn {
-        place: Place {
-            filled: next.filled,
-            fresh: next.fresh,
-            text: 0,
-        },
-        input,
-        output,
-    }
-}
-
-// Plays the input to its end. Where the answers cannot be written, the sheet that has begun is left.
-fn play(
-    streams: Streams,
-    store: &mut Store,
-    rows: &mut StepRows,
-    begun: &mut Begun,
-    text: &mut Text,
-    piece: &mut Piece,
-) -> Run
+// Nothing is read yet.
+fn opened<'a>(
+    store: &'a mut Store,
+    rows: &'a mut StepRows,
+    begun: &'a mut [u8; stream_sheets::MOST],
+    text: &'a mut [u8; TEXT],
+) -> Kiosk<'a>
     requires { StandsFor store.old empty }
-    ensures { Played result.input result.output }
+    ensures { Opened result max_bytes }
 {
-    sized(*begun, *text, *piece);
-    let mut turn = Turn {
+    Kiosk {
+        store,
+        rows,
+        begun,
+        text,
         place: Place {
             filled: 0,
             fresh: true,
             text: 0,
         },
+    }
+}
+
+// Reads once, answers what came and writes the answers.
+fn next_piece(streams: Streams, kiosk: &mut Kiosk, piece: &mut [u8], run: Run) -> Run
+    requires { Ready kiosk.old (length piece.old) }
+    ensures { Turned kiosk.old run kiosk.new piece.new result }
+{
+    let input = stream_console::receive(streams, run.input, piece);
+    let n = stream_console::got(input);
+    kiosk.feed(&piece[..n]);
+    let waiting = kiosk.waiting();
+    let output = stream_console::send(streams, run.output, waiting, waiting.len());
+    kiosk.place.text = 0;
+    Run { input, output }
+}
+
+// Plays the input to its end. Where the answers cannot be written, the sheet that has begun is left.
+fn play(streams: Streams, kiosk: &mut Kiosk, piece: &mut [u8; PIECE]) -> Run
+    requires { Opened kiosk.old max_bytes }
+    ensures { Played result.input result.output }
+{
+    let mut run = Run {
         input: stream_console::reading(0),
         output: stream_console::writing(1),
     };
-    while stream_console::goes_on(turn.input, turn.output) {
-        turn = next_piece(streams, store, rows, begun, text, piece, turn);
+    // no `for`: the reads are counted in the notes, up to the number that `Stopped` names
+    while stream_console::goes_on(run.input, run.output) {
+        run = next_piece(streams, kiosk, piece, run);
     }
-    let input = turn.input;
-    let output = turn.output;
+    let Run { input, output } = run;
     let failed = stream_console::failed(output);
     if failed {
-        return Run { input, output };
+        return run;
     }
-    let end = stream::finish(store, rows, begun, text, turn.place);
+    let end = kiosk.finish();
     Run {
         input,
-        output: stream_console::send(streams, output, text, end),
+        output: stream_console::send(streams, output, kiosk.text, end),
     }
 }
 
@@ -190,8 +162,7 @@ fn main(rt: HostRuntime) {
     let mut text = [0u8; TEXT];
     let mut piece = [0u8; PIECE];
     let mut rows = [0u32; step_rows::STEP_CELLS];
-    let run = play(
-        streams, &mut store, &mut rows, &mut begun, &mut text, &mut piece,
-    );
+    let mut kiosk = opened(&mut store, &mut rows, &mut begun, &mut text);
+    let run = play(streams, &mut kiosk, &mut piece);
     complain(streams, errors, run);
 }

@@ -2,10 +2,7 @@
 use mathlib.Core.List.{List}
 use borrow.Author.Tests.{leb-false}
 use borrow.Author.Rules.{rules}
-use Rattle.logic.specs.Formula.{plain}
-use Rattle.logic.specs.Interval.{has}
-use Rattle.ledger.specs.Ledger.{formula}
-use Rattle.ledger.specs.Checks.{Check, checks}
+use Rattle.ledger.specs.Checks.{Check}
 use Rattle.ledger.specs.Statements.{◌▸◌}
 use Rattle.call_checks.proofs.Verdicts.{by_verdict, shown}
 use Rattle.call_contracts.proofs.Laws.{refused}

@@ -13,7 +13,7 @@ returns : tie.Need-returns-then-row-ne-FOR_EVERY
 returns c =
     rw (nests_is c.args.store.now c.args.row c.requires.canonical, ne_eqb _ _ c.if-row-ne-FOR_EVERY.true)
 
-quantified-at-requires : tie.Need-quantified_at-requires
+quantified-at-requires : tie.Need-facts_at-requires
 quantified-at-requires c κs = (
   c.requires.good,
   (subst (There (ledger_of c.args.store.now))
@@ -27,7 +27,7 @@ returns_2 c =
       nests_is c.args.store.now c.args.row c.requires.canonical,
       eq-eqb _ _ c.if-row-ne-FOR_EVERY.false,
       every_part c.args.row c.requires.canonical c.if-row-ne-FOR_EVERY.false,
-    ) (c.quantified_at.ensures ∙ sym (or-false _))
+    ) (c.facts_at.ensures.0.quantified_kept ∙ sym (or-false _))
 
 pub row_nested_spec : {M : Type 1} → statement M
 row_nested_spec = tie.close (tie.spec returns quantified-at-requires returns_2)

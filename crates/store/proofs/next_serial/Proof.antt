@@ -6,7 +6,7 @@ use Rattle.store.proofs.next_serial.Tie as tie
 
 returns : tie.Need-returns
 unfolding ledger_of
-returns c = c.next.ensures
+returns c = c.read.ensures
 
 pub next_serial_spec : {M : Type 1} → statement M
 next_serial_spec = tie.close (tie.spec (λ c κs. search rules) returns)

@@ -11,18 +11,18 @@ use Rattle.store.proofs.row_at.Tie as tie
 returns : tie.Need-returns-then-number-ge-MAX_FORMULAS
 returns c = c.one_row.ensures ∙ sym (row_wide _ _ c.if-number-ge-MAX_FORMULAS.true)
 
-returns_2 : tie.Need-returns-then-line_count-number
+returns_2 : tie.Need-returns-then-read-number
 returns_2 c =
     let l = c.args.store.now in
     let n = c.args.number in
-    let h : line_count l ≤ n = omega (arith, c.line_count.ensures) in
-    c.one_row-then-line_count-number.ensures ∙ sym (row_past l n h)
+    let h : line_count l ≤ n = omega (arith, c.read.ensures) in
+    c.one_row-then-read-number.ensures ∙ sym (row_past l n h)
 
 returns_3 : tie.Need-returns
 returns_3 c =
     let l = c.args.store.now in
     let n = c.args.number in
-    let h : n < line_count l = omega (arith, c.line_count.ensures) in
+    let h : n < line_count l = omega (arith, c.read.ensures) in
     c.line_row.ensures ∙ sym (row_below l n h c.if-number-ge-MAX_FORMULAS.false)
 
 pub row_at_spec : {M : Type 1} → statement M

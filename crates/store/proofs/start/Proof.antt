@@ -28,7 +28,7 @@ nothing g w =
     ∙ replicate_is 0 cells (group_base + g * group_width + w)
 
 returns : tie.Need-returns
-returns c = rw c.put_next.ensures (empty_stands _ refl refl refl refl refl none nothing)
+returns c = rw c.put.ensures (empty_stands _ refl refl refl refl refl none nothing)
 
 pub start_spec : {M : Type 1} → statement M
 start_spec = tie.close (tie.spec (λ c κs. search rules) returns)

@@ -9,21 +9,21 @@ use Rattle.store_credentials.proofs.append.Tie as tie
 add_put_next : tie.Need-overflow_add-serial
 unfolding ledger_of
 add_put_next c =
-    omega (arith, c.next-serial.ensures, c.requires.0.unused)
+    omega (arith, c.read-serial.ensures, c.requires.0.unused)
 
 put-credential-requires : tie.Need-put_credential-requires
 put-credential-requires c κs =
     let p = c.requires.0 in (
-      omega (arith, c.row_count-i.ensures, c.requires.1),
+      omega (arith, c.read-i.ensures, c.requires.1),
       omega (arith, p.there, p.good.bounded.lines),
     )
 
 returns : tie.Need-returns
 returns c =
-    give_done _ _ _ _ c.requires.0 c.requires.1 c.row_count-i.ensures
-    c.live_count-n.ensures c.next-serial.ensures c.put_credential.ensures
-    c.put_row_count.ensures c.put_live_count.ensures
-    c.put_next.ensures c.put_hint.ensures
+    give_done _ _ _ _ c.requires.0 c.requires.1 c.read-i.ensures
+    c.read-n.ensures c.read-serial.ensures c.put_credential.ensures
+    c.put.ensures c.put-2.ensures
+    c.put-3.ensures c.put_hint.ensures
 
 pub append_spec : {M : Type 1} → statement M
 append_spec =

@@ -11,11 +11,11 @@ use Rattle.store_credentials.proofs.make_room.Tie as tie
 -- the count of live credentials is small
 twice : tie.Need-overflow_mul-live
 twice c =
-    omega (arith, c.live_count-live.ensures, c.requires.0.ordered.counted, c.requires.1)
+    omega (arith, c.read-live.ensures, c.requires.0.ordered.counted, c.requires.1)
 
 spare : tie.Need-overflow_add-live
 spare c =
-    omega (arith, c.live_count-live.ensures, c.requires.0.ordered.counted, c.requires.1)
+    omega (arith, c.read-live.ensures, c.requires.0.ordered.counted, c.requires.1)
 
 returns : tie.Need-returns-then-used-live
 returns c =
@@ -25,8 +25,8 @@ returns c =
 returns_2 : tie.Need-returns-else-used-live
 returns_2 c =
     let g = c.requires.0 in
-    let e = c.row_count-used.ensures in
-    let n : c.row_count-used.result ≡ max_rows → ⊥ = eqb-false _ _ (left_false _ _ c.if-used-live.false) in
+    let e = c.read-used.ensures in
+    let n : c.read-used.result ≡ max_rows → ⊥ = eqb-false _ _ (left_false _ _ c.if-used-live.false) in
     (record { good = g; ledger = refl }, omega (arith, g.ordered.few, e, n))
 
 pub make_room_spec : {M : Type 1} → statement M

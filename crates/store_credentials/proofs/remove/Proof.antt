@@ -11,12 +11,12 @@ put-gap-requires c κs =
 
 sub_put_live_count : tie.Need-overflow_sub-n
 sub_put_live_count c =
-    omega (arith, c.live_count-n.ensures, some_live _ _ c.requires.0 c.requires.1)
+    omega (arith, c.read-n.ensures, some_live _ _ c.requires.0 c.requires.1)
 
 returns : tie.Need-returns
 returns c =
-    remove_done _ _ c.requires.0 c.requires.1 c.live_count-n.ensures
-    c.put_gap.ensures c.put_live_count.ensures
+    remove_done _ _ c.requires.0 c.requires.1 c.read-n.ensures
+    c.put_gap.ensures c.put.ensures
 
 pub remove_spec : {M : Type 1} → statement M
 remove_spec =

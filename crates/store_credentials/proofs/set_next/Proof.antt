@@ -6,4 +6,4 @@ use Rattle.store_credentials.proofs.set_next.Tie as tie
 
 pub set_next_spec : {M : Type 1} → statement M
 set_next_spec = tie.close (tie.spec (λ c κs. search rules) (λ c. raised _ _ c.requires
-    c.put_next.ensures))
+    c.put.ensures))

@@ -1,6 +1,6 @@
 -- `text_length` meets its contract.
 use native.Mathlib.Omega.{arith}
-use borrow.Author.Rules.{rules, Fits-under}
+use borrow.Author.Rules.{Fits-under}
 use Rattle.text_close.proofs.Texts.{text_parts, measured_sum}
 use Rattle.text_close.proofs.text_length.Statement.{statement}
 use Rattle.text_close.proofs.text_length.Tie as tie

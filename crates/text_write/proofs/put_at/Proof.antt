@@ -2,7 +2,6 @@
 use mathlib.Core.List.{[], ◌∷◌}
 use borrow.Author.Rules.{rules}
 use Rattle.request.specs.Write.{digits, minutes}
-use Rattle.text_write.specs.Put.{shape_fields}
 use Rattle.text_write.proofs.Puts.{Fields, in_fields, first_room, part_start, part_room, sum_fits, wrote_parts}
 use Rattle.text_write.proofs.put_at.Statement.{statement}
 use Rattle.text_write.proofs.put_at.Tie as tie
@@ -10,11 +9,10 @@ use Rattle.text_write.proofs.put_at.Tie as tie
 parts : (c : tie.Start)
     → Fields c.args.rest.now 10 ((104 ∷ []) ∷ digits c.args.n ∷ [])
     (minutes c.args.w)
-unfolding shape_fields minutes
+unfolding minutes
 parts c = in_fields _ _ _ tt tt c.requires
 
 pub put_at_spec : {M : Type 1} → statement M
-unfolding shape_fields
 put_at_spec =
     tie.close
     (tie.spec

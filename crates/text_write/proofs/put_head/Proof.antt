@@ -6,7 +6,7 @@ use Rattle.text_write.proofs.Puts.{Fields, in_fields, first_room, part_start, pa
 use Rattle.text_write.proofs.put_head.Statement.{statement}
 use Rattle.text_write.proofs.put_head.Tie as tie
 
-parts : (c : tie.Start) → Fields c.args.rest.now 44 ((c.args.x ∷ []) ∷ []) (digits c.args.n ∷ [])
+parts : (c : tie.Start) → Fields c.args.rest.now c.args.stop ((c.args.x ∷ []) ∷ []) (digits c.args.n ∷ [])
 parts c = in_fields _ _ _ tt tt c.requires
 
 pub put_head_spec : {M : Type 1} → statement M

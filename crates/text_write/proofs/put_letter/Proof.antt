@@ -1,5 +1,4 @@
 -- `put_letter` meets its contract.
-use mathlib.Core.List.{[], ◌∷◌}
 use native.Mathlib.Omega.{arith}
 use borrow.Author.Rules.{rules}
 use Rattle.request.specs.Write.{joined}

@@ -2,7 +2,6 @@
 use mathlib.Core.List.{[], ◌∷◌}
 use borrow.Author.Rules.{rules}
 use Rattle.request.specs.Write.{digits}
-use Rattle.text_write.specs.Put.{shape_fields}
 use Rattle.text_write.proofs.Puts.{Fields, in_fields, first_room, part_start, part_room, sum_fits, wrote_parts}
 use Rattle.text_write.proofs.put_pair.Statement.{statement}
 use Rattle.text_write.proofs.put_pair.Tie as tie
@@ -10,22 +9,18 @@ use Rattle.text_write.proofs.put_pair.Tie as tie
 parts : (c : tie.Start)
     → Fields c.args.rest.now 10 ((c.args.x ∷ []) ∷ [])
     (digits c.args.m ∷ digits c.args.n ∷ [])
-unfolding shape_fields
 parts c = in_fields _ _ _ tt tt c.requires
 
 put-fields-requires : tie.Need-put_fields-j-requires
-unfolding shape_fields
 put-fields-requires c κs =
     part_room (parts c.before.before.before.before.before.before) c.put_letter-i.ensures
 
 returns : tie.Need-returns
-unfolding shape_fields
 returns c =
     wrote_parts (parts c.before.before.before.before.before.before.before.before.before) c.put_letter-i.ensures
     c.put_fields-j.ensures
 
 pub put_pair_spec : {M : Type 1} → statement M
-unfolding shape_fields
 put_pair_spec =
     tie.close
     (tie.spec

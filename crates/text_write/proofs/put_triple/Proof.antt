@@ -2,7 +2,6 @@
 use mathlib.Core.List.{[], ◌∷◌}
 use borrow.Author.Rules.{rules}
 use Rattle.request.specs.Write.{digits}
-use Rattle.text_write.specs.Put.{shape_fields}
 use Rattle.text_write.proofs.Puts.{Fields, in_fields, first_room, part_start, part_room, sum_fits, wrote_parts}
 use Rattle.text_write.proofs.put_triple.Statement.{statement}
 use Rattle.text_write.proofs.put_triple.Tie as tie
@@ -10,11 +9,9 @@ use Rattle.text_write.proofs.put_triple.Tie as tie
 parts : (c : tie.Start)
     → Fields c.args.rest.now 10 ((110 ∷ []) ∷ digits c.args.l ∷ [])
     (digits c.args.m ∷ digits c.args.n ∷ [])
-unfolding shape_fields
 parts c = in_fields _ _ _ tt tt c.requires
 
 pub put_triple_spec : {M : Type 1} → statement M
-unfolding shape_fields
 put_triple_spec =
     tie.close
     (tie.spec

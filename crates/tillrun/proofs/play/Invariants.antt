@@ -6,8 +6,8 @@ use Rattle.stream_console.specs.Console.{most_reads}
 use Rattle.tillrun.specs.Program.{Going}
 use Rattle.tillrun.proofs.play.Given as goal
 
-abbrev pub invariant-loop-store : goal.invariant-loop-store
-invariant-loop-store l = Going l.store l.begun l.text l.turn (length l.piece) × (length l.piece ≡ max_bytes)
+abbrev pub invariant-loop-kiosk : goal.invariant-loop-kiosk
+invariant-loop-kiosk l = Going l.kiosk l.run (length l.piece) × (length l.piece ≡ max_bytes)
 
-abbrev pub decreases-loop-store : goal.decreases-loop-store
-decreases-loop-store l = most_reads - l.turn.input.reads
+abbrev pub decreases-loop-kiosk : goal.decreases-loop-kiosk
+decreases-loop-kiosk l = most_reads - l.run.input.reads

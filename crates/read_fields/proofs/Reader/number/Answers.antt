@@ -1,0 +1,41 @@
+use Rattle.std.proofs.Common.{arith, sym, ◌∙◌}
+use Rattle.std.proofs.lemmas.List.{take_rest}
+use Rattle.read_fields.proofs.Bytes.{here}
+use Rattle.read_fields.proofs.Decimals.{number_short, start_no, start_on, step_stop, step_small, step_zero}
+use Rattle.read_fields.proofs.Decimals.{digit_small, second}
+use Rattle.read_fields.proofs.Reader.number.Goals as goal
+
+pub returns-in_default : goal.returns-in_default
+returns-in_default c = sym (number_short _ _ _ c.in_default.len_below)
+
+pub returns-in_err-d : goal.returns-in_err-d
+returns-in_err-d c =
+    rw c.from_residual.ensures
+    (sym (rw (here c.args.self.now.rest.now 0 (omega arith))
+    (start_no _ _ c.requires.stops _ _ (sym c.in_err-d.ensures))))
+
+pub returns-then-below : goal.returns-then-below
+returns-then-below c =
+    sym (second _ _ c.args.self.now.rest.now _ c.in-len2-up.len_at_least (sym c.in_ok-d.ensures)
+    ∙ step_small _ _ _ c.requires.stops _ _ c.if-y-stop.true c.if-below.true)
+
+pub returns-then-y-stop : goal.returns-then-y-stop
+returns-then-y-stop c =
+    rw (take_rest c.args.self.now.rest.now 2)
+    (sym (second _ _ c.args.self.now.rest.now _ c.in-len2-up.len_at_least (sym c.in_ok-d.ensures)
+    ∙ step_stop _ _ _ c.requires.stops _ _ c.if-y-stop.true c.if-below.false
+    (omega (arith, digit_small _ _ (sym c.in_ok-d.ensures)))))
+
+pub returns-then-zero : goal.returns-then-zero
+returns-then-zero c =
+    sym (second _ _ c.args.self.now.rest.now _ c.in-len2-up.len_at_least (sym c.in_ok-d.ensures)
+    ∙ step_zero _ _ _ _ _ c.if-y-stop.false c.if-zero.true)
+
+pub more_digits-requires : goal.more_digits-requires
+more_digits-requires c =
+    (c.requires, omega arith, omega (arith, digit_small _ _ (sym c.in_ok-d.ensures)))
+
+pub returns : goal.returns
+returns c =
+    c.more_digits.ensures
+    ∙ sym (rw (here c.args.self.now.rest.now 0 (omega arith)) (start_on _ _ _ _ _ (sym c.in_ok-d.ensures)))
