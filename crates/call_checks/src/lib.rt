@@ -148,7 +148,8 @@ pub fn check_room(store: &Store, held: u32) -> Verdict
     requires { Good store.now }
     ensures { Tells 22 result (no_room (ledger_of store.now) held) }
 {
-    tested(ledger::MAX_LIVE <= store::live_count(store).saturating_sub(held))
+    let live = store::live_count(store).saturating_sub(held);
+    tested(ledger::MAX_LIVE <= live)
 }
 
 // 23: serial 999,999 was given.

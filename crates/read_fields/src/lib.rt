@@ -1,7 +1,7 @@
 // Fields of bytes, read one after another: decimal numbers, sets of labels, and texts that are looked for.
 #![tactic(auto)]
 
-ghost use Rattle.std.specs.Prelude.{◌≡◌, ◌≤◌, ◌<◌, drop};
+ghost use Rattle.std.specs.Prelude.{◌≡◌, ◌≤◌, ◌<◌, drop, IfNone};
 ghost use Rattle.request.specs.Range.{◌‥◌};
 ghost use Rattle.request.specs.Text.{decimal_digit, number_in, label_set_in};
 ghost use Rattle.read_fields.specs.Field.{Stop, NumberAsked, field_to, more_in, answer_of};
@@ -14,8 +14,8 @@ const HEX_LAST: u8 = b'f';
 
 const HEX_SHIFT: u8 = HEX_FIRST - 10;
 
-// The bytes that are still to be read. Where a reader's answer is none, nothing more is read, so it does not matter
-// which bytes are left then; `past` alone leaves all of them.
+// The bytes that are still to be read. A reader goes on past what it answers; where its answer is none, all of them are
+// left (`kept`), and so they are where `past` answers false.
 #[derive(Clone, Copy)]
 pub struct Reader<'a> {
     pub rest: &'a [u8],
@@ -23,6 +23,7 @@ pub struct Reader<'a> {
 
 // The value of a decimal digit.
 #[tactic(auto, using(crate::proofs::Decimals::digit_bytes))]
+#[inline(always)]
 fn digit(b: u8) -> Option<u32>
     ensures { answer_of result ≡ decimal_digit b }
 {
@@ -50,8 +51,9 @@ impl Reader<'_> {
     // is read here, and a zero can only be that.
     pub fn number(&mut self, first: u32, last: u32, stop: u8) -> Option<u32>
         requires { NumberAsked last stop }
-        ensures { read_of result self.new.rest.now
+        ensures read { read_of result self.new.rest.now
             ≡ field_to stop (number_in (first ‥ last)) self.old.rest.now }
+        ensures kept { IfNone result (self.new.rest.now ≡ self.old.rest.now) }
     {
         let [x, y, after @ ..] = self.rest else {
             return None;
@@ -75,8 +77,9 @@ impl Reader<'_> {
     // The digits after the first, of the value `start`, which is not zero.
     fn more_digits(&mut self, start: u32, first: u32, last: u32, stop: u8) -> Option<u32>
         requires { NumberAsked last stop × (1 ≤ start) × (start ≤ last) }
-        ensures { read_of result self.new.rest.now
+        ensures read { read_of result self.new.rest.now
             ≡ field_to stop (more_in (first ‥ last) start) (drop 1 self.old.rest.now) }
+        ensures kept { IfNone result (self.new.rest.now ≡ self.old.rest.now) }
     {
         let s = self.rest;
         let mut v = start;
@@ -99,7 +102,8 @@ impl Reader<'_> {
     // A set of labels (document 01: a share): 16 hexadecimal digits, which the byte `stop` ends.
     pub fn label_set(&mut self, stop: u8) -> Option<u64>
         requires { Stop stop }
-        ensures { read_of result self.new.rest.now ≡ field_to stop label_set_in self.old.rest.now }
+        ensures read { read_of result self.new.rest.now ≡ field_to stop label_set_in self.old.rest.now }
+        ensures kept { IfNone result (self.new.rest.now ≡ self.old.rest.now) }
     {
         let s = self.rest;
         if s.len() < 17 {

@@ -1,5 +1,5 @@
 // Intervals and formula lines (document 01: windows and wording lines).
-ghost use Rattle.std.specs.Prelude.{◌≡◌};
+ghost use Rattle.std.specs.Prelude.{◌≡◌, IfNone};
 ghost use Rattle.request.specs.Read.{formula_line};
 ghost use Rattle.ledger.specs.Table.{lettered as lettered_of};
 ghost use Rattle.read_fields.specs.Field.{Stop, read_of};
@@ -16,12 +16,15 @@ use steps::{Row, letters};
 #[tactic(auto, unfolding(crate::specs::Line::interval_to, request::specs::Text::and_then))]
 pub fn interval(r: &mut Reader<'_>, stop: u8) -> Option<Interval>
     requires { Stop stop }
-    ensures { read_of result r.new.rest.now ≡ interval_to stop r.old.rest.now }
+    ensures read { read_of result r.new.rest.now ≡ interval_to stop r.old.rest.now }
+    ensures kept { IfNone result (r.new.rest.now ≡ r.old.rest.now) }
 {
-    let from = r.number(0, ranges::MINUTE_LAST, b',')?;
-    let to = r.number(0, ranges::MINUTE_LAST, b',')?;
-    let first = r.number(0, ranges::MINUTE_LAST, b',')?;
-    let last = r.number(0, ranges::MINUTE_LAST, stop)?;
+    let mut at = *r;
+    let from = at.number(0, ranges::MINUTE_LAST, b',')?;
+    let to = at.number(0, ranges::MINUTE_LAST, b',')?;
+    let first = at.number(0, ranges::MINUTE_LAST, b',')?;
+    let last = at.number(0, ranges::MINUTE_LAST, stop)?;
+    *r = at;
     Some(Interval {
         from,
         to,
@@ -114,8 +117,8 @@ fn named_fields(r: &mut Reader<'_>, letter: u32) -> Option<Row>
     })
 }
 
-// One of the 13 formula lines.
-pub fn formula_line(r: &mut Reader<'_>) -> Option<Row>
+// One of the 13 formula lines, by its letter. Where it is broken, the reader may have moved.
+fn read_formula(r: &mut Reader<'_>) -> Option<Row>
     ensures { read_of result r.new.rest.now ≡ rowed (read_line formula_line r.old.rest.now) }
 {
     let [letter, stop, after @ ..] = r.rest else {
@@ -148,4 +151,15 @@ pub fn formula_line(r: &mut Reader<'_>) -> Option<Row>
         letters::FOR_EVERY => one_field(r, x),
         _ => None,
     }
+}
+
+// One of the 13 formula lines.
+pub fn formula_line(r: &mut Reader<'_>) -> Option<Row>
+    ensures read { read_of result r.new.rest.now ≡ rowed (read_line formula_line r.old.rest.now) }
+    ensures kept { IfNone result (r.new.rest.now ≡ r.old.rest.now) }
+{
+    let mut at = *r;
+    let row = read_formula(&mut at)?;
+    *r = at;
+    Some(row)
 }

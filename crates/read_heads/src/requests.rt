@@ -1,5 +1,5 @@
 // The first line of a request (document 01: a sheet).
-ghost use Rattle.std.specs.Prelude.{◌≡◌, ◌<◌, length, MatchOption};
+ghost use Rattle.std.specs.Prelude.{◌≡◌, ◌<◌, length, MatchOption, IfNone};
 ghost use Rattle.request.specs.Read.{request_of};
 ghost use Rattle.read_formulas.specs.Line.{read_line};
 ghost use Rattle.read_heads.specs.First.{request_from, issue_fields, FirstIs, FirstAfter};
@@ -85,8 +85,8 @@ fn book(r: &mut Reader<'_>) -> Option<First>
     }))
 }
 
-// What the bytes of a request say, up to the lines after a booking's head, which are left.
-pub fn read_first(r: &mut Reader<'_>) -> Option<First>
+// What the bytes of a request say, by their word. Where the form is broken, the reader may have moved.
+fn read_request(r: &mut Reader<'_>) -> Option<First>
     ensures { FirstIs (request_of r.old.rest.now) r.new.rest.now result }
 {
     if r.past(b"word,") {
@@ -105,4 +105,15 @@ pub fn read_first(r: &mut Reader<'_>) -> Option<First>
         return tally(r);
     }
     None
+}
+
+// What the bytes of a request say, up to the lines after a booking's head, which are left.
+pub fn read_first(r: &mut Reader<'_>) -> Option<First>
+    ensures read { FirstIs (request_of r.old.rest.now) r.new.rest.now result }
+    ensures kept { IfNone result (r.new.rest.now ≡ r.old.rest.now) }
+{
+    let mut at = *r;
+    let first = read_request(&mut at)?;
+    *r = at;
+    Some(first)
 }

@@ -1,5 +1,5 @@
 // Step lines as rows.
-ghost use Rattle.std.specs.Prelude.{◌≡◌, [], ◌∷◌, ◌+◌, ◌*◌, unwrap_or};
+ghost use Rattle.std.specs.Prelude.{◌≡◌, [], ◌∷◌, ◌+◌, ◌*◌, unwrap_or, IfNone};
 ghost use Rattle.logic.specs.Interval.{no_interval};
 ghost use Rattle.request.specs.Read.{step_line};
 ghost use Rattle.read_formulas.specs.Line.{read_line};
@@ -128,9 +128,9 @@ fn implies_fields(r: &mut Reader<'_>) -> Option<StepRow>
     })
 }
 
-// A step line as a row.
+// A step line as a row, by its word. Where it is broken, the reader may have moved.
 #[tactic(auto, using(crate::proofs::Ops::line_words))]
-pub fn read_step(r: &mut Reader<'_>) -> Option<StepRow>
+fn read_row(r: &mut Reader<'_>) -> Option<StepRow>
     ensures { step_line_of result r.new.rest.now ≡ read_line step_line r.old.rest.now }
 {
     let [a, b, stop, after @ ..] = r.rest else {
@@ -147,4 +147,15 @@ pub fn read_step(r: &mut Reader<'_>) -> Option<StepRow>
         (ops::UL, b',') => implies_fields(r),
         _ => None,
     }
+}
+
+// A step line as a row.
+pub fn read_step(r: &mut Reader<'_>) -> Option<StepRow>
+    ensures read { step_line_of result r.new.rest.now ≡ read_line step_line r.old.rest.now }
+    ensures kept { IfNone result (r.new.rest.now ≡ r.old.rest.now) }
+{
+    let mut at = *r;
+    let row = read_row(&mut at)?;
+    *r = at;
+    Some(row)
 }

@@ -12,7 +12,7 @@ use Rattle.ledger.proofs.Firsts.{if_true, if_false, if_some, none_there}
 use Rattle.step_rows.specs.LabelRows.{max_holds}
 use Rattle.step_rows.specs.StepRows.{steps_from}
 use Rattle.read_rest.specs.declared.Faults.{Faults}
-use Rattle.read_rest.specs.LinesRead.{lines_check, holds_of, HoldsIs, StepsAre, StepsIs}
+use Rattle.read_rest.specs.LinesRead.{holds_check, holds_of, HoldsIs, StepsAre, StepsIs}
 
 -- hold lines
 pub holds_told : {q : Option (List ℕ × List ℕ)} {c : List ℕ} {count : ℕ} {serials : List ℕ}
@@ -21,7 +21,7 @@ unfolding ◌if◌
 holds_told {q} {c} {count} {serials} r e l =
     record { check = go r ∙ ap (λ (o : Option (List ℕ × List ℕ)). 2 if is_none o) e; lines = e; long = l }
   where
-    go : (r : Read (Unit {0})) → lines_check r ≡ (2 if is_none (holds_of c count serials r))
+    go : (r : Read (Unit {0})) → holds_check r ≡ (2 if is_none (holds_of c count serials r))
     go (Some u) = refl
     go None = refl
 

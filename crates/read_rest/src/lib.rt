@@ -1,7 +1,7 @@
 // The lines after a booking's head: hold lines, and step lines in rows.
 #![tactic(auto)]
 
-ghost use Rattle.std.specs.Prelude.{◌≡◌, ◌≤◌};
+ghost use Rattle.std.specs.Prelude.{◌≡◌, ◌≤◌, IfNone};
 ghost use Rattle.request.specs.Read.{hold_line, step_line};
 ghost use Rattle.step_rows.specs.LabelRows.{max_holds};
 ghost use Rattle.step_rows.specs.StepRows.{max_steps};
@@ -24,12 +24,15 @@ pub struct Faults {
 // `count` hold lines, their serials in order.
 pub fn read_holds(r: &mut Reader<'_>, count: u32, serials: &mut Serials) -> Option<()>
     requires { count ≤ max_holds }
-    ensures { HoldsIs (read_lines count hold_line r.old.rest.now) r.new.rest.now count
+    ensures read { HoldsIs (read_lines count hold_line r.old.rest.now) r.new.rest.now count
         serials.new result }
+    ensures kept { IfNone result (r.new.rest.now ≡ r.old.rest.now) }
 {
+    let mut at = *r;
     for serial in &mut serials[..count as usize] {
-        *serial = read_hold(r)?;
+        *serial = read_hold(&mut at)?;
     }
+    *r = at;
     Some(())
 }
 
@@ -51,20 +54,23 @@ fn faults_of(row: StepRow) -> Faults
 // line on; each in its row.
 pub fn read_steps(r: &mut Reader<'_>, count: u32, rows: &mut StepRows) -> Option<Faults>
     requires { count ≤ max_steps }
-    ensures { StepsIs (all_lines count step_line r.old.rest.now) count rows.new result }
+    ensures read { StepsIs (all_lines count step_line r.old.rest.now) count rows.new result }
+    ensures kept { IfNone result (r.new.rest.now ≡ r.old.rest.now) }
 {
+    let mut at = *r;
     let mut faults = Faults::default();
     for k in 0..count {
-        let row = read_step(r)?;
+        let row = read_step(&mut at)?;
         let found = faults_of(row);
         faults.reversed |= found.reversed;
         faults.broken |= found.broken;
         put_step(rows, k, row);
     }
-    let bytes_left = !r.rest.is_empty();
+    let bytes_left = !at.rest.is_empty();
     if bytes_left {
         return None;
     }
+    *r = at;
     Some(faults)
 }
 

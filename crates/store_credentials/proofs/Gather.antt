@@ -54,10 +54,10 @@ pub record Gathering (l m : List ℕ) (i k : ℕ) : Type 0 where
   pub rest : (j : ℕ) → i ≤ j → j < max_rows → Stays l m j
   pub chained : Chained m k
 
--- Chains are left, one by one.
-pub unlink_next : (l m : List ℕ) (i : ℕ) → UnlinkedTo l m i → i < max_formulas
-    → UnlinkedTo l (put_link m (formula_link i) 0) (i + 1)
-unlink_next l m i u h = record {
+-- Chains are left, one by one: k is the link of formula i.
+pub unlink_next : (l m : List ℕ) (i k : ℕ) → UnlinkedTo l m i → i < max_formulas → k ≡ formula_link i
+    → UnlinkedTo l (put_link m k 0) (i + 1)
+unlink_next l m i k u h e = rw e record {
   long = (link_lines m (formula_link i) 0 m (lines_self m u.long)).long;
   rest = λ k q. link_before m (formula_link i) 0 k q ∙ u.rest k q;
   none = λ n q. go n q (ℕ_discrete n i);
@@ -71,9 +71,9 @@ unlink_next l m i u h = record {
     go n q (no e) = link_other m (formula_link i) 0 (formula_link n) (omega arith) ∙ u.none n (omega arith)
 
 -- One that leads nowhere is passed.
-pub unlink_pass : (l m : List ℕ) (i : ℕ) → UnlinkedTo l m i → link_at m (formula_link i) ≡ 0
+pub unlink_pass : (l m : List ℕ) (i k : ℕ) → UnlinkedTo l m i → link_at m k ≡ 0 → k ≡ formula_link i
     → UnlinkedTo l m (i + 1)
-unlink_pass l m i u e = record {
+unlink_pass l m i k u z e = record {
   long = u.long;
   rest = u.rest;
   none = λ n q. go n q (ℕ_discrete n i);
@@ -81,7 +81,7 @@ unlink_pass l m i u e = record {
 }
   where
     go : (n : ℕ) → n < i + 1 → Dec (n ≡ i) → link_at m (formula_link n) ≡ 0
-    go n q (yes d) = ap (λ (x : ℕ). link_at m (formula_link x)) d ∙ e
+    go n q (yes d) = let x : formula_link n ≡ k = omega arith in ap (link_at m) x ∙ z
     go n q (no d) = u.none n (omega arith)
 
 -- A number that no line has yet has no chain.

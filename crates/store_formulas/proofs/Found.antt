@@ -2,9 +2,7 @@
 use mathlib.Core.Path.{◌≡◌, refl, ap, ◌∙◌}
 use mathlib.Core.List.{List}
 use mathlib.Core.Bool.{Bool, true, false, ◌&&◌, ◌||◌}
-use Rattle.std.proofs.Math.Bool.{and_assoc, and-false}
 use lib.Dec.{eqb}
-use Rattle.logic.specs.declared.Interval.{Interval}
 use Rattle.logic.specs.Interval.{same_interval}
 use Prim.Native.Nat.{ℕ, zero, suc, ◌<◌}
 use native.Mathlib.Omega.{arith}
@@ -16,19 +14,22 @@ use Rattle.ledger.specs.Table.{row_of}
 use Rattle.store_cells.specs.Layout.{line_count, row_at}
 use Rattle.store.specs.Store.{ledger_of, Good}
 
--- the derived `==` compares letters, fields and the numbers of intervals one after the other
-abbrev pub equal_intervals : Interval → Interval → Bool
-equal_intervals i j = eqb i.from j.from && (eqb i.to j.to && (eqb i.first j.first && eqb i.last j.last))
+-- the letter is tried after the numbers
+letter_last : (l a b h f : Bool) → (l && (a && (b && (h && f)))) ≡ (a && ((b && (h && l)) && f))
+letter_last true true true true f = refl
+letter_last true true true false f = refl
+letter_last true true false h f = refl
+letter_last true false b h f = refl
+letter_last false true true true f = refl
+letter_last false true true false f = refl
+letter_last false true false h f = refl
+letter_last false false b h f = refl
 
-pub in_turn : (x y : Row) → same_row x y ≡ (eqb x.letter y.letter && (eqb x.a y.a && (eqb x.b y.b
-    && (eqb x.holder y.holder && (equal_intervals x.first y.first && equal_intervals x.second y.second)))))
-unfolding same_row same_interval
-in_turn x y = simp and_assoc
-
--- rows that differ in their first field
-pub other_field : (x y : Row) → eqb x.a y.a ≡ false → same_row x y ≡ false
+pub in_turn : (x y : Row) → same_row x y ≡ (eqb x.a y.a && ((eqb x.b y.b && (eqb x.holder y.holder
+    && eqb x.letter y.letter)) && (same_interval x.first y.first && same_interval x.second y.second)))
 unfolding same_row
-other_field x y e = rw e (and-false (eqb x.letter y.letter))
+in_turn x y = letter_last (eqb x.letter y.letter) (eqb x.a y.a) (eqb x.b y.b) (eqb x.holder y.holder)
+    (same_interval x.first y.first && same_interval x.second y.second)
 
 -- a test of every one of f 0, f 1, .. and of one of them
 module _ {A : Type 0} (p : A → Bool) where

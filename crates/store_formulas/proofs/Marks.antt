@@ -22,13 +22,13 @@ only_self l n e = record {
   filled = λ z. z;
 }
 
-pub mark_start : (l : List ℕ) (n low : ℕ) → length l ≡ cells → MarkedTo l l n low low
-mark_start l n low e = record { only = only_self l n e; near = λ s a b. absurd (omega arith) }
+pub mark_start : (l : List ℕ) (n low k : ℕ) → length l ≡ cells → k ≤ low → MarkedTo l l n low k
+mark_start l n low k e h = record { only = only_self l n e; near = λ s a b. absurd (omega arith) }
 
--- one group more, that of session k
-pub mark_next : (l m : List ℕ) (n low k : ℕ) → n < max_formulas → MarkedTo l m n low k
-    → MarkedTo l (put_mark m (k % groups) n) n low (k + 1)
-mark_next l m n low k q v = record {
+-- one group more: g is that of session k
+pub mark_next : (l m : List ℕ) (n low k g : ℕ) → n < max_formulas → g ≡ k % groups → MarkedTo l m n low k
+    → MarkedTo l (put_mark m g n) n low (k + 1)
+mark_next l m n low k g q e v = record {
   only = record {
     long = mark_long m g n h q ∙ o.long;
     below = λ c a. mark_below m g n h q c a ∙ o.below c a;
@@ -39,9 +39,6 @@ mark_next l m n low k q v = record {
   near = λ s a b. go s a b (dec_lt s k);
 }
   where
-    g : ℕ
-    g = k % groups
-
     o : OnlyLine l m n
     o = v.only
 

@@ -5,7 +5,7 @@ ghost use Rattle.std.specs.Prelude.{◌≡◌, ◌<◌, length};
 ghost use Rattle.ledger.specs.Table.{row_of};
 ghost use Rattle.ledger.specs.Checks.{max_formulas, any_of, same_row};
 ghost use Rattle.ledger.specs.Calls.{with_line};
-ghost use Rattle.store_cells.specs.Layout.{cells, row_at};
+ghost use Rattle.store_cells.specs.Layout.{cells};
 ghost use Rattle.store.specs.Store.{line_of, ledger_of, Good, StandsFor, Wordable};
 ghost use Rattle.store_formulas.specs.Marked.{Marked};
 
@@ -14,24 +14,33 @@ use store::{Facts, Store};
 use store_cells::head::Number;
 use store_cells::{groups, head, lines};
 
-// Whether line i of the ledger has this row. It is compiled apart: in the loop of `has_row` all numbers of each row
-// would be compared, where most rows differ in the one that is looked at first.
-#[inline(never)]
-fn is_row(store: &Store, i: u32, row: Row) -> bool
-    requires { Good store.now × (i < length (ledger_of store.now).lines) }
-    ensures { result ≡ same_row row (row_at store.now i) }
+// Equal letters and equal fields. Most rows differ in a number, then in the letter, and intervals are looked at only
+// where these are the same. The derived `==` compares eight numbers at once, and 200 lines with the same first number
+// took twice the time.
+fn same_row(x: Row, y: Row) -> bool
+    ensures { result ≡ same_row x y }
 {
-    row == store::line_at(store, i)
+    if x.a != y.a {
+        return false;
+    }
+    if (x.b == y.b) & ((x.holder == y.holder) & (x.letter == y.letter)) {
+        if intervals::same(x.first, y.first) {
+            return intervals::same(x.second, y.second);
+        }
+    }
+    false
 }
 
-// Whether a line of the ledger has this row.
+// Whether a line of the ledger has this row. It is compiled apart: within a call its loop keeps what it compares on the
+// stack.
+#[inline(never)]
 pub fn has_row(store: &Store, row: Row) -> bool
     requires { Good store.now }
     ensures { result ≡ any_of (λ m. same_row row (row_of m)) (ledger_of store.now).lines }
 {
     for i in 0..head::read(store, Number::Lines) {
         let line = store::line_at(store, i);
-        let same = row.a == line.a && is_row(store, i, row);
+        let same = same_row(row, line);
         if same {
             return true;
         }

@@ -18,7 +18,7 @@ use Rattle.stream_sheets.specs.Sheets.{split, one_more, empty_line, line_begins,
 use Rattle.stream_sheets.specs.Ends.{EndsAt}
 use Rattle.stream_sheets.specs.Keeping.{Kept}
 use Rattle.stream_sheets.proofs.Splits.{cut}
-use Rattle.stream.specs.Stream.{Said, Ready, Stands, Took, TookSome, Ended}
+use Rattle.stream.specs.Stream.{of_parts, Said, Ready, Stands, Took, TookSome, Ended}
 use Rattle.stream.proofs.Streams.{Silent, stands_kept, stands_ended, said_text}
 
 -- The answer to a sheet
@@ -165,3 +165,37 @@ module _ {k : Kiosk} (d : Ready k 1) where
         ∙ ap (λ (z : List ℕ). printed (answers empty ((split b).ended ++ (z ∷ [])))) (append-nil (split b).begun)
         ∙ ap (λ (z : List (List ℕ)). printed (answers empty ((split b).ended ++ z))) (sym q);
   }
+
+-- A kiosk of the same parts holds the same.
+
+abbrev pub parts : Kiosk → Kiosk
+parts k = of_parts k.store.now k.begun.now k.text.now k.place
+
+pub ready_parts : {k : Kiosk} {n : ℕ} → Ready k n → Ready (parts k) n
+ready_parts d = record { good = d.good; begun = d.begun; filled = d.filled; text = d.text }
+
+stands_parts : {w : List ℕ} {k : Kiosk} {b : List ℕ} → Stands w k b → Stands w (parts k) b
+stands_parts s = record { ledger = s.ledger; begun = s.begun; fresh = s.fresh; text = s.text }
+
+stands_whole : {w : List ℕ} {k : Kiosk} {b : List ℕ} → Stands w (parts k) b → Stands w k b
+stands_whole s = record { ledger = s.ledger; begun = s.begun; fresh = s.fresh; text = s.text }
+
+took_parts : {k k' : Kiosk} {x : List ℕ} → Took k x k' → Took (parts k) x (parts k')
+took_parts {k} {k'} m = record {
+  ready = ready_parts {k = k'} m.ready;
+  short = m.short;
+  stands = λ w b s. stands_parts (m.stands w b (stands_whole {k = k} s));
+}
+
+-- what was lent has now what the kiosk's fields had in the end
+pub took_lent : {k k' : Kiosk} {x b l' b' o' : List ℕ} → Took k x k' → k.begun.now ≡ b → l' ≡ k'.store.now
+    → b' ≡ k'.begun.now → o' ≡ k'.text.now
+    → Took (of_parts k.store.now b k.text.now k.place) x (of_parts l' b' o' k'.place)
+took_lent {k} {k'} {x} {b} {l'} {b'} {o'} m e f g h =
+    subst (λ (z : List ℕ). Took (of_parts k.store.now z k.text.now k.place) x (of_parts l' b' o' k'.place)) e
+    (subst (λ (z : List ℕ). Took (parts k) x (of_parts z b' o' k'.place)) (sym f)
+    (subst (λ (z : List ℕ). Took (parts k) x (of_parts k'.store.now z o' k'.place)) (sym g)
+    (subst (λ (z : List ℕ). Took (parts k) x (of_parts k'.store.now k'.begun.now z k'.place)) (sym h) (took_parts m))))
+
+pub ended_whole : {k : Kiosk} {o' : List ℕ} {r : ℕ} → Ended (parts k) o' r → Ended k o' r
+ended_whole m = record { text = m.text; whole = λ w b s. m.whole w b (stands_parts s) }

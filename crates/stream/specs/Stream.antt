@@ -1,12 +1,27 @@
 -- What the state between two pieces of a stream stands for: a till, the first bytes of the sheet that has begun, and
 -- the text that waits to be written.
-use Rattle.std.specs.Prelude.{◌≡◌, List, ◌++◌, ℕ, ◌+◌, ◌*◌, ◌≤◌, ◌<◌, length, take}
+use Rattle.std.specs.Prelude.{◌≡◌, List, [], ◌++◌, ℕ, ◌+◌, ◌*◌, ◌≤◌, ◌<◌, length, take}
+use Rattle.std.specs.Borrow.{MutBor}
 use Rattle.ledger.specs.Ledger.{empty}
 use Rattle.store.specs.Store.{ledger_of, Good}
 use Rattle.ledger.specs.Calls.{told, call, after, answers}
 use Rattle.stream.specs.declared.Kiosk.{Kiosk}
+use Rattle.stream.specs.declared.Place.{Place}
 use Rattle.stream_sheets.specs.Sheets.{most, split, sheets_of}
 use Rattle.stream_print.specs.Printed.{line, printed, longest, Room, Wrote}
+
+-- What is lent is still the very same, so that whoever lent it finds there what the kiosk's fields hold.
+abbrev pub SameLent : Kiosk → Kiosk → Type 0
+SameLent k k' =
+    (k'.store.ghost_name ≡ k.store.ghost_name) × (k'.rows.ghost_name ≡ k.rows.ghost_name)
+    × (k'.begun.ghost_name ≡ k.begun.ghost_name) × (k'.text.ghost_name ≡ k.text.ghost_name)
+
+-- a kiosk of a till, the bytes of a sheet, a text and a place: nothing said below speaks of where they lie, or of rows
+abbrev pub lying : List ℕ → MutBor (List ℕ)
+lying x = record { ref_ptr = (0, 0); ghost_name = 0; now = x }
+
+abbrev pub of_parts : List ℕ → List ℕ → List ℕ → Place → Kiosk
+of_parts l b o p = record { store = lying l; rows = lying []; begun = lying b; text = lying o; place = p }
 
 -- the sheet b answered, and its line put after the first `at` bytes of o
 pub record Said (l b o : List ℕ) (at : ℕ) (l' o' : List ℕ) (r : ℕ) : Type 0 where

@@ -5,7 +5,7 @@
 ghost use Rattle.std.specs.Prelude.{◌≡◌, ◌++◌, ◌<◌, ◌≤◌, length, take};
 ghost use Rattle.store.specs.Store.{Good};
 ghost use Rattle.stream_print.specs.Printed.{longest, Room};
-ghost use Rattle.stream.specs.Stream.{Said, Ready, Took, TookSome, Ended};
+ghost use Rattle.stream.specs.Stream.{SameLent, of_parts, Said, Ready, Took, TookSome, Ended};
 
 use step_rows::StepRows;
 use store::Store;
@@ -48,6 +48,7 @@ impl Kiosk<'_> {
         ensures said { Said self.old.store.now (take self.old.place.filled self.old.begun.now ++ bytes.now)
             self.old.text.now self.old.place.text self.new.store.now self.new.text.now result }
         ensures kept { length self.new.begun.now ≡ length self.old.begun.now }
+        ensures lent { SameLent self.old self.new }
     {
         let place = self.place;
         let none_held = place.filled == 0;
@@ -70,6 +71,7 @@ impl Kiosk<'_> {
         requires piece_nonzero { 0 < length piece.now }
         ensures took { TookSome self.old piece.now self.new result }
         ensures long { length self.new.text.now ≡ length self.old.text.now }
+        ensures lent { SameLent self.old self.new }
     {
         let place = self.place;
         match stream_sheets::sheet_end(piece, place.fresh) {
@@ -99,6 +101,7 @@ impl Kiosk<'_> {
         requires { Ready self.old (length piece.now) }
         ensures took { Took self.old piece.now self.new }
         ensures long { length self.new.text.now ≡ length self.old.text.now }
+        ensures lent { SameLent self.old self.new }
     {
         // no `for`: each turn takes as many bytes as its sheet has
         let mut rest = piece;
@@ -119,20 +122,58 @@ impl Kiosk<'_> {
     // The input has ended: bytes that no empty line has ended are one more sheet. How many bytes of text wait.
     pub fn finish(&mut self) -> usize
         requires { Ready self.old 1 }
-        ensures { Ended self.old self.new.text.now result }
+        ensures ended { Ended self.old self.new.text.now result }
+        ensures kept { self.new.begun.now ≡ self.old.begun.now }
+        ensures place { self.new.place ≡ self.old.place }
+        ensures long { length self.new.text.now ≡ length self.old.text.now }
+        ensures lent { SameLent self.old self.new }
     {
-        let place = self.place;
-        let filled = place.filled;
-        let ended = filled == 0;
-        if ended {
-            return place.text;
-        }
-        answer(
-            self.store,
-            self.rows,
-            &self.begun[..filled],
-            self.text,
-            place.text,
-        )
+        finish(self.store, self.rows, self.begun, self.text, self.place)
     }
+}
+
+// Takes a piece of the input, for one who keeps the place: what is lent then holds what a kiosk of it would.
+pub fn feed(
+    store: &mut Store,
+    rows: &mut StepRows,
+    begun: &mut [u8],
+    text: &mut [u8],
+    place: Place,
+    piece: &[u8],
+) -> Place
+    requires { Ready (of_parts store.old begun.old text.old place) (length piece.now) }
+    ensures { Took (of_parts store.old begun.old text.old place) piece.now
+        (of_parts store.new begun.new text.new result) }
+{
+    let Some(begun) = begun.as_mut_array() else {
+        return place;
+    };
+    let mut kiosk = Kiosk {
+        store,
+        rows,
+        begun,
+        text,
+        place,
+    };
+    kiosk.feed(piece);
+    kiosk.place
+}
+
+// The input has ended, for one who keeps the place, and the bytes of the sheet that has begun are only read.
+pub fn finish(
+    store: &mut Store,
+    rows: &mut StepRows,
+    begun: &[u8],
+    text: &mut [u8],
+    place: Place,
+) -> usize
+    requires { Ready (of_parts store.old begun.now text.old place) 1 }
+    ensures { Ended (of_parts store.old begun.now text.old place) text.new result }
+{
+    let filled = place.filled;
+    let ended = filled == 0;
+    if ended {
+        return place.text;
+    }
+    answer(store, rows, &begun[..filled], text, place.text)
 }

@@ -2,7 +2,7 @@
 // form (refusal 50).
 #![tactic(auto)]
 
-ghost use Rattle.std.specs.Prelude.{◌≡◌};
+ghost use Rattle.std.specs.Prelude.{◌≡◌, IfNone};
 ghost use Rattle.request.specs.Read.{formula_line};
 ghost use Rattle.snapshot.specs.Snapshot.{counts, title_line, credential_line};
 ghost use Rattle.read_fields.specs.Field.{read_of};
@@ -66,8 +66,8 @@ fn credential_rest(r: &mut Reader<'_>, serial: u32, kind: Kind) -> Option<Creden
     })
 }
 
-// `serial,kind,wording,from,to,first,last`: a credential (document 02: a coupon).
-pub fn credential_line(r: &mut Reader<'_>) -> Option<Credential>
+// `serial,kind,wording,from,to,first,last`. Where the line is broken, the reader may have moved.
+fn read_credential(r: &mut Reader<'_>) -> Option<Credential>
     ensures { read_of result r.new.rest.now ≡ read_line credential_line r.old.rest.now }
 {
     let serial = r.number(ranges::SERIAL_FIRST, ranges::SERIAL_LAST, b',')?;
@@ -78,6 +78,17 @@ pub fn credential_line(r: &mut Reader<'_>) -> Option<Credential>
         return credential_rest(r, serial, Kind::Unrestricted);
     }
     None
+}
+
+// A credential's line (document 02: a coupon's).
+pub fn credential_line(r: &mut Reader<'_>) -> Option<Credential>
+    ensures read { read_of result r.new.rest.now ≡ read_line credential_line r.old.rest.now }
+    ensures kept { IfNone result (r.new.rest.now ≡ r.old.rest.now) }
+{
+    let mut at = *r;
+    let credential = read_credential(&mut at)?;
+    *r = at;
+    Some(credential)
 }
 
 // Passes over `count` formula lines.
@@ -123,13 +134,17 @@ fn past_credentials(r: &mut Reader<'_>, count: u32) -> Option<()>
 
 // What the first line says of a text that may have its form, of which the reader has all; none: 50.
 pub fn text_title(r: &mut Reader<'_>) -> Option<Title>
-    ensures { TitleIs r.old.rest.now r.new.rest.now result }
+    ensures read { TitleIs r.old.rest.now r.new.rest.now result }
+    ensures kept { IfNone result (r.new.rest.now ≡ r.old.rest.now) }
 {
     let too_long = LONGEST_TEXT < r.rest.len();
     if too_long {
         return None;
     }
-    read_title(r)
+    let mut at = *r;
+    let title = read_title(&mut at)?;
+    *r = at;
+    Some(title)
 }
 
 // 50: the text has not its form: what its first line announces, serials rising, and nothing after it; and a first line

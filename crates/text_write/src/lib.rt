@@ -34,10 +34,14 @@ enum Shape {
 fn digits_length(n: u32) -> usize
     ensures { Measured (digits n) 10 result }
 {
-    match n.checked_ilog10() {
-        Some(power) => power as usize + 1,
-        None => 1,
+    // most numbers of a text have one digit or two
+    if n < 10 {
+        return 1;
     }
+    if n < 100 {
+        return 2;
+    }
+    n.ilog10() as usize + 1
 }
 
 // The two digits of a number below 100.

@@ -3,11 +3,11 @@
 // written, and arguments, get a line on standard error.
 #![tactic(auto)]
 
-ghost use Rattle.std.specs.Prelude.{length};
+ghost use Rattle.std.specs.Prelude.{◌≡◌, length};
 ghost use Rattle.request.specs.Range.{max_bytes};
 ghost use Rattle.ledger.specs.Ledger.{empty};
 ghost use Rattle.store.specs.Store.{StandsFor};
-ghost use Rattle.stream.specs.Stream.{Ready};
+ghost use Rattle.stream.specs.Stream.{SameLent, Ready};
 ghost use Rattle.tillrun.specs.Program.{Opened, Turned, Played};
 ghost use Rattle.tillrun.specs.Complaints.{Said, Warned, Complained};
 
@@ -40,7 +40,10 @@ fn opened<'a>(
     text: &'a mut [u8; TEXT],
 ) -> Kiosk<'a>
     requires { StandsFor store.old empty }
-    ensures { Opened result max_bytes }
+    ensures opened { Opened result max_bytes }
+    ensures lent { (result.store.ghost_name ≡ store.entry.ghost_name)
+        × (result.rows.ghost_name ≡ rows.entry.ghost_name)
+        × (result.begun.ghost_name ≡ begun.entry.ghost_name) }
 {
     Kiosk {
         store,
@@ -58,7 +61,8 @@ fn opened<'a>(
 // Reads once, answers what came and writes the answers.
 fn next_piece(streams: Streams, kiosk: &mut Kiosk, piece: &mut [u8], run: Run) -> Run
     requires { Ready kiosk.old (length piece.old) }
-    ensures { Turned kiosk.old run kiosk.new piece.new result }
+    ensures turned { Turned kiosk.old run kiosk.new piece.new result }
+    ensures lent { SameLent kiosk.old kiosk.new }
 {
     let input = stream_console::receive(streams, run.input, piece);
     let n = stream_console::got(input);

@@ -12,44 +12,45 @@ returns-in_default c = called_long c.requires (by_verdict (c.tested-short.ensure
 pub returns-in_default-read : goal.returns-in_default-read
 returns-in_default-read c =
     called_broken c.requires (ltb-false _ _ (by_verdict (c.tested-short.ensures 1) c.in-Passed.is))
-    (no_request c.in_default-read.ensures)
+    (no_request c.in_default-read.ensures.read)
 
 pub word-requires : goal.word-requires
 word-requires c = (
   c.requires,
-  word_canonical (line_as c.args.sheet.now c.read_first-read.new.r.rest.now c.in-Some.ensures c.in-Word.is),
+  word_canonical (line_as c.args.sheet.now c.read_first-read.new.r.rest.now c.in-Some.ensures.read c.in-Word.is),
 )
 
 pub book-requires : goal.book-requires
 book-requires c = record {
   good = c.requires;
-  range = (line_as c.args.sheet.now c.read_first-read.new.r.rest.now c.in-Some.ensures c.in-Book.is).range;
+  range = (line_as c.args.sheet.now c.read_first-read.new.r.rest.now c.in-Some.ensures.read c.in-Book.is).range;
 }
 
 pub returns-in-Book : goal.returns-in-Book
 returns-in-Book c =
     c.book.ensures c.args.sheet.now record {
       short = ltb-false _ _ (by_verdict (c.tested-short.ensures 1) c.in-Passed.is);
-      reads = (line_as c.args.sheet.now c.read_first-read.new.r.rest.now c.in-Some.ensures c.in-Book.is).reads;
+      reads = (line_as c.args.sheet.now c.read_first-read.new.r.rest.now c.in-Some.ensures.read c.in-Book.is).reads;
     }
 
 pub returns-in-Word : goal.returns-in-Word
 returns-in-Word c =
     called_read (ltb-false _ _ (by_verdict (c.tested-short.ensures 1) c.in-Passed.is))
-    (word_reads (line_as c.args.sheet.now c.read_first-read.new.r.rest.now c.in-Some.ensures c.in-Word.is))
+    (word_reads (line_as c.args.sheet.now c.read_first-read.new.r.rest.now c.in-Some.ensures.read c.in-Word.is))
     c.word.ensures
 
 pub returns-in-Issue : goal.returns-in-Issue
 returns-in-Issue c =
     called_read (ltb-false _ _ (by_verdict (c.tested-short.ensures 1) c.in-Passed.is))
-    (line_as c.args.sheet.now c.read_first-read.new.r.rest.now c.in-Some.ensures c.in-Issue.is) c.issue.ensures
+    (line_as c.args.sheet.now c.read_first-read.new.r.rest.now c.in-Some.ensures.read c.in-Issue.is) c.issue.ensures
 
 pub returns-in-Withdraw : goal.returns-in-Withdraw
 returns-in-Withdraw c =
     called_read (ltb-false _ _ (by_verdict (c.tested-short.ensures 1) c.in-Passed.is))
-    (line_as c.args.sheet.now c.read_first-read.new.r.rest.now c.in-Some.ensures c.in-Withdraw.is) c.withdraw.ensures
+    (line_as c.args.sheet.now c.read_first-read.new.r.rest.now c.in-Some.ensures.read c.in-Withdraw.is)
+    c.withdraw.ensures
 
 pub returns-in-Tally : goal.returns-in-Tally
 returns-in-Tally c =
     called_read (ltb-false _ _ (by_verdict (c.tested-short.ensures 1) c.in-Passed.is))
-    (line_as c.args.sheet.now c.read_first-read.new.r.rest.now c.in-Some.ensures c.in-Tally.is) c.tally.ensures
+    (line_as c.args.sheet.now c.read_first-read.new.r.rest.now c.in-Some.ensures.read c.in-Tally.is) c.tally.ensures

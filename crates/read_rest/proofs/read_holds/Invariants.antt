@@ -8,4 +8,4 @@ use Rattle.read_rest.proofs.read_holds.Given as goal
 abbrev pub invariant-loop-serial : goal.invariant-loop-serial
 invariant-loop-serial l =
     read_lines l.count hold_line l.fn.r.rest.now
-    ≡ prefixed (take l.serial-index l.serial-items) (read_lines (l.count - l.serial-index) hold_line l.r.rest.now)
+    ≡ prefixed (take l.serial-index l.serial-items) (read_lines (l.count - l.serial-index) hold_line l.at.rest.now)

@@ -1,6 +1,5 @@
 -- `unlink` meets its contract.
-use Rattle.std.proofs.Common.{refl, sym, ap, ◌∙◌, arith}
-use Rattle.store_cells.specs.Layout.{link_at}
+use Rattle.std.proofs.Common.{refl, sym, ◌∙◌, arith}
 use Rattle.store_credentials.proofs.Gather.{unlink_next, unlink_pass, unlink_done}
 use Rattle.store_credentials.proofs.unlink.Goals as goal
 use Rattle.store_credentials.proofs.unlink.Goals.{then-has_chain, else-has_chain}
@@ -26,11 +25,10 @@ pub loop-n-preserved : goal.loop-n-preserved
 loop-n-preserved c =
     elim c.if-has_chain.branch [
       | then-has_chain w ↦
-          rw (w.store-is, w.put_link.ensures, c.formula_link-chain.ensures)
-          (unlink_next _ _ _ c.loop-n.invariant (omega (arith, c.requires.lines, c.read-n-end.ensures)))
+          rw (w.store-is, w.put_link.ensures)
+          (unlink_next _ _ _ _ c.loop-n.invariant (omega (arith, c.requires.lines, c.read-n-end.ensures)) (omega arith))
       | else-has_chain w ↦ rw w.store-is
-          (unlink_pass _ _ _ c.loop-n.invariant
-          (sym (ap (link_at _) c.formula_link-chain.ensures) ∙ sym c.link-has_chain.ensures ∙ w.if-has_chain.false))
+          (unlink_pass _ _ _ _ c.loop-n.invariant (sym c.link-has_chain.ensures ∙ w.if-has_chain.false) (omega arith))
     ]
 
 pub returns : goal.returns

@@ -19,17 +19,17 @@ loop-init c = holders_start _ _
 
 pub returns-in_default : goal.returns-in_default
 returns-in_default c =
-    sym (c.loop.invariant ∙ holders_broken _ _ _ (omega arith) (row_none _ (sym c.in_default.ensures)))
+    sym (c.loop.invariant ∙ holders_broken _ _ _ (omega arith) (row_none _ (sym c.in_default.ensures.read)))
 
 pub returns-then-found : goal.returns-then-found
 returns-then-found c =
-    let r = row_line _ (sym c.in-Some.ensures) in
+    let r = row_line _ (sym c.in-Some.ensures.read) in
     sym (c.loop.invariant
     ∙ holders_here _ _ _ (omega arith) r.is (told r c.holder_letter-found.ensures ∙ c.if-found.true))
 
 pub loop-preserved : goal.loop-preserved
 loop-preserved c =
-    let r = row_line _ (sym c.in-Some.ensures) in
+    let r = row_line _ (sym c.in-Some.ensures.read) in
     c.loop.invariant
     ∙ holders_turn _ _ _ (omega arith) r.is (told r c.holder_letter-found.ensures ∙ c.if-found.false)
 

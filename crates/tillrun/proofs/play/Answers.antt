@@ -8,11 +8,11 @@ pub loop-kiosk-init : goal.loop-kiosk-init
 loop-kiosk-init c = (going_start (omega arith) c.requires c.reading.ensures c.writing.ensures, search rules)
 
 pub loop-kiosk-preserved : goal.loop-kiosk-preserved
-loop-kiosk-preserved c = (going_on c.loop-kiosk.invariant.0 c.next_piece-run.ensures, search rules)
+loop-kiosk-preserved c = (going_on c.loop-kiosk.invariant.0 c.next_piece-run.ensures.turned, search rules)
 
 pub loop-kiosk-smaller : goal.loop-kiosk-smaller
 loop-kiosk-smaller c =
-    fewer c.loop-kiosk-test.ensures.1.1 (ap (λ (i : Input). i.reads) c.next_piece-run.ensures.received.note)
+    fewer c.loop-kiosk-test.ensures.1.1 (ap (λ (i : Input). i.reads) c.next_piece-run.ensures.turned.received.note)
 
 pub finish-end-requires : goal.finish-end-requires
 finish-end-requires c =
@@ -24,5 +24,5 @@ returns-then-failed c = played_cut c.loop-kiosk.invariant.0 c.loop-kiosk-test.en
 
 pub returns : goal.returns
 returns c =
-    played_whole c.loop-kiosk.invariant.0 c.loop-kiosk-test.ensures (search rules) c.finish-end.ensures
+    played_whole c.loop-kiosk.invariant.0 c.loop-kiosk-test.ensures (search rules) c.finish-end.ensures.ended
     c.send.ensures.sent

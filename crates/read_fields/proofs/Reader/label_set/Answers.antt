@@ -5,8 +5,8 @@ use Rattle.read_fields.proofs.LabelSets.{labels_short, set_start, hex_no, hex_on
 use Rattle.read_fields.proofs.LabelSets.{hex_smaller, hex_room}
 use Rattle.read_fields.proofs.Reader.label_set.Goals as goal
 
-pub returns-then-s-lt17 : goal.returns-then-s-lt17
-returns-then-s-lt17 c = sym (labels_short _ _ c.if-s-lt17.true)
+pub returns-then-s-lt17-clause-read : goal.returns-then-s-lt17-clause-read
+returns-then-s-lt17-clause-read c = sym (labels_short _ _ c.if-s-lt17.true)
 
 pub loop-k-init : goal.loop-k-init
 loop-k-init c = (omega arith, set_start _ _)
@@ -14,8 +14,8 @@ loop-k-init c = (omega arith, set_start _ _)
 pub with_digit-requires : goal.with_digit-requires
 with_digit-requires c = hex_room _ _ c.loop-k-test.true c.loop-k.invariant.0
 
-pub returns-in_err-v : goal.returns-in_err-v
-returns-in_err-v c =
+pub returns-in_err-v-clause-read : goal.returns-in_err-v-clause-read
+returns-in_err-v-clause-read c =
     rw c.from_residual.ensures
     (sym (c.loop-k.invariant.1 ∙ rw (here c.args.self.now.rest.now c.loop-k.k (omega arith))
     (hex_no _ c.requires _ _ c.loop-k-test.true _ _ c.in_err-v.ensures)))
@@ -28,14 +28,14 @@ loop-k-preserved c =
           (hex_on _ _ _ _ _ _ d.is),
     )
 
-pub returns-then-s-stop : goal.returns-then-s-stop
-returns-then-s-stop c =
+pub returns-then-s-stop-clause-read : goal.returns-then-s-stop-clause-read
+returns-then-s-stop-clause-read c =
     let q : c.loop-k.k ≡ 16 = omega arith in
     sym (rw q at c.loop-k.invariant.1 ∙ rw (here c.args.self.now.rest.now 16 (omega arith))
     (set_other _ _ _ _ c.if-s-stop.true))
 
-pub returns : goal.returns
-returns c =
+pub returns-clause-read : goal.returns-clause-read
+returns-clause-read c =
     let q : c.loop-k.k ≡ 16 = omega arith in
     rw (take_rest c.args.self.now.rest.now 17)
     (sym (rw q at c.loop-k.invariant.1 ∙ rw (here c.args.self.now.rest.now 16 (omega arith))

@@ -8,3 +8,4 @@ invariant-loop-i l =
     (1 ≤ l.v) × (l.v ≤ l.last)
     × (field_to l.stop (more_in (l.first ‥ l.last) l.start) (drop 1 l.s)
     ≡ field_to l.stop (more_in (l.first ‥ l.last) l.v) (drop l.i l.s))
+    × (l.self.rest.now ≡ l.fn.self.rest.now)

@@ -1,9 +1,9 @@
--- Where nothing is held, nothing more is answered.
-use Rattle.stream.proofs.Pieces.{ended_none, ended_one}
+-- What is asked and said of the parts is asked and said of the kiosk.
+use Rattle.stream.proofs.Pieces.{ready_parts, ended_whole}
 use Rattle.stream.proofs.Kiosk.finish.Goals as goal
 
-pub returns-then-ended : goal.returns-then-ended
-returns-then-ended c = ended_none c.requires c.if-ended.true
+pub finish-requires : goal.finish-requires
+finish-requires c = ready_parts c.requires
 
-pub returns : goal.returns
-returns c = ended_one c.requires c.if-ended.false c.answer.ensures
+pub returns-clause-ended : goal.returns-clause-ended
+returns-clause-ended c = ended_whole c.finish.ensures

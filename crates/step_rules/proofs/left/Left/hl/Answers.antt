@@ -1,0 +1,9 @@
+-- `hl` meets its contract: at a row of its letter, by what it calls.
+use mathlib.Core.Path.{◌∙◌}
+use borrow.Author.Tests.{eq-eqb}
+use Rattle.steps.specs.Plans.{when}
+use Rattle.step_rules.proofs.left.Left.hl.Goals as goal
+
+pub returns : goal.returns
+unfolding when
+returns c = rw (eq-eqb _ _ c.if-x-ne-AT.false) (c.linear.ensures ∙ simp c.part_at-a.ensures)

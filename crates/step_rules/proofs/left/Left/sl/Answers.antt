@@ -1,0 +1,9 @@
+-- `sl` meets its contract: at a row of its letter, by what it calls.
+use mathlib.Core.Path.{◌∙◌}
+use borrow.Author.Tests.{eq-eqb}
+use Rattle.steps.specs.Plans.{when}
+use Rattle.step_rules.proofs.left.Left.sl.Goals as goal
+
+pub returns : goal.returns
+unfolding when
+returns c = rw (eq-eqb _ _ c.if-x-ne-SAYS.false) (c.linear.ensures ∙ simp (c.contains.ensures, c.part-b.ensures))
